@@ -142,6 +142,35 @@ TIMES = [
 ]
 
 
+# What a.org and b.org are, lines with clock commands between others, which change where clocks are looked for, and
+# what is answered.
+SESSIONS = [
+    ("* A\n** A1\nbody\n* B\n:LOGBOOK:\nCLOCK: [2026-06-30 Tue 08:00]--[2026-06-30 Tue 09:00] =>  1:00\n:END:\n* C\n",
+     "* Z\n",
+     "clock-in\ta.org\tA/A1\t2026-07-01 10:00\ncapture\ta.org\ttop\tfirst\t2026-07-01 10:05\t* N\t\n"
+     "clock-in\ta.org\tB\t2026-07-01 10:10\nclock-out\t2026-07-01 10:00\n"
+     "refile\ta.org\tB\ta.org\tC\tfirst\ntodo\ta.org\tC/B\tTODO\t2026-07-01 10:20\n"
+     "clock-out\t2026-07-01 10:30\nclock-out\t2026-07-01 10:30\nclock-in\tb.org\tZ\t2026-07-01 10:40\n"
+     "todo\ta.org\tC/B\tNONE\t2026-07-01 10:45\nclock-in\ta.org\tA/A1\t2026-07-01 10:50\nshow\ta.org\nshow\tb.org\n",
+     "ok 1\nsafe 1\nok 2\nsafe 2\nok 3\nsafe 3\nrefused 13 ClockBackwards\nok 4\nsafe 4\nok 5\nsafe 5\nok 6\nsafe 6\n"
+     "refused 12 NoClock\nok 7\nsafe 7\nrefused 8 UnknownState\nok 8\nsafe 8\n"
+     "text 284\n* N\n* A\n** A1\n:LOGBOOK:\nCLOCK: [2026-07-01 Wed 10:50]\n"
+     "CLOCK: [2026-07-01 Wed 10:00]--[2026-07-01 Wed 10:10] =>  0:10\n:END:\nbody\n* C\n** TODO B\n:LOGBOOK:\n"
+     "CLOCK: [2026-07-01 Wed 10:10]--[2026-07-01 Wed 10:30] =>  0:20\n"
+     "CLOCK: [2026-06-30 Tue 08:00]--[2026-06-30 Tue 09:00] =>  1:00\n:END:\n\n"
+     "text 83\n* Z\n:LOGBOOK:\nCLOCK: [2026-07-01 Wed 10:40]--[2026-07-01 Wed 10:50] =>  0:10\n:END:\n\n"),
+    # Two clocks that were opened by hand: the second runs once the first is closed.
+    ("* A\nCLOCK: [2026-07-01 Wed 08:00]\n* B\nCLOCK: [2026-07-01 Wed 09:00]\n* C", "",
+     "clock-out\t2026-07-01 10:00\ncapture\ta.org\ttop\tfirst\t2026-07-01 10:05\t* N\t\n"
+     "clock-in\ta.org\tC\t2026-07-01 08:30\nclock-in\ta.org\tC\t2026-07-01 10:10\n"
+     "refile\ta.org\tC\ta.org\tA\tfirst\nclock-out\t2026-07-01 10:30\nclock-out\t2026-07-01 10:30\nshow\ta.org\n",
+     "ok 1\nsafe 1\nok 2\nsafe 2\nrefused 13 ClockBackwards\nok 3\nsafe 3\nok 4\nsafe 4\nok 5\nsafe 5\n"
+     "refused 12 NoClock\ntext 222\n* N\n* A\nCLOCK: [2026-07-01 Wed 08:00]--[2026-07-01 Wed 10:00] =>  2:00\n"
+     "** C\n:LOGBOOK:\nCLOCK: [2026-07-01 Wed 10:10]--[2026-07-01 Wed 10:30] =>  0:20\n:END:\n"
+     "* B\nCLOCK: [2026-07-01 Wed 09:00]--[2026-07-01 Wed 10:10] =>  1:10\n\n"),
+]
+
+
 def clocks(room):
     for text, moment, after in CLOCKED_OUT:
         goes(room, "clock-out\t%s\n" % moment, {"a.org": text}, alone(after))
@@ -158,4 +187,10 @@ def times(room):
         room.judge("the time of " + text, run(folder, "time\ta.org\tA\n"), reply)
 
 
-PARTS = (clocks, times)
+def between_others(room):
+    for first, second, lines, wanted in SESSIONS:
+        folder = room.folder({"a.org": first, "b.org": second})
+        room.judge("clocks between others, from " + first, run(folder, lines), wanted)
+
+
+PARTS = (clocks, times, between_others)

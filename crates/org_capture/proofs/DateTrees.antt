@@ -69,12 +69,18 @@ found_passes p (y ∷ ys) x is =
       | inr e ↦ found_passes p ys x (rw e at is)
     ]
 
+pub dated_level : (states : Keywords) (d : Document) (level : ℕ) (kind : DateKind) (key : List ℕ) (wanted : Ordering) (i : ℕ) → is_dated states level kind key wanted (node_at d i).node ≡ true
+    → (node_at d i).node.level ≡ level
+dated_level states d level kind key wanted i passes =
+    let node : Node = (node_at d i).node in
+    eqb-true node.level level (both (eqb node.level level) _ passes).0
+
 -- a heading that was found has the level of what goes below the parent
 pub found_level : (states : Keywords) (d : Document) (up : Option ℕ) (kind : DateKind) (key : List ℕ) (wanted : Ordering) (i : ℕ) → first_dated states d up kind key wanted ≡ Some i
     → (node_at d i).node.level ≡ level_below up d
 found_level states d up kind key wanted i is =
     let passes = found_passes (λ i. is_dated states (level_below up d) kind key wanted (node_at d i).node) (children_of d up) i is in
-    eqb-true (node_at d i).node.level (level_below up d) (both (eqb (node_at d i).node.level (level_below up d)) _ passes).0
+    dated_level states d (level_below up d) kind key wanted i passes
 
 pub dated_before : (states : Keywords) (text : List ℕ) (up : Option ℕ) (kind : DateKind) (key : List ℕ) (i k : ℕ) (node : Node) → terminated text ≡ text → i < node_count (tree text)
     → first_dated states (tree text) up kind key Greater ≡ Some i → k ≡ (node_at (tree text) i).at

@@ -3,7 +3,7 @@ use Rattle.std.proofs.Common.{◌≡◌, ℕ, ◌+◌, ◌<◌, true, false, Lis
 use Rattle.std.specs.List.{list_any}
 use Rattle.std.proofs.lemmas.Bool.{cases_Bool}
 use Rattle.std.proofs.lemmas.List.{append-nil, take_more}
-use Rattle.org_stamp.specs.Calendar.{CivilMinute}
+use Rattle.org_stamp.specs.Calendar.{Moment}
 use Rattle.org_capture.specs.declared.piece.Piece.{Piece}
 use Rattle.org_capture.specs.declared.fault.CaptureFault.TheVariants.{BadTemplate}
 use Rattle.org_capture.specs.Template.{last_line, with_prefix, text_of, filled}
@@ -37,11 +37,11 @@ pushed_newline start prefix bytes old new i b lt is e was put =
 
 -- ---- a piece more
 
-pub fills : (m : CivilMinute) (initial old more new : List ℕ) (pieces rest : List Piece) (piece : Piece) → pieces ≡ piece ∷ rest → text_of m initial (last_line old) piece ≡ Some more → new ≡ old ++ more
+pub fills : (m : Moment) (initial old more new : List ℕ) (pieces rest : List Piece) (piece : Piece) → pieces ≡ piece ∷ rest → text_of m initial (last_line old) piece ≡ Some more → new ≡ old ++ more
     → filled m initial old pieces ≡ filled m initial new rest
 fills m initial old more new pieces rest piece is said put = rw (is, said) (ap (λ t. filled m initial t rest) (sym put))
 
-pub fills_badly : (m : CivilMinute) (initial old : List ℕ) (pieces rest : List Piece) (piece : Piece) → pieces ≡ piece ∷ rest → text_of m initial (last_line old) piece ≡ None → filled m initial old pieces ≡ Err BadTemplate
+pub fills_badly : (m : Moment) (initial old : List ℕ) (pieces rest : List Piece) (piece : Piece) → pieces ≡ piece ∷ rest → text_of m initial (last_line old) piece ≡ None → filled m initial old pieces ≡ Err BadTemplate
 fills_badly m initial old pieces rest piece is said = rw (is, said) refl
 
 -- bytes without a newline have no place for a prefix

@@ -7,7 +7,7 @@ use Rattle.org_outline.proofs.HeadsFrom.{first_found, none_found}
 use Rattle.std.proofs.lemmas.Bool.{cases_Bool, eqb-true}
 use Rattle.std.proofs.lemmas.List.{append-nil, take-append-drop, take_all}
 use Rattle.org_splice.proofs.Ends.{both}
-use Rattle.org_stamp.specs.Calendar.{CivilMinute}
+use Rattle.org_stamp.specs.Calendar.{Moment}
 use Rattle.org_capture.specs.declared.piece.Piece.{Piece}
 use Rattle.org_capture.specs.declared.piece.Piece.TheVariants.{Byte}
 use Rattle.org_capture.specs.Template.{escape_at, pieces_of, last_line, with_prefix, text_of, with_text, filled, expanded}
@@ -20,7 +20,7 @@ with_prefix-empty (b ∷ bytes) =
       | inr e ↦ rw e (ap (λ (l : List ℕ). b ∷ l) (with_prefix-empty bytes))
     ]
 
-pub alone : (moment : CivilMinute) (initial : List ℕ) → expanded (37 ∷ 105 ∷ []) moment initial ≡ Ok initial
+pub alone : (moment : Moment) (initial : List ℕ) → expanded (37 ∷ 105 ∷ []) moment initial ≡ Ok initial
 alone moment initial = ap Ok (with_prefix-empty initial)
 
 -- a byte that is no percent sign is a piece
@@ -35,7 +35,7 @@ is_other : (b : Bool) → not b ≡ true → b ≡ false
 is_other true e = absurd cc
 is_other false e = refl
 
-filled_plain : (moment : CivilMinute) (initial text plain template : List ℕ) → list_all (λ b. not (eqb b 37)) plain ≡ true
+filled_plain : (moment : Moment) (initial text plain template : List ℕ) → list_all (λ b. not (eqb b 37)) plain ≡ true
     → filled moment initial text (pieces_of (plain ++ template)) ≡ filled moment initial (text ++ plain) (pieces_of template)
 filled_plain moment initial text [] template all = ap (λ t. filled moment initial t (pieces_of template)) (sym (append-nil text))
 filled_plain moment initial text (x ∷ plain) template all =
@@ -59,18 +59,18 @@ up_to_sign template None first = rw (take_all (length template) template (omega 
 up_to_sign template (Some end) first = no_sign (take end template) (first_found 37 template end first)
 
 pub split_there : (template front back : List ℕ) (found : Option ℕ) (end : ℕ) → IsFirstByte (is_byte 37) template found → end ≡ unwrap_or found (length template)
-    → front ≡ take end template → back ≡ drop end template → (moment : CivilMinute) (initial text : List ℕ)
+    → front ≡ take end template → back ≡ drop end template → (moment : Moment) (initial text : List ℕ)
     → filled moment initial text (pieces_of template) ≡ filled moment initial (text ++ front) (pieces_of back)
 split_there template front back found end first ends is_front is_back moment initial text =
     let none : list_all (λ b. not (eqb b 37)) front ≡ true = ap (list_all (λ b. not (eqb b 37))) (is_front ∙ ap (λ n. take n template) ends) ∙ up_to_sign template found first in
     let whole : template ≡ front ++ back = sym (take-append-drop end template) ∙ ap (λ l. l ++ drop end template) (sym is_front) ∙ ap (λ l. front ++ l) (sym is_back) in
     ap (λ l. filled moment initial text (pieces_of l)) whole ∙ filled_plain moment initial text front back none
 
-pub behind : (plain template : List ℕ) (moment : CivilMinute) (initial : List ℕ) → list_all (λ b. not (eqb b 37)) plain ≡ true
+pub behind : (plain template : List ℕ) (moment : Moment) (initial : List ℕ) → list_all (λ b. not (eqb b 37)) plain ≡ true
     → expanded (plain ++ template) moment initial ≡ filled moment initial plain (pieces_of template)
 behind plain template moment initial all = filled_plain moment initial [] plain template all
 
-pub plain_stays : (template : List ℕ) (moment : CivilMinute) (initial : List ℕ) → list_all (λ b. not (eqb b 37)) template ≡ true → expanded template moment initial ≡ Ok template
+pub plain_stays : (template : List ℕ) (moment : Moment) (initial : List ℕ) → list_all (λ b. not (eqb b 37)) template ≡ true → expanded template moment initial ≡ Ok template
 plain_stays template moment initial all = ap (λ t. expanded t moment initial) (sym (append-nil template)) ∙ behind template [] moment initial all
 
 -- a template without a percent sign stands for itself
@@ -82,10 +82,10 @@ no_sign_all (b ∷ template) none =
       | inr e ↦ rw e (no_sign_all template (rw e at none))
     ]
 
-pub no_sign_stays : (template : List ℕ) (moment : CivilMinute) (initial : List ℕ) → list_any (λ b. eqb b 37) template ≡ false → expanded template moment initial ≡ Ok template
+pub no_sign_stays : (template : List ℕ) (moment : Moment) (initial : List ℕ) → list_any (λ b. eqb b 37) template ≡ false → expanded template moment initial ≡ Ok template
 no_sign_stays template moment initial none = plain_stays template moment initial (no_sign_all template none)
 
-pub kept : (moment : CivilMinute) (initial text whole : List ℕ) (pieces : List Piece) → filled moment initial text pieces ≡ Ok whole → (more : List ℕ) × (whole ≡ text ++ more)
+pub kept : (moment : Moment) (initial text whole : List ℕ) (pieces : List Piece) → filled moment initial text pieces ≡ Ok whole → (more : List ℕ) × (whole ≡ text ++ more)
 kept moment initial text whole [] is =
     let same : text ≡ whole = cc in
     ([], sym same ∙ sym (append-nil text))

@@ -25,7 +25,7 @@ use Rattle.org_outline.proofs.Found.{found_in, some_holds}
 use Rattle.org_outline.proofs.Trees.{tree-is}
 use Rattle.org_outline.proofs.Valid.{IsNode-shift_node, IsValid-insert, tree-print}
 use Rattle.org_outline.proofs.Weights.{Weight, weigh-shift, insert-weight, beside-weight, made-weight, one_each}
-use Rattle.org_stamp.specs.Calendar.{CivilDay, CivilMinute, weekday_of}
+use Rattle.org_stamp.specs.Calendar.{CivilDay, Moment, weekday_of}
 use Rattle.org_stamp.specs.Stamp.{date_text}
 use Rattle.org_capture.specs.declared.dates.DateKind.{DateKind}
 use Rattle.org_capture.specs.declared.dates.DateKind.TheVariants.{Year, Month, Day}
@@ -81,14 +81,14 @@ path_way states place day entry d new P ways (Ok i) in_d is =
     ok_holds (P []) (insert (Some i) place entry d) new is (ways.put_in (Some i) (some_holds (λ i. i < node_count d) i (in_d i refl)))
 path_way states place day entry d new P ways (Err fault) in_d is = absurd cc
 
-day_way : (states : Keywords) (place : Place) (moment : CivilMinute) (entry : Node) (d new : Document) (P : List (List ℕ) → Document → Type 0) → Ways states place moment.day entry d P
+day_way : (states : Keywords) (place : Place) (moment : Moment) (entry : Node) (d new : Document) (P : List (List ℕ) → Document → Type 0) → Ways states place moment.day entry d P
     → (r : Result (Option ℕ) PathFault) → ((base : Option ℕ) → r ≡ Ok base → ForSome base (λ i. i < node_count d)) → below_day states place moment entry d r ≡ Ok new → P (missing_below states moment.day d r) new
 day_way states place moment entry d new P ways (Ok base) in_d is =
     ok_holds (P (missing_dates states moment.day d (Year ∷ Month ∷ Day ∷ []) base)) (dated states place moment.day entry d (Year ∷ Month ∷ Day ∷ []) base) new is
     (dated_way states place moment.day entry d P ways (Year ∷ Month ∷ Day ∷ []) base (in_d base refl))
 day_way states place moment entry d new P ways (Err fault) in_d is = absurd cc
 
-way : (states : Keywords) (target : Target) (place : Place) (moment : CivilMinute) (entry : Node) (d new : Document) (P : List (List ℕ) → Document → Type 0)
+way : (states : Keywords) (target : Target) (place : Place) (moment : Moment) (entry : Node) (d new : Document) (P : List (List ℕ) → Document → Type 0)
     → Ways states place moment.day entry d P → captured states target place moment entry d ≡ Ok new → P (missing states target moment d) new
 way states Top place moment entry d new P ways is = ok_holds (P []) (insert None place entry d) new is (ways.put_in None (λ i none. absurd cc))
 way states (Head title) place moment entry d new P ways is =
@@ -193,7 +193,7 @@ put_valid : (later up : Option ℕ) (node : Node) (d : Document) → IsNode node
 put_valid (Some i) up node d good valid = insert_before_valid i node d good valid
 put_valid None up node d good valid = IsValid-insert up Last node d good valid
 
-pub captured_valid : (states : Keywords) (target : Target) (place : Place) (moment : CivilMinute) (entry : Node) (d new : Document)
+pub captured_valid : (states : Keywords) (target : Target) (place : Place) (moment : Moment) (entry : Node) (d new : Document)
     → captured states target place moment entry d ≡ Ok new → IsNode entry → IsValid d → IsValid new
 captured_valid states target place moment entry d new is good valid =
     way states target place moment entry d new (λ rests new. IsValid new)
@@ -216,7 +216,7 @@ root_node (l ∷ ls) f node is valid = absurd cc
 pub entry_node : (text : List ℕ) (node : Node) → entry_in text ≡ Some node → IsNode node
 entry_node text node is = root_node (tree text).preamble (tree text).forest node is (tree-is text).valid.forest
 
-pub captured_text : (states : Keywords) (target : Target) (place : Place) (moment : CivilMinute) (entry : Node) (text bytes : List ℕ) (new : Document)
+pub captured_text : (states : Keywords) (target : Target) (place : Place) (moment : Moment) (entry : Node) (text bytes : List ℕ) (new : Document)
     → entry_in bytes ≡ Some entry → captured states target place moment entry (tree text) ≡ Ok new → tree (print new) ≡ new
 captured_text states target place moment entry text bytes new one is =
     tree-print new (captured_valid states target place moment entry (tree text) new is (entry_node bytes entry one) (tree-is text).valid)
@@ -245,7 +245,7 @@ title_weight w place entry title d =
       sum_by-cons (λ rest. w rest []) (rest_of title) [],
     )
 
-pub captured_weight : (states : Keywords) (target : Target) (place : Place) (moment : CivilMinute) (entry : Node) (d new : Document)
+pub captured_weight : (states : Keywords) (target : Target) (place : Place) (moment : Moment) (entry : Node) (d new : Document)
     → captured states target place moment entry d ≡ Ok new → (w : Weight) → weigh w new.forest ≡ weigh w d.forest + added w entry (missing states target moment d)
 captured_weight states target place moment entry d new is w =
     way states target place moment entry d new (λ rests new. weigh w new.forest ≡ weigh w d.forest + added w entry rests)
@@ -262,7 +262,7 @@ index_of [] i x is = absurd cc
 index_of (y ∷ ys) zero x is = (omega arith, cc)
 index_of (y ∷ ys) (suc i) x is = let more = index_of ys i x is in (omega (arith, more.0), more.1)
 
-pub captured_files : (states : Keywords) (target : Target) (place : Place) (moment : CivilMinute) (entry : Node) (texts : List (List ℕ)) (i : ℕ) (text bytes : List ℕ) (new : Document)
+pub captured_files : (states : Keywords) (target : Target) (place : Place) (moment : Moment) (entry : Node) (texts : List (List ℕ)) (i : ℕ) (text bytes : List ℕ) (new : Document)
     → slice_get texts i ≡ Some text → entry_in bytes ≡ Some entry → captured states target place moment entry (tree text) ≡ Ok new → (w : Weight)
     → sum_by (λ t. weigh w (tree t).forest) (slice_set texts i (print new)) ≡ sum_by (λ t. weigh w (tree t).forest) texts + added w entry (missing states target moment (tree text))
 captured_files states target place moment entry texts i text bytes new here one is w =

@@ -4,7 +4,7 @@ use Rattle.std.specs.Prelude.{Result, Ok, Err}
 use Rattle.org_outline.specs.declared.moves.Place.TheVariants.{Last}
 use Rattle.org_outline.specs.States.{Keywords}
 use Rattle.org_outline.specs.Tree.{Empty, Node, Document, tree, print}
-use Rattle.org_stamp.specs.Calendar.{CivilMinute, civil_day}
+use Rattle.org_stamp.specs.Calendar.{Moment, civil_day}
 use Rattle.org_capture.specs.declared.fault.CaptureFault.{CaptureFault}
 use Rattle.org_capture.specs.declared.fault.CaptureFault.TheVariants.{BadTemplate, BadEntry}
 use Rattle.org_capture.specs.declared.target.Target.{Target}
@@ -17,7 +17,7 @@ use Rattle.org_capture.specs.Capture.{captured}
 use Rattle.org_capture.specs.Made.{dated_one_by_one, missing, missing_dates}
 
 -- 2026-07-01 10:00
-abbrev now : CivilMinute
+abbrev now : Moment
 now = record { day = civil_day 2026 7 1; minute = 600 }
 
 -- a line of these characters

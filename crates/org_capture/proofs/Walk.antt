@@ -1,78 +1,181 @@
--- The children of a heading, one after the other.
-use Rattle.std.proofs.Common.{◌≡◌, ℕ, suc, ◌+◌, ◌-◌, ◌<◌, ◌≤◌, Bool, true, false, ltb, find, Option, Some, None, refl, sym, ap, ◌∙◌, subst, arith}
+-- The nodes below a heading, one after the other: those of the next level are its children.
+use Rattle.std.proofs.Common.{◌≡◌, ℕ, zero, suc, ◌+◌, ◌-◌, ◌<◌, ◌≤◌, Bool, true, false, cond, ltb, max, List, find, Option, Some, None, refl, sym, ap, ◌∙◌, subst, arith, inl, inr}
 use Rattle.std.specs.Option.{ForSome}
+use Rattle.std.proofs.lemmas.Bool.{cases_Bool}
 use Rattle.std.proofs.lemmas.Bool.Decides.{nat_tests}
-use Rattle.org_outline.specs.Tree.{Forest, Empty, Tree, Node, Document, total, node_at, node_count}
+use Rattle.org_outline.specs.Tree.{Forest, Empty, Tree, Node, Document, AllRoots, IsForest, IsValid, total, node_at, node_count}
+use Rattle.org_outline.specs.Moves.{IsNode, level_below}
 use Rattle.org_outline.specs.Numbers.{roots_from, children_of, size_of}
+use Rattle.org_outline.proofs.Trees.{AllRoots-mono}
+use Rattle.org_outline.proofs.Placing.{roots-positive}
+use Rattle.org_outline.proofs.Sections.{valid_node}
 use Rattle.org_outline.proofs.ByNumber.{nth, node-is, count-is}
 use Rattle.org_outline.proofs.Children.{StandsAt, nth-below}
 use Rattle.org_capture.specs.Dates.{span_below}
 
--- the children from `index` on are left, and the one that passes the test is among them, if there
--- is one
-pub record Walk (d : Document) (up : Option ℕ) (test : ℕ → Bool) (end index : ℕ) : Type 0 where
-  pub left : Forest
-  pub stands : StandsAt d index left
-  pub ends : index + total left ≡ end
-  pub rest : find test (roots_from index left) ≡ find test (children_of d up)
+-- the first of `count` numbers from k on that passes the test
+abbrev pub first_from : (ℕ → Bool) → ℕ → ℕ → Option ℕ
+first_from test zero k = None
+first_from test (suc count) k = cond (test k) (Some k) (first_from test count (suc k))
 
-begins : (d : Document) (up : Option ℕ) (test : ℕ → Bool) → ForSome up (λ i. i < node_count d) → Walk d up test (span_below d up).1 (span_below d up).0
-begins d None test within = record {
-  left = d.forest;
-  stands = λ j q is lt. let same : q ≡ j = omega (arith, is) in node-is d q ∙ ap (λ i. nth i d.forest) same;
-  ends = omega (arith, count-is d);
-  rest = refl;
-}
-begins d (Some i) test within =
-    let low : i < total d.forest = omega (arith, within i refl, count-is d) in
+-- what passes the test has this level
+abbrev pub OfLevel : Document → (ℕ → Bool) → ℕ → Type 0
+OfLevel d test level = (i : ℕ) → test i ≡ true → (node_at d i).node.level ≡ level
+
+-- ---- trees that stand in a document
+
+kids_stand : (d : Document) (k n : ℕ) (r : List ℕ) (s : List (List ℕ)) (kids later : Forest) → StandsAt d k (Tree n r s kids later) → StandsAt d (suc k) kids
+kids_stand d k n r s kids later stands = λ j q is lt.
+    let e : ltb j (total kids) ≡ true = grind (arith, nat_tests) in
+    stands (suc j) q (omega (arith, is)) (omega (arith, lt)) ∙ rw e refl
+
+later_stand : (d : Document) (k n : ℕ) (r : List ℕ) (s : List (List ℕ)) (kids later : Forest) → StandsAt d k (Tree n r s kids later) → StandsAt d (suc k + total kids) later
+later_stand d k n r s kids later stands = λ j q is lt.
+    let past : total kids ≤ total kids + j = omega arith in
+    let e : ltb (total kids + j) (total kids) ≡ false = grind (arith, nat_tests) in
+    let back : total kids + j - total kids ≡ j = omega arith in
+    stands (suc (total kids + j)) q (omega (arith, is)) (omega (arith, lt)) ∙ rw (e, back) refl
+
+-- ---- what lies deeper
+
+all_deep : (m i : ℕ) (f : Forest) → IsForest f → AllRoots (λ n. m < n) f → i < total f → m < (nth i f).level
+all_deep m i Empty valid deep lt = absurd (omega arith)
+all_deep m zero (Tree n r s kids later) valid deep lt = deep.0
+all_deep m (suc i) (Tree n r s kids later) valid deep lt =
+    let low : m < n = deep.0 in
+    elim (cases_Bool (ltb i (total kids))) [
+      | inl e ↦
+          let inside : i < total kids = grind (arith, nat_tests) in
+          rw e (all_deep m i kids valid.2 (AllRoots-mono (λ k. n < k) (λ k. m < k) kids (λ k less. omega (arith, less, low)) valid.1) inside)
+      | inr e ↦ let past : total kids ≤ i = grind (arith, nat_tests) in rw e (all_deep m (i - total kids) later valid.4 deep.1 (omega (arith, lt, past)))
+    ]
+
+stand_deep : (d : Document) (m k i : ℕ) (f : Forest) → StandsAt d k f → IsForest f → AllRoots (λ n. m < n) f → k ≤ i → i < k + total f → m < (node_at d i).node.level
+stand_deep d m k i f stands valid deep low high =
+    let j : ℕ = i - k in
+    let lt : j < total f = omega (arith, low, high) in
+    let level : (node_at d i).node.level ≡ (nth j f).level = ap (λ (n : Node). n.level) (stands j i (omega (arith, low)) lt) in
+    omega (arith, level, all_deep m j f valid deep lt)
+
+children_stand : (d : Document) (i : ℕ) → i < node_count d → StandsAt d (suc i) (node_at d i).node.children
+children_stand d i inside = λ j q is lt.
+    let low : i < total d.forest = omega (arith, inside, count-is d) in
     let here : (node_at d i).node ≡ nth i d.forest = node-is d i in
     let K : Node → Forest = λ n. n.children in
-    let next : suc i ≡ i + 1 = omega arith in record {
-      left = (node_at d i).node.children;
-      stands = λ j q is lt.
-          let fits : j < total (nth i d.forest).children = omega (arith, lt, ap (λ n. total n.children) here) in
-          node-is d q ∙ nth-below i j q d.forest low fits (omega (arith, is)) ∙ ap (λ n. nth j (K n)) (sym here);
-      ends = omega arith;
-      rest = ap (λ n. find test (roots_from n (K (node_at d i).node))) (sym next);
+    let fits : j < total (nth i d.forest).children = omega (arith, lt, ap (λ n. total n.children) here) in
+    node-is d q ∙ nth-below i j q d.forest low fits (omega (arith, is)) ∙ ap (λ n. nth j (K n)) (sym here)
+
+pub below_deep : (d : Document) (p i : ℕ) → IsValid d → p < node_count d → p < i → i < p + size_of d p → (node_at d p).node.level < (node_at d i).node.level
+below_deep d p i valid inside low high =
+    let node : Node = (node_at d p).node in
+    let proper : IsNode node = valid_node d p valid inside in
+    stand_deep d node.level (suc p) i node.children (children_stand d p inside) proper.children proper.deep (omega (arith, low)) (omega (arith, high))
+
+-- of the nodes below the one before, all lie deeper than a level that it has
+pub passed_deep : (d : Document) (p index level size r i : ℕ) → IsValid d → p ≡ index - 1 → 0 < index → index < node_count d → level ≤ (node_at d p).node.level → size ≡ size_of d p → r ≡ max (size - 1) 1
+    → index < i → i < index + r → level < (node_at d i).node.level
+passed_deep d p index level size r i valid is pos inside le size_is r_is low high =
+    let within : i < p + size_of d p = omega (arith, is, pos, size_is, r_is, low, high) in
+    omega (arith, le, below_deep d p i valid (omega (arith, is, inside)) (omega (arith, is, low)) within)
+
+-- ---- a pass over trees that stand in a document
+
+fails : (d : Document) (test : ℕ → Bool) (level i : ℕ) → OfLevel d test level → level < (node_at d i).node.level → test i ≡ false
+fails d test level i of deep =
+    elim (cases_Bool (test i)) [
+      | inl e ↦ absurd (omega (arith, of i e, deep))
+      | inr e ↦ e
+    ]
+
+-- none of n nodes is found
+passes : (test : ℕ → Bool) (n count k : ℕ) → ((i : ℕ) → k ≤ i → i < k + n → test i ≡ false) → first_from test (n + count) k ≡ first_from test count (k + n)
+passes test zero count k fail =
+    let all : 0 + count ≡ count = omega arith in
+    let here : k ≡ k + 0 = omega arith in
+    rw all (ap (first_from test count) here)
+passes test (suc n) count k fail =
+    let all : suc n + count ≡ suc (n + count) = omega arith in
+    let end : suc k + n ≡ k + suc n = omega arith in
+    let e : test k ≡ false = fail k (omega arith) (omega arith) in
+    let next : first_from test (suc (n + count)) k ≡ first_from test (n + count) (suc k) = rw e refl in
+    ap (λ c. first_from test c k) all
+    ∙ next
+    ∙ passes test n count (suc k) (λ i low high. fail i (omega (arith, low)) (omega (arith, high)))
+    ∙ ap (first_from test count) end
+
+-- the first that is found is a root
+finds_root : (d : Document) (test : ℕ → Bool) (level k : ℕ) (f : Forest) → OfLevel d test level → StandsAt d k f → IsForest f → AllRoots (λ m. level ≤ m) f
+    → first_from test (total f) k ≡ find test (roots_from k f)
+finds_root d test level k Empty of stands valid low = refl
+finds_root d test level k (Tree n r s kids later) of stands valid low =
+    let kids_deep : AllRoots (λ m. level < m) kids = AllRoots-mono (λ m. n < m) (λ m. level < m) kids (λ m less. omega (arith, less, low.0)) valid.1 in
+    let below : StandsAt d (suc k) kids = kids_stand d k n r s kids later stands in
+    elim (cases_Bool (test k)) [
+      | inl e ↦ rw e refl
+      | inr e ↦ rw e (
+          passes test (total kids) (total later) (suc k) (λ i first last. fails d test level i of (stand_deep d level (suc k) i kids below valid.2 kids_deep first last))
+          ∙ finds_root d test level (suc k + total kids) later of (later_stand d k n r s kids later stands) valid.4 low.1)
+    ]
+
+-- ---- the walk
+
+-- the first node from `index` on that passes the test is the first child that does
+pub record Walk (d : Document) (up : Option ℕ) (test : ℕ → Bool) (end index : ℕ) : Type 0 where
+  pub rest : first_from test (end - index) index ≡ find test (children_of d up)
+
+begins : (d : Document) (up : Option ℕ) (test : ℕ → Bool) → IsValid d → OfLevel d test (level_below up d) → ForSome up (λ i. i < node_count d) → Walk d up test (span_below d up).1 (span_below d up).0
+begins d None test valid of within =
+    let all : node_count d - 0 ≡ total d.forest = omega (arith, count-is d) in
+    let stands : StandsAt d 0 d.forest = λ j q is lt. let same : q ≡ j = omega (arith, is) in node-is d q ∙ ap (λ i. nth i d.forest) same in
+    let low : AllRoots (λ m. 1 ≤ m) d.forest = AllRoots-mono (λ m. 0 < m) (λ m. 1 ≤ m) d.forest (λ m less. omega (arith, less)) (roots-positive d.forest valid.forest) in
+    record { rest = ap (λ c. first_from test c 0) all ∙ finds_root d test 1 0 d.forest of stands valid.forest low }
+begins d (Some i) test valid of within =
+    let inside : i < node_count d = within i refl in
+    let node : Node = (node_at d i).node in
+    let proper : IsNode node = valid_node d i valid inside in
+    let all : i + suc (total node.children) - (i + 1) ≡ total node.children = omega arith in
+    let next : i + 1 ≡ suc i = omega arith in
+    let deep : AllRoots (λ m. node.level + 1 ≤ m) node.children = AllRoots-mono (λ m. node.level < m) (λ m. node.level + 1 ≤ m) node.children (λ m less. omega (arith, less)) proper.deep in
+    record {
+      rest = ap (λ c. first_from test c (i + 1)) all ∙ ap (first_from test (total node.children)) next ∙ finds_root d test (node.level + 1) (suc i) node.children of (children_stand d i inside) proper.children deep;
     }
 
-pub walk_start : (d : Document) (up : Option ℕ) (test : ℕ → Bool) (span : ℕ × ℕ) → ForSome up (λ i. i < node_count d) → span ≡ span_below d up → Walk d up test span.1 span.0
-walk_start d up test span within is =
+pub walk_start : (d : Document) (up : Option ℕ) (test : ℕ → Bool) (span : ℕ × ℕ) → IsValid d → OfLevel d test (level_below up d) → ForSome up (λ i. i < node_count d) → span ≡ span_below d up → Walk d up test span.1 span.0
+walk_start d up test span valid of within is =
     let W : ℕ × ℕ → Type 0 = λ s. Walk d up test s.1 s.0 in
-    subst W (sym is) (begins d up test within)
+    subst W (sym is) (begins d up test valid of within)
 
--- what a child's test says
-pub record Steps (d : Document) (up : Option ℕ) (test : ℕ → Bool) (end index : ℕ) : Type 0 where
-  pub fits : index + size_of d index ≤ end
-  pub hit : test index ≡ true → Some index ≡ find test (children_of d up)
-  pub on : test index ≡ false → Walk d up test end (index + size_of d index)
+more : (end index : ℕ) → index < end → end - index ≡ suc (end - (index + 1))
+more end index lt = omega (arith, lt)
 
-steps : (d : Document) (up : Option ℕ) (test : ℕ → Bool) (end index : ℕ) (f : Forest) → StandsAt d index f → index + total f ≡ end → find test (roots_from index f) ≡ find test (children_of d up) → index < end
-    → Steps d up test end index
-steps d up test end index Empty stands ends rest lt = absurd (omega (arith, ends, lt))
-steps d up test end index (Tree n r s kids later) stands ends rest lt =
-    let here : size_of d index ≡ suc (total kids) = ap (λ (m : Node). suc (total m.children)) (stands 0 index (omega arith) (omega arith)) in
-    let next : suc index + total kids ≡ index + size_of d index = omega (arith, here) in record {
-      fits = omega (arith, here, ends);
-      hit = λ e. (rw e refl) ∙ rest;
-      on = λ e. record {
-        left = later;
-        stands = λ j q is lt2.
-            let past : total kids ≤ total kids + j = omega arith in
-            let g : ltb (total kids + j) (total kids) ≡ false = grind (arith, nat_tests) in
-            let back : total kids + j - total kids ≡ j = omega arith in
-            stands (suc (total kids + j)) q (omega (arith, is, here)) (omega (arith, lt2)) ∙ rw (g, back) refl;
-        ends = omega (arith, here, ends);
-        rest = ap (λ k. find test (roots_from k later)) (sym next) ∙ (rw e refl) ∙ rest;
-      };
-    }
+pub walk_hit : (d : Document) (up : Option ℕ) (test : ℕ → Bool) (end index : ℕ) → Walk d up test end index → index < end → test index ≡ true → Some index ≡ find test (children_of d up)
+walk_hit d up test end index w lt e =
+    let found : first_from test (suc (end - (index + 1))) index ≡ Some index = rw e refl in
+    sym found ∙ ap (λ c. first_from test c index) (sym (more end index lt)) ∙ w.rest
 
-pub walk_steps : (d : Document) (up : Option ℕ) (test : ℕ → Bool) (end index : ℕ) → Walk d up test end index → index < end → Steps d up test end index
-walk_steps d up test end index w lt = steps d up test end index w.left w.stands w.ends w.rest lt
-
-none_left : (test : ℕ → Bool) (k : ℕ) (f : Forest) → total f ≡ 0 → None ≡ find test (roots_from k f)
-none_left test k Empty none = refl
-none_left test k (Tree n r s kids later) none = absurd (omega (arith, none))
+-- `n` nodes are passed, of which the first fails the test, and the others lie deeper
+pub walk_on : (d : Document) (up : Option ℕ) (test : ℕ → Bool) (end index n : ℕ) → OfLevel d test (level_below up d) → Walk d up test end index → test index ≡ false
+    → ((i : ℕ) → index < i → i < index + n → level_below up d < (node_at d i).node.level) → Walk d up test end (index + n)
+walk_on d up test end index n of w e deep =
+    let fail : (i : ℕ) → index ≤ i → i < index + n → test i ≡ false = λ i low high.
+    elim (cases_Bool (ltb index i)) [
+      | inl g ↦ let later : index < i = grind (arith, nat_tests) in fails d test (level_below up d) i of (deep i later high)
+      | inr g ↦ let here : index ≡ i = (let no : i ≤ index = grind (arith, nat_tests) in omega (arith, low, no)) in ap test (sym here) ∙ e
+    ] in
+    elim (cases_Bool (ltb end (index + n))) [
+      | inl g ↦
+          let past : end < index + n = grind (arith, nat_tests) in
+          let all : end - index + 0 ≡ end - index = omega arith in
+          let none : end - (index + n) ≡ 0 = omega (arith, past) in
+          let passed = passes test (end - index) 0 index (λ i low high. fail i low (omega (arith, high, past))) in
+          record { rest = ap (λ c. first_from test c (index + n)) none ∙ sym passed ∙ ap (λ c. first_from test c index) all ∙ w.rest }
+      | inr g ↦
+          let fits : index + n ≤ end = grind (arith, nat_tests) in
+          let all : n + (end - (index + n)) ≡ end - index = omega (arith, fits) in
+          record { rest = sym (passes test n (end - (index + n)) index fail) ∙ ap (λ c. first_from test c index) all ∙ w.rest }
+    ]
 
 pub walk_end : (d : Document) (up : Option ℕ) (test : ℕ → Bool) (end index : ℕ) → Walk d up test end index → end ≤ index → None ≡ find test (children_of d up)
-walk_end d up test end index w le = none_left test index w.left (omega (arith, w.ends, le)) ∙ w.rest
+walk_end d up test end index w le =
+    let none : end - index ≡ 0 = omega (arith, le) in
+    ap (λ c. first_from test c index) (sym none) ∙ w.rest

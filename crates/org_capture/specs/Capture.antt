@@ -10,7 +10,7 @@ use Rattle.org_outline.specs.Tree.{Node, Document, node_count}
 use Rattle.org_outline.specs.Moves.{insert, append_heading}
 use Rattle.org_outline.specs.Parts.{Parts, parts_of}
 use Rattle.org_outline.specs.Paths.{find_path, find_headed}
-use Rattle.org_stamp.specs.Calendar.{CivilMinute}
+use Rattle.org_stamp.specs.Calendar.{Moment}
 use Rattle.org_capture.specs.declared.fault.CaptureFault.{CaptureFault}
 use Rattle.org_capture.specs.declared.fault.CaptureFault.TheVariants.{NotFound, NotUnique}
 use Rattle.org_capture.specs.declared.target.Target.{Target}
@@ -66,14 +66,14 @@ date_base states d [] = Ok None
 date_base states d (title ∷ titles) = some_node (find_path states d (title ∷ titles))
 
 -- the entry below the heading of the moment's day
-abbrev pub below_day : Keywords → Place → CivilMinute → Node → Document
+abbrev pub below_day : Keywords → Place → Moment → Node → Document
     → Result (Option ℕ) PathFault → Result Document CaptureFault
 below_day states place moment entry d (Ok base) =
     Ok (dated states place moment.day entry d (Year ∷ Month ∷ Day ∷ []) base)
 below_day states place moment entry d (Err fault) = Err (fault_of fault)
 
 -- the document with an entry put below its target
-abbrev pub captured : Keywords → Target → Place → CivilMinute → Node → Document
+abbrev pub captured : Keywords → Target → Place → Moment → Node → Document
     → Result Document CaptureFault
 captured states Top place moment entry d = Ok (insert None place entry d)
 captured states (Head title) place moment entry d =

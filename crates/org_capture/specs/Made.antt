@@ -11,7 +11,7 @@ use Rattle.org_outline.specs.Tree.{Node, Document}
 use Rattle.org_outline.specs.Moves.{insert, level_below, heading_alone}
 use Rattle.org_outline.specs.Numbers.{number_last, weigh_node}
 use Rattle.org_outline.specs.Paths.{find_headed}
-use Rattle.org_stamp.specs.Calendar.{CivilDay, CivilMinute}
+use Rattle.org_stamp.specs.Calendar.{CivilDay, Moment}
 use Rattle.org_capture.specs.declared.dates.DateKind.{DateKind}
 use Rattle.org_capture.specs.declared.dates.DateKind.TheVariants.{Year, Month, Day}
 use Rattle.org_capture.specs.declared.target.Target.{Target}
@@ -44,7 +44,7 @@ missing_title title (Ok (Some i)) = []
 missing_title title (Err fault) = []
 
 -- of the headings of a target those that a document hasn't
-abbrev pub missing : Keywords → Target → CivilMinute → Document → List (List ℕ)
+abbrev pub missing : Keywords → Target → Moment → Document → List (List ℕ)
 missing states Top moment d = []
 missing states (Head title) moment d = missing_title title (find_headed states d title)
 missing states (Path titles) moment d = []

@@ -2,7 +2,7 @@
 use Rattle.std.specs.Prelude.{ℕ, Bool, true, false, ◌||◌, not, ◌==◌, List, [], ◌∷◌, ◌++◌, if◌then◌else◌, Option, None, Some, Result, Ok, Err}
 use Rattle.std.specs.Char.{is_ascii_alphabetic}
 use Rattle.org_splice.specs.Blanks.{end_of}
-use Rattle.org_stamp.specs.Calendar.{CivilMinute}
+use Rattle.org_stamp.specs.Calendar.{Moment}
 use Rattle.org_stamp.specs.Stamp.{stamp_of, stamp_text}
 use Rattle.org_capture.specs.declared.piece.Piece.{Piece}
 use Rattle.org_capture.specs.declared.piece.Piece.TheVariants.{Byte, Stamp, Initial, Cursor, Unknown}
@@ -50,7 +50,7 @@ with_prefix prefix (b ∷ bs) =
 
 -- what a piece stands for at a moment, behind a line that has begun with these bytes; None where
 -- the piece isn't served
-abbrev pub text_of : CivilMinute → List ℕ → List ℕ → Piece → Option (List ℕ)
+abbrev pub text_of : Moment → List ℕ → List ℕ → Piece → Option (List ℕ)
 text_of moment initial line (Byte b) = Some (b ∷ [])
 text_of moment initial line (Stamp active timed) = Some (stamp_text (stamp_of moment active timed))
 text_of moment initial line Initial = Some (with_prefix line initial)
@@ -64,12 +64,12 @@ with_text None go_on = Err BadTemplate
 with_text (Some text) go_on = go_on text
 
 -- the pieces filled in, one after the other, behind a text
-abbrev pub filled : CivilMinute → List ℕ → List ℕ → List Piece → Result (List ℕ) CaptureFault
+abbrev pub filled : Moment → List ℕ → List ℕ → List Piece → Result (List ℕ) CaptureFault
 filled moment initial text [] = Ok text
 filled moment initial text (piece ∷ pieces) =
     with_text (text_of moment initial (last_line text) piece)
     (λ more. filled moment initial (text ++ more) pieces)
 
 -- the template with its pieces filled in; what is filled in isn't read for escapes
-abbrev pub expanded : List ℕ → CivilMinute → List ℕ → Result (List ℕ) CaptureFault
+abbrev pub expanded : List ℕ → Moment → List ℕ → Result (List ℕ) CaptureFault
 expanded template moment initial = filled moment initial [] (pieces_of template)

@@ -2,7 +2,7 @@
 //! month.
 //!
 //! A heading is known by the key of its title, compared byte by byte; no calendar is asked.
-ghost use Rattle.std.specs.Prelude.{◌≡◌, ◌<◌, ◌≤◌, ◌+◌, ◌^◌, ◌++◌, IfOk, IfSome, MatchOption, length};
+ghost use Rattle.std.specs.Prelude.{◌≡◌, ℕ, ◌<◌, ◌≤◌, ◌+◌, ◌^◌, ◌++◌, IfOk, IfSome, MatchOption, length};
 ghost use Rattle.std.specs.Option.{ForSome};
 ghost use Rattle.org_outline.specs.Tree.{node_count, node_at, tree};
 ghost use Rattle.org_outline.specs.Moves.{level_below};
@@ -187,6 +187,25 @@ fn span_below(outline: &Outline<'_>, parent: &Option<Node>) -> (usize, usize)
     }
 }
 
+/// How many headings behind this one stands the next that can be of this level: those below the
+/// heading before are passed at once.
+fn step(outline: &Outline<'_>, index: usize, level: usize) -> usize
+    requires { index < node_count (tree outline.now.text) }
+    ensures rises { 1 ≤ result }
+    ensures within { index + result ≤ node_count (tree outline.now.text) }
+    ensures deeper { (i : ℕ) → index < i → i < index + result
+        → level < (node_at (tree outline.now.text) i).node.level }
+{
+    if outline.level(outline.node(index)) <= level || index == 0 {
+        return 1;
+    }
+    let before = outline.node(index - 1);
+    if outline.level(before) < level {
+        return 1;
+    }
+    (outline.size(before) - 1).max(1)
+}
+
 /// The first date heading of this kind one level below a heading, or at level 1, whose key compares
 /// with the one given in this way.
 pub(crate) fn first_dated(
@@ -203,13 +222,15 @@ pub(crate) fn first_dated(
 {
     let level = level_below(outline, *parent);
     let (first, end) = span_below(outline, parent);
+    prove!(end <= outline.count());
+    // Of the headings below, those of this level are the children.
     let mut index = first;
     while index < end {
         let node = outline.node(index);
         if is_dated(outline, node, level, kind, key, wanted) {
             return Some(node);
         }
-        index += outline.size(node);
+        index += step(outline, index, level);
     }
     None
 }

@@ -10,7 +10,7 @@ ghost use Rattle.org_outline.specs.Moves.{IsNode, heading_alone, level_below};
 ghost use Rattle.org_outline.specs.Numbers.{weigh};
 ghost use Rattle.org_outline.specs.States.{Keywords};
 ghost use Rattle.org_outline.specs.Tree.{Document, IsValid, Node, node_at, node_count, print, tree};
-ghost use Rattle.org_stamp.specs.Calendar.{CivilDay, CivilMinute};
+ghost use Rattle.org_stamp.specs.Calendar.{CivilDay, Moment};
 ghost use Rattle.org_capture.specs.declared.dates.DateKind.{DateKind};
 ghost use Rattle.org_capture.specs.declared.piece.Piece.{Piece};
 ghost use Rattle.org_capture.specs.declared.target.Target.{Target};
@@ -22,7 +22,7 @@ ghost use Rattle.org_capture.specs.Made.{added, dated_one_by_one, missing, numbe
 
 /// A template without a percent sign stands for itself.
 pub fn plain_templates_stay()
-    ensures { (template : List ℕ) (moment : CivilMinute) (initial : List ℕ)
+    ensures { (template : List ℕ) (moment : Moment) (initial : List ℕ)
         → IsTrue (list_all (λ b. not (b == 37)) template)
         → expanded template moment initial ≡ Ok template }
 {}
@@ -30,15 +30,15 @@ pub fn plain_templates_stay()
 /// What was put in isn't read for escapes.
 pub fn fillings_stay()
     // An initial text alone is what it is, whatever bytes it has.
-    ensures alone { (moment : CivilMinute) (initial : List ℕ)
+    ensures alone { (moment : Moment) (initial : List ℕ)
         → expanded (37 ∷ 105 ∷ []) moment initial ≡ Ok initial }
     // Bytes without a percent sign stay, and the template goes on behind them.
-    ensures behind { (plain template : List ℕ) (moment : CivilMinute) (initial : List ℕ)
+    ensures behind { (plain template : List ℕ) (moment : Moment) (initial : List ℕ)
         → IsTrue (list_all (λ b. not (b == 37)) plain)
         → expanded (plain ++ template) moment initial
         ≡ filled moment initial plain (pieces_of template) }
     // Whatever pieces follow, a text stays in front of what they put in.
-    ensures kept { (moment : CivilMinute) (initial text whole : List ℕ) (pieces : List Piece)
+    ensures kept { (moment : Moment) (initial text whole : List ℕ) (pieces : List Piece)
         → filled moment initial text pieces ≡ Ok whole
         → (more : List ℕ) × (whole ≡ text ++ more) }
 {}
@@ -46,14 +46,14 @@ pub fn fillings_stay()
 /// A capture keeps a document valid, so that it is the tree of its print: no section has a heading
 /// line in it, and each heading lies deeper than the one above it.
 pub fn captures_are_valid()
-    ensures captured { (states : Keywords) (target : Target) (place : Place) (moment : CivilMinute)
+    ensures captured { (states : Keywords) (target : Target) (place : Place) (moment : Moment)
         (node : Node) (d new : Document)
         → captured states target place moment node d ≡ Ok new → IsNode node → IsValid d
         → IsValid new }
     // An entry is a valid tree.
     ensures entry { (text : List ℕ) (node : Node) → entry_in text ≡ Some node → IsNode node }
     // So the tree of the new text is the captured one.
-    ensures text { (states : Keywords) (target : Target) (place : Place) (moment : CivilMinute)
+    ensures text { (states : Keywords) (target : Target) (place : Place) (moment : Moment)
         (node : Node) (text bytes : List ℕ) (new : Document) → entry_in bytes ≡ Some node
         → captured states target place moment node (tree text) ≡ Ok new → tree (print new) ≡ new }
 {}
@@ -62,13 +62,13 @@ pub fn captures_are_valid()
 /// whatever number a node is given by its rest and its section, as 1 where it is one that is
 /// counted and else 0, the sum over all nodes grows by theirs.
 pub fn captures_add_nodes()
-    ensures document { (states : Keywords) (target : Target) (place : Place) (moment : CivilMinute)
+    ensures document { (states : Keywords) (target : Target) (place : Place) (moment : Moment)
         (node : Node) (d new : Document)
         → captured states target place moment node d ≡ Ok new
         → (w : List ℕ → List (List ℕ) → ℕ)
         → weigh w new.forest ≡ weigh w d.forest + added w node (missing states target moment d) }
     // So over all files, where these are their texts.
-    ensures file { (states : Keywords) (target : Target) (place : Place) (moment : CivilMinute)
+    ensures file { (states : Keywords) (target : Target) (place : Place) (moment : Moment)
         (node : Node) (texts : List (List ℕ)) (i : ℕ) (text bytes : List ℕ) (new : Document)
         → slice_get texts i ≡ Some text → entry_in bytes ≡ Some node
         → captured states target place moment node (tree text) ≡ Ok new

@@ -3,7 +3,7 @@
 //! What was put in isn't read for escapes again.
 ghost use Rattle.std.specs.Prelude.{◌≡◌, ℕ, List, ◌++◌, ◌≤◌, length, not, ◌==◌, OnOk};
 ghost use Rattle.std.specs.List.{suffix_len};
-ghost use Rattle.org_stamp.specs.Calendar.{CivilMinute};
+ghost use Rattle.org_stamp.specs.Calendar.{Moment};
 ghost use Rattle.org_capture.specs.Template.{expanded, filled, last_line, pieces_of, text_of, with_prefix};
 ghost use Rattle.org_capture.specs.Answers.{Adds, AnswersBytes};
 
@@ -33,7 +33,7 @@ fn last_line(text: &[u8]) -> &[u8]
 
 /// What stands before the first percent sign, and what begins with it: the first stays as it is.
 pub(crate) fn split_plain(template: &[u8]) -> (&[u8], &[u8])
-    ensures plain { (moment : CivilMinute) (initial text : List ℕ)
+    ensures plain { (moment : Moment) (initial text : List ℕ)
         → filled moment initial text (pieces_of template.now)
         ≡ filled moment initial (text ++ result.0.now) (pieces_of result.1.now) }
     ensures within { length result.1.now ≤ length template.now }

@@ -22,6 +22,7 @@ use Rattle.org_commands.specs.InOrder.{texts_of}
 use Rattle.org_commands.specs.Keeping.{ExecutesTo, Keeps, KeepsCounts, Reads}
 use Rattle.org_commands.specs.Left.{IsLeft, IsLeftAlone, IsSpared, MayHaveWritten}
 use Rattle.org_commands.specs.Outcome.{Outcome, Accepts, Refuses, changed}
+use Rattle.org_commands.specs.Reading.{OnlyReads}
 use Rattle.org_commands.specs.Runs.{LeavesDisk}
 use Rattle.org_commands.specs.Session.{StoreView, Session, view_over}
 use Rattle.org_commands.specs.Step.{Steps, fills}
@@ -69,7 +70,7 @@ counts_from old mid new same (Err Device) counts = rw (same.accepted, same.ackno
 counts_from old mid new same (Err Broken) counts = still old mid new same counts
 
 module _ {D : Type 0} (g : Ghosts D) (old : StoreView D)
-    (start : g.honest old.disk → (image : Image) → g.left_since old.disk (g.moment old.disk) image → AreImages (g.files old.disk) image)
+    (start : g.honest old.disk → (image : Image) → g.left_since old.disk (g.instant old.disk) image → AreImages (g.files old.disk) image)
     (own : old.session.settled ≡ texts_of (contents (g.files old.disk)) old.session.names) where
   -- a call that looks at the disk at most
   pub executes_uncounted : (new : StoreView D) (outcome : Outcome) (answer : Result Reply RunFault) → IsUncounted answer → (g.honest new.disk → g.honest old.disk) → (g.honest new.disk → Steps old.session outcome answer new.session)
@@ -255,3 +256,16 @@ module _ {D : Type 0} (g : Ghosts D) (old : StoreView D)
         no_broken Device counts is = cc
         no_broken Broken counts is = absurd counts
         no_broken (Refused why) counts is = absurd counts
+
+-- a call that looks at the disk at most, and whose edits are taken back
+pub executes_undone : {D : Type 0} (g : Ghosts D) (states : Keywords) (old mid new : OpenFiles D) (tally : Tally)
+    → (g.honest old.disk → (image : Image) → g.left_since old.disk (g.instant old.disk) image → AreImages (g.files old.disk) image)
+    → (outcome : Outcome) (answer : Result Reply RunFault) → IsUncounted answer → StaysInMemory mid new → new.held.before ≡ mid.held.before → OnlyReads g old mid answer
+    → (g.honest mid.disk → Steps (view_over g.files states old tally).session outcome answer (view_over g.files states mid tally).session) → ExecutesTo g (view_over g.files states old tally) outcome answer (view_over g.files states new tally)
+executes_undone g states old mid new tally start outcome answer uncounted memory before reads does =
+    let was = λ (h : g.honest new.disk). subst g.honest memory.disk h in
+    let same : view_over g.files states new tally ≡ view_over g.files states mid tally = view_same g.files states mid new tally memory before in
+    executes_uncounted g (view_over g.files states old tally) start refl (view_over g.files states new tally) outcome answer uncounted (λ h. reads.accounts.was_honest (was h))
+    (λ h. subst (λ s. Steps (view_over g.files states old tally).session outcome answer s) (sym (ap (λ k. k.session) same)) (does (was h)))
+    (λ h. subst (λ disk. LooksOver g old.disk disk) (sym memory.disk) (reads.looks (was h)))
+    refl (record { accepted = refl; acknowledged = refl; group = refl }) reads.works (λ fell. memory.broken ∙ reads.breaks.0 fell, λ broken. reads.breaks.1 (sym memory.broken ∙ broken))

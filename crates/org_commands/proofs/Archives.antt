@@ -1,39 +1,43 @@
 -- Archivings: what their planner finds is what the outcome says.
-use Rattle.std.proofs.Common.{◌≡◌, ◌≢◌, ℕ, true, false, List, [], ◌∷◌, Option, Some, None, Result, Ok, Err, refl, sym, ◌∙◌, ap, subst}
+use Rattle.std.proofs.Common.{◌≡◌, ◌≢◌, ℕ, true, false, List, [], ◌∷◌, Option, Some, None, Result, Ok, Err, refl, sym, ◌∙◌, ap, subst, rules}
 use Rattle.std.specs.Option.{IsSome}
+use Rattle.std.specs.Result.{IsErrAnd}
 use Rattle.std.specs.Str.{bytes_eq}
 use Rattle.std.proofs.lemmas.Bool.{false≢true}
 use Rattle.std.proofs.lemmas.Slice.Eq.{bytes_eq-Decides}
+use Rattle.org_disk.specs.declared.disk.Disk.{Ghosts}
 use Rattle.org_splice.specs.Lines.{terminated}
 use Rattle.org_splice.specs.Edits.{AreEdits}
 use Rattle.org_splice.specs.Texts.{EditedText}
 use Rattle.org_splice.proofs.Lines.{lines_of-terminated}
-use Rattle.org_journal.specs.Recovered.{Image}
+use Rattle.org_journal.specs.Recovered.{contents}
 use Rattle.org_outline.specs.States.{Keywords}
 use Rattle.org_outline.specs.Tree.{Document, print, tree}
 use Rattle.org_outline.proofs.Trees.{tree-terminated}
-use Rattle.org_stamp.specs.Calendar.{CivilMinute}
+use Rattle.org_stamp.specs.Calendar.{Moment}
 use Rattle.org_texts.specs.declared.plan.FileEdits.{FileEdits}
 use Rattle.org_texts.specs.declared.plan.Plan.{Plan}
-use Rattle.org_texts.specs.Texts.{Holding, bytes_or, held_over, text_of}
+use Rattle.org_texts.specs.Texts.{Holding, bytes_or, text_of}
 use Rattle.org_texts.proofs.Looking.{not_equal, the_value}
 use Rattle.org_move.specs.declared.fault.MoveFault.{MoveFault}
 use Rattle.org_move.specs.declared.fault.MoveFault.TheVariants as fault
-use Rattle.org_move.specs.Answers.{GivesPlace}
+use Rattle.org_move.specs.Answers.{Gives, GivesPlace}
 use Rattle.org_move.specs.Archive.{archive_across, archive_within}
 use Rattle.org_move.specs.Location.{Destination, location}
 use Rattle.org_move.specs.Refile.{Moved}
 use Rattle.org_commands.specs.declared.command.Refusal.TheVariants.{NoSuchFile}
+use Rattle.org_commands.specs.declared.command.RunFault.{RunFault}
 use Rattle.org_commands.specs.declared.tally.Tally.{Tally}
-use Rattle.org_commands.specs.Files.{AreReady, IsPlanFor, OpenFiles, new_texts}
+use Rattle.org_commands.specs.Files.{AreReady, IsPlanFor, IsReady, OpenFiles, new_texts}
 use Rattle.org_commands.specs.InOrder.{is_name, text_at}
-use Rattle.org_commands.specs.Keeping.{fault_of_move}
+use Rattle.org_commands.specs.Keeping.{Plans, fault_of_move}
 use Rattle.org_commands.specs.Outcome.{Outcome, Refuses, archive, archive_at, archive_to, refusal_of_move, with_moved}
 use Rattle.org_commands.specs.Refile.{MakesDocument, MakesDocuments, text_within, texts_across}
-use Rattle.org_commands.specs.Session.{Session, session_over}
+use Rattle.org_commands.specs.Session.{BetweenSessions, Session}
 use Rattle.org_commands.specs.Step.{Steps}
-use Rattle.org_commands.proofs.InOrder.{none_at}
-use Rattle.org_commands.proofs.Plans.{first_name, now_held, one_name, one_text, plan_of_one, plan_of_two, ready_text, second_name, text_held, two_texts}
+use Rattle.org_commands.proofs.MadeReady.{session_in, still_named}
+use Rattle.org_commands.proofs.Plans.{first_name, is_ready, now_held, one_name, one_text, plan_of_one, plan_of_two, ready_text, second_name, text_held, two_texts}
+use Rattle.org_commands.proofs.Refiles.{move_fails, move_planned}
 
 -- ---- texts that are ready
 
@@ -46,20 +50,16 @@ the_text None some = absurd (false≢true some)
 the_text (Some text) some = (text, refl, refl)
 
 -- what is held is the store's text of the file, terminated
-pub store_text : {D : Type 0} (texts : D → Image) (states : Keywords) (files : OpenFiles D) (tally : Tally) (s : Session) (ready : List (List ℕ)) (file : List ℕ) → session_over texts states files tally ≡ s → AreReady ready files.held
-    → is_name ready file ≡ true → is_name files.names file ≡ true → (text : List ℕ) × (text_at s.names s.files file ≡ Some text) × (held_bytes files.held file ≡ terminated text)
-store_text texts states files tally s ready file is are there named =
-    let seen = the_text (text_of files.held.now file) (now_held ready files.held file are there) in
-    let old = ready_text ready files.held file seen.0 are there seen.1 in
-    let at = text_held files.names files.held (texts files.disk) file old.0 named old.1 in
+pub store_text : {D : Type 0} (g : Ghosts D) (states : Keywords) (files : OpenFiles D) (tally : Tally) (s : Session) (names : List (List ℕ)) (file : List ℕ) → session_in g states files tally ≡ s → AreReady names files.held → is_name names file ≡ true
+    → is_name files.names file ≡ true → (text : List ℕ) × (text_at s.names s.files file ≡ Some text) × (held_bytes files.held file ≡ terminated text)
+store_text g states files tally s names file is are there named =
+    let seen = the_text (text_of files.held.now file) (now_held names files.held file are there) in
+    let old = ready_text names files.held file seen.0 are there seen.1 in
+    let at = text_held files.names files.held (contents (g.files files.disk)) file old.0 named old.1 in
     (old.0.bytes, subst (λ (t : Session). text_at t.names t.files file ≡ Some old.0.bytes) is at, seen.2 ∙ old.2)
 
-pub no_text : {D : Type 0} (texts : D → Image) (states : Keywords) (files : OpenFiles D) (tally : Tally) (s : Session) (file : List ℕ) → session_over texts states files tally ≡ s → is_name files.names file ≡ false → text_at s.names s.files file ≡ None
-no_text texts states files tally s file is missing =
-    subst (λ (t : Session). text_at t.names t.files file ≡ None) is (none_at (held_over files.held.before (texts files.disk)) files.names file missing)
-
 -- a text that is found twice is one
-pub same_terminated : (text other seen : List ℕ) → Some text ≡ Some other → seen ≡ terminated other → seen ≡ terminated text
+same_terminated : (text other seen : List ℕ) → Some text ≡ Some other → seen ≡ terminated other → seen ≡ terminated text
 same_terminated text other seen is stays_terminated = let same : text ≡ other = cc in stays_terminated ∙ ap terminated (sym same)
 
 -- ---- the plans
@@ -73,7 +73,7 @@ module _ (plan : Plan) (held : Holding) (file : List ℕ) (new : Document) (make
   pub within_fits : (names : List (List ℕ)) → is_name names file ≡ true → IsPlanFor names held plan
   within_fits names named = plan_of_one plan names held file own_text.0 (print new) makes.0 makes.1 own_text.1 own_text.2 named are
 
-  pub within_texts : new_texts plan held.now ≡ text_within file new
+  within_texts : new_texts plan held.now ≡ text_within file new
   within_texts = one_text plan held file own_text.0 (print new) makes.0 makes.1 own_text.1 own_text.2
 
 module _ (plan : Plan) (held : Holding) (file to_file : List ℕ) (new : Moved) (apart : file ≢ to_file) (makes : MakesDocuments file to_file (held_bytes held file) (held_bytes held to_file) new plan)
@@ -91,11 +91,11 @@ module _ (plan : Plan) (held : Holding) (file to_file : List ℕ) (new : Moved) 
       let seen = the_text (text_of held.now to_file) (now_held (to_file ∷ file ∷ []) held to_file are (first_name to_file (file ∷ []))) in
       (seen.0, seen.1, subst (λ (t : List ℕ). AreEdits second.0.edits.items t (print new.target)) seen.2 second.2.1)
 
-  pub across_fits : (names : List (List ℕ)) → is_name names file ≡ true → is_name names to_file ≡ true → IsPlanFor names held plan
-  across_fits names named also =
+  documents_planned : (names : List (List ℕ)) → is_name names file ≡ true → is_name names to_file ≡ true → IsPlanFor names held plan
+  documents_planned names named also =
       plan_of_two plan second.0 names held file to_file left_text.0 into_text.0 (print new.source) (print new.target) apart makes.0 second.1 second.2.0 left_text.1 into_text.1 left_text.2 into_text.2 named also are
 
-  pub across_texts : new_texts plan held.now ≡ texts_across file to_file new
+  across_texts : new_texts plan held.now ≡ texts_across file to_file new
   across_texts = two_texts plan second.0 held file to_file left_text.0 into_text.0 (print new.source) (print new.target) apart makes.0 second.1 second.2.0 left_text.1 into_text.1 left_text.2 into_text.2
 
 -- ---- the outcome
@@ -103,7 +103,7 @@ module _ (plan : Plan) (held : Holding) (file to_file : List ℕ) (new : Moved) 
 location_terminated : (states : Keywords) (name : List ℕ) (path : List (List ℕ)) (text : List ℕ) → location states name path (terminated text) ≡ location states name path text
 location_terminated states name path text = rw (lines_of-terminated text) refl
 
-module _ (s : Session) (file : List ℕ) (path : List (List ℕ)) (moment : CivilMinute) where
+module _ (s : Session) (file : List ℕ) (path : List (List ℕ)) (moment : Moment) where
   -- what an archiving is to do with the store's text of the file
   abbrev pub told : Outcome
   told = archive s file path moment (text_at s.names s.files file)
@@ -130,12 +130,7 @@ module _ (s : Session) (file : List ℕ) (path : List (List ℕ)) (moment : Civi
 
       go : (w : MoveFault) → GivesPlace said (Err w) → Steps s told (Err (fault_of_move w)) s
       go fault.OutOfMemory gives = (unbroken, refl)
-      go fault.NotFound gives = (unbroken, refuses fault.NotFound gives, refl)
-      go fault.NotUnique gives = (unbroken, refuses fault.NotUnique gives, refl)
-      go fault.InsideItself gives = (unbroken, refuses fault.InsideItself gives, refl)
-      go fault.AlreadyArchive gives = (unbroken, refuses fault.AlreadyArchive gives, refl)
-      go fault.BadLocation gives = (unbroken, refuses fault.BadLocation gives, refl)
-      go fault.NoSuchFile gives = (unbroken, refuses fault.NoSuchFile gives, refl)
+      go w gives = (unbroken, refuses w gives, refl)
 
   -- .. and one with a location
   pub place_found : (text seen : List ℕ) (to : Destination) → text_at s.names s.files file ≡ Some text → seen ≡ terminated text → GivesPlace (location s.states file path seen) (Ok to) → told ≡ told_to text to
@@ -146,7 +141,7 @@ module _ (s : Session) (file : List ℕ) (path : List (List ℕ)) (moment : Civi
   no_place text to none = ap (archive_to s file path moment text to) none
 
   -- it is the file itself
-  pub within_is : (text seen : List ℕ) (to : Destination) → text_at s.names s.files file ≡ Some text → seen ≡ terminated text → file ≡ to.file
+  within_is : (text seen : List ℕ) (to : Destination) → text_at s.names s.files file ≡ Some text → seen ≡ terminated text → file ≡ to.file
       → told_to text to ≡ with_moved s (text_within file) (archive_within s.states file path moment to (tree seen))
   within_is text seen to at stays_terminated own =
       let there : text_at s.names s.files to.file ≡ Some text = subst (λ (n : List ℕ). text_at s.names s.files n ≡ Some text) own at in
@@ -156,7 +151,7 @@ module _ (s : Session) (file : List ℕ) (path : List (List ℕ)) (moment : Civi
       ∙ ap (λ (d : Document). with_moved s (text_within file) (archive_within s.states file path moment to d)) (sym (ap tree stays_terminated ∙ tree-terminated text))
 
   -- it is another one
-  pub across_is : (text seen target found : List ℕ) (to : Destination) → text_at s.names s.files to.file ≡ Some target → seen ≡ terminated text → found ≡ terminated target → file ≢ to.file
+  across_is : (text seen target found : List ℕ) (to : Destination) → text_at s.names s.files to.file ≡ Some target → seen ≡ terminated text → found ≡ terminated target → file ≢ to.file
       → told_to text to ≡ with_moved s (texts_across file to.file) (archive_across s.states file path moment (tree seen) s.states to (tree found))
   across_is text seen target found to there stays_terminated closes apart =
       let f : bytes_eq file to.file ≡ false = not_equal file to.file apart in
@@ -164,3 +159,87 @@ module _ (s : Session) (file : List ℕ) (path : List (List ℕ)) (moment : Civi
       ap (archive_to s file path moment text to) there ∙ other
       ∙ ap (λ (d : Document). with_moved s (texts_across file to.file) (archive_across s.states file path moment d s.states to (tree target))) (sym (ap tree stays_terminated ∙ tree-terminated text))
       ∙ ap (λ (d : Document). with_moved s (texts_across file to.file) (archive_across s.states file path moment (tree seen) s.states to d)) (sym (ap tree closes ∙ tree-terminated target))
+
+-- ---- what is planned
+
+-- within a file that is ready
+module _ {D : Type 0} (g : Ghosts D) (states : Keywords) (files : OpenFiles D) (file : List ℕ) (path : List (List ℕ)) (moment : Moment) (to : Destination) (own : file ≡ to.file) (unbroken : files.broken ≡ false)
+    (ready : AreReady (file ∷ []) files.held) (there : is_name files.names file ≡ true) (tally : Tally) (text : List ℕ) where
+  abbrev s : Session
+  s = session_in g states files tally
+
+  abbrev seen : List ℕ
+  seen = held_bytes files.held file
+
+  abbrev said : Result Document MoveFault
+  said = archive_within states file path moment to (tree seen)
+
+  abbrev told_within : Outcome
+  told_within = told_to s file path moment text to
+
+  told_within_is : text_at s.names s.files file ≡ Some text → told_within ≡ with_moved s (text_within file) said
+  told_within_is at =
+      let store = store_text g states files tally s (file ∷ []) file refl ready (one_name file) there in
+      within_is s file path moment text seen to at (same_terminated text store.0 seen (sym at ∙ store.1) store.2) own
+
+  pub within_fails : text_at s.names s.files file ≡ Some text → (result : Result Plan MoveFault) {why : MoveFault} (answer : Result Plan RunFault) → result ≡ Err why → Gives said (MakesDocument file seen) result → IsErrAnd answer (λ y. y ≡ fault_of_move why)
+      → Plans s told_within answer files.held s
+  within_fails at result answer was gives handed = move_fails files.held (text_within file) said (MakesDocument file seen) result answer unbroken refl (told_within_is at) was gives handed
+
+  pub within_planned : text_at s.names s.files file ≡ Some text → (plan : Plan) → Gives said (MakesDocument file seen) (Ok plan) → Plans s told_within (Ok plan) files.held s
+  within_planned at plan (new, is, makes) = move_planned files.held (text_within file) said new plan refl (told_within_is at) is (within_texts plan files.held file new makes ready)
+
+-- Two files are ready, of which the second one is the location's: they were `old` before that one
+-- was made ready, and are `new`.
+pub record AreBothReady {D : Type 0} (g : Ghosts D) (states : Keywords) (old new : OpenFiles D) (file to_file : List ℕ) : Type 0 where
+  pub apart : file ≢ to_file
+  pub ready : AreReady (to_file ∷ file ∷ []) new.held
+  pub named : is_name new.names file ≡ true
+  pub also : is_name new.names to_file ≡ true
+  pub reads : BetweenSessions g states old new (λ s t. t ≡ s)
+
+other_name : (file other : List ℕ) → false ≡ bytes_eq file other → file ≢ other
+other_name file other test = search rules
+
+-- the planner has a copy of the location's name
+pub both_ready : {D : Type 0} (g : Ghosts D) (states : Keywords) (old new : OpenFiles D) (file to_file copy : List ℕ) → copy ≡ to_file → false ≡ bytes_eq file copy → true ≡ is_name old.names copy → is_name old.names file ≡ true
+    → AreReady (file ∷ []) old.held → ((names : List (List ℕ)) → AreReady names old.held → AreReady (copy ∷ names) new.held) → new.names ≡ old.names → ((k : Keywords) → BetweenSessions g k old new (λ s t. t ≡ s))
+    → AreBothReady g states old new file to_file
+both_ready g states old new file to_file copy is differ has there was ready names reads = record {
+  apart = λ same. other_name file copy differ (same ∙ sym is);
+  ready = subst (λ (n : List ℕ). AreReady (n ∷ file ∷ []) new.held) is (ready (file ∷ []) was);
+  named = still_named file names there;
+  also = still_named to_file names (ap (is_name old.names) (sym is) ∙ sym has);
+  reads = reads states;
+}
+
+module _ {D : Type 0} {g : Ghosts D} {states : Keywords} {old new : OpenFiles D} (file : List ℕ) (path : List (List ℕ)) (moment : Moment) (to : Destination) (both : AreBothReady g states old new file to.file) where
+  abbrev made : Result Moved MoveFault
+  made = archive_across states file path moment (tree (held_bytes new.held file)) states to (tree (held_bytes new.held to.file))
+
+  abbrev Makes : Moved → Plan → Type 0
+  Makes = MakesDocuments file to.file (held_bytes new.held file) (held_bytes new.held to.file)
+
+  pub target_is_ready : IsReady to.file new.held
+  target_is_ready = is_ready (to.file ∷ file ∷ []) new.held to.file both.ready (first_name to.file (file ∷ []))
+
+  pub across_fits : (plan : Plan) → Gives made Makes (Ok plan) → IsPlanFor new.names new.held plan
+  across_fits plan (d, is, makes) = documents_planned plan new.held file to.file d both.apart makes both.ready new.names both.named both.also
+
+  module _ (tally : Tally) (honest : g.honest new.disk) (text : List ℕ) (at : text_at (session_in g states old tally).names (session_in g states old tally).files file ≡ Some text) where
+    abbrev before : Session
+    before = session_in g states old tally
+
+    told_across : told_to before file path moment text to ≡ with_moved before (texts_across file to.file) made
+    told_across =
+        let read = both.reads tally honest in
+        let own = store_text g states new tally before (to.file ∷ file ∷ []) file read both.ready (second_name to.file file) both.named in
+        let other = store_text g states new tally before (to.file ∷ file ∷ []) to.file read both.ready (first_name to.file (file ∷ [])) both.also in
+        across_is before file path moment text (held_bytes new.held file) other.0 (held_bytes new.held to.file) to other.1 (same_terminated text own.0 (held_bytes new.held file) (sym at ∙ own.1) own.2) other.2 both.apart
+
+    pub across_fails : (result : Result Plan MoveFault) {why : MoveFault} (answer : Result Plan RunFault) → old.broken ≡ false → result ≡ Err why → Gives made Makes result → IsErrAnd answer (λ y. y ≡ fault_of_move why)
+        → Plans before (told_to before file path moment text to) answer new.held (session_in g states new tally)
+    across_fails result answer unbroken was gives handed = move_fails new.held (texts_across file to.file) made Makes result answer unbroken (both.reads tally honest) told_across was gives handed
+
+    pub across_planned : (plan : Plan) → Gives made Makes (Ok plan) → Plans before (told_to before file path moment text to) (Ok plan) new.held (session_in g states new tally)
+    across_planned plan (d, is, makes) = move_planned new.held (texts_across file to.file) made d plan (both.reads tally honest) told_across is (across_texts plan new.held file to.file d both.apart makes both.ready)

@@ -2,14 +2,20 @@
 use Rattle.std.proofs.Common.{◌≡◌, ℕ, false, List, [], ◌∷◌, Option, Some, None, Result, Ok, Err, Vec, refl, sym, ◌∙◌, ap, subst}
 use Rattle.std.specs.Global.{Global}
 use Rattle.std.specs.Option.{IsSome, unwrap_or}
+use Rattle.std.specs.Result.{IsErrAnd}
 use Rattle.std.proofs.lemmas.Bool.{false≢true}
+use Rattle.org_disk.specs.declared.disk.Disk.{Ghosts}
+use Rattle.org_splice.specs.Edits.{AreEdits}
 use Rattle.org_splice.specs.Lines.{terminated}
+use Rattle.org_splice.specs.Texts.{EditedText}
 use Rattle.org_splice.proofs.Lines.{terminated_twice}
+use Rattle.org_outline.specs.States.{Keywords}
 use Rattle.org_outline.specs.declared.moves.Place.{Place}
 use Rattle.org_outline.specs.Tree.{Document, Node, print, tree}
 use Rattle.org_outline.proofs.Trees.{tree-terminated}
-use Rattle.org_stamp.specs.Calendar.{CivilMinute}
+use Rattle.org_stamp.specs.Calendar.{Moment}
 use Rattle.org_splice.specs.declared.edit.Edit.{Edit}
+use Rattle.org_texts.specs.declared.plan.Plan.{Plan}
 use Rattle.org_capture.specs.declared.fault.CaptureFault.{CaptureFault}
 use Rattle.org_capture.specs.declared.fault.CaptureFault.TheVariants as fault
 use Rattle.org_capture.specs.declared.target.Target.{Target}
@@ -17,10 +23,16 @@ use Rattle.org_capture.specs.Answers.{AnswersBytes, AnswersEdit}
 use Rattle.org_capture.specs.Capture.{captured}
 use Rattle.org_capture.specs.Entry.{IsEntry, terminated_if_one, entry_in, entry_text, only_root}
 use Rattle.org_commands.specs.Capture.{MakesEntry, entry_of_text, new_entry, one_entry}
-use Rattle.org_commands.specs.Keeping.{fault_of_capture}
+use Rattle.org_commands.specs.declared.command.RunFault.{RunFault}
+use Rattle.org_commands.specs.declared.tally.Tally.{Tally}
+use Rattle.org_commands.specs.Files.{OpenFiles}
+use Rattle.org_commands.specs.InOrder.{text_at}
+use Rattle.org_commands.specs.Keeping.{Plans, fault_of_capture}
 use Rattle.org_commands.specs.Outcome.{Outcome, Refuses, capture, changed, refusal_of, with_document, with_entry}
+use Rattle.org_commands.specs.Refile.{MakesDocument}
 use Rattle.org_commands.specs.Session.{Session}
 use Rattle.org_commands.specs.Step.{Steps}
+use Rattle.org_commands.proofs.MadeReady.{Sees, document_seen, document_texts, plans_not_fit, session_in}
 
 -- ---- the entry
 
@@ -43,10 +55,7 @@ entry_made bytes said result is answers = subst (λ (s : Result (List ℕ) Captu
     go : (r : Result (Vec ℕ Global) CaptureFault) → AnswersBytes (entry_text bytes) r → MakesEntry (one_entry (entry_in bytes)) r
     go (Ok text) answers = one_made bytes text.items (entry_in bytes) refl answers
     go (Err fault.OutOfMemory) answers = tt
-    go (Err fault.BadTemplate) answers = no_one bytes (entry_in bytes) fault.BadTemplate answers
-    go (Err fault.BadEntry) answers = no_one bytes (entry_in bytes) fault.BadEntry answers
-    go (Err fault.NotFound) answers = no_one bytes (entry_in bytes) fault.NotFound answers
-    go (Err fault.NotUnique) answers = no_one bytes (entry_in bytes) fault.NotUnique answers
+    go (Err why) answers = no_one bytes (entry_in bytes) why answers
 
 -- a template that isn't expanded
 pub no_entry_made : (said : Result (List ℕ) CaptureFault) (result : Result (Vec ℕ Global) CaptureFault) (given : Result (Vec ℕ Global) CaptureFault) (why : CaptureFault) → result ≡ Err why → given ≡ Err why
@@ -59,17 +68,12 @@ no_entry_made said result given why was is answers =
 
     go : (w : CaptureFault) → AnswersBytes said (Err w) → MakesEntry (entry_of_text said) (Err w)
     go fault.OutOfMemory answers = tt
-    go fault.BadTemplate answers = handed fault.BadTemplate answers
-    go fault.BadEntry answers = handed fault.BadEntry answers
-    go fault.NotFound answers = handed fault.NotFound answers
-    go fault.NotUnique answers = handed fault.NotUnique answers
-
--- ---- the edit
+    go w answers = handed w answers
 
 -- ---- the outcome
 
 -- what is refused before the text is looked at
-pub entry_refused : (s : Session) (name : List ℕ) (target : Target) (place : Place) (moment : CivilMinute) (template initial : List ℕ) (old : Option (List ℕ)) (result : Result (Vec ℕ Global) CaptureFault) (why : CaptureFault)
+pub entry_refused : (s : Session) (name : List ℕ) (target : Target) (place : Place) (moment : Moment) (template initial : List ℕ) (old : Option (List ℕ)) (result : Result (Vec ℕ Global) CaptureFault) (why : CaptureFault)
     → IsSome old → s.broken ≡ false → result ≡ Err why → MakesEntry (new_entry moment template initial) result → Steps s (capture s name target place moment template initial old) (Err (fault_of_capture why)) s
 entry_refused s name target place moment template initial None result why some unbroken was makes = absurd (false≢true some)
 entry_refused s name target place moment template initial (Some text) result why some unbroken was makes = go why (subst (MakesEntry (new_entry moment template initial)) was makes)
@@ -79,44 +83,40 @@ entry_refused s name target place moment template initial (Some text) result why
 
     go : (w : CaptureFault) → MakesEntry (new_entry moment template initial) (Err w) → Steps s (capture s name target place moment template initial (Some text)) (Err (fault_of_capture w)) s
     go fault.OutOfMemory makes = (unbroken, refl)
-    go fault.BadTemplate makes = (unbroken, refuses fault.BadTemplate makes, refl)
-    go fault.BadEntry makes = (unbroken, refuses fault.BadEntry makes, refl)
-    go fault.NotFound makes = (unbroken, refuses fault.NotFound makes, refl)
-    go fault.NotUnique makes = (unbroken, refuses fault.NotUnique makes, refl)
+    go w makes = (unbroken, refuses w makes, refl)
 
 -- what a capture is to do, whose template stands for this entry
-pub entry_is : (s : Session) (name : List ℕ) (target : Target) (place : Place) (moment : CivilMinute) (template initial : List ℕ) (old : Option (List ℕ)) (node : Node) → IsSome old → new_entry moment template initial ≡ Ok node
+pub entry_is : (s : Session) (name : List ℕ) (target : Target) (place : Place) (moment : Moment) (template initial : List ℕ) (old : Option (List ℕ)) (node : Node) → IsSome old → new_entry moment template initial ≡ Ok node
     → capture s name target place moment template initial old ≡ with_entry s name target place moment (Ok node) (unwrap_or old [])
 entry_is s name target place moment template initial None node some made = absurd (false≢true some)
 entry_is s name target place moment template initial (Some text) node some made = ap (λ entry. with_entry s name target place moment entry text) made
 
-module _ (s : Session) (name : List ℕ) (target : Target) (place : Place) (moment : CivilMinute) (text seen : List ℕ) (node : Node) (stays_terminated : seen ≡ terminated text) where
-  abbrev pub told : Outcome
-  told = with_entry s name target place moment (Ok node) text
-
+-- an entry that is put into a file, which the planner sees
+module _ {D : Type 0} {g : Ghosts D} {states : Keywords} {old new : OpenFiles D} {file : List ℕ} {seen : EditedText} (sees : Sees g states old new (file ∷ []) file seen) (target : Target) (place : Place) (moment : Moment) (node : Node) where
   abbrev said : Result Document CaptureFault
-  said = captured s.states target place moment node (tree seen)
+  said = captured states target place moment node (tree seen.bytes)
 
-  -- what is to be done with the text, which the planner sees terminated
-  document_is : (made : Result Document CaptureFault) → captured s.states target place moment node (tree seen) ≡ made → told ≡ with_document s name made
-  document_is made is =
-      ap (λ (d : Document). with_document s name (captured s.states target place moment node d)) (sym (ap tree stays_terminated ∙ tree-terminated text)) ∙ ap (with_document s name) is
+  -- a plan of the edit alone
+  pub entry_made_by : (plan : Plan) (edit : Edit) (answers : AnswersEdit said seen.bytes (Ok edit)) → plan.first.file ≡ file → plan.second ≡ None → plan.first.edits.items ≡ edit ∷ [] → MakesDocument file seen.bytes answers.0 plan
+  entry_made_by plan edit answers own none are = (own, none, subst (λ (es : List Edit). AreEdits es seen.bytes (print answers.0)) (sym are) answers.2.edits)
 
-  -- what is refused for its target
-  pub target_refused : (result : Result Edit CaptureFault) (why : CaptureFault) → s.broken ≡ false → result ≡ Err why → AnswersEdit (captured s.states target place moment node (tree seen)) seen result
-      → Steps s told (Err (fault_of_capture why)) s
-  target_refused result why unbroken was answers = go why (subst (AnswersEdit said seen) was answers)
-    where
-      refuses : (w : CaptureFault) → said ≡ Err w → told ≡ Refuses (refusal_of w)
-      refuses w is = document_is (Err w) is
+  module _ (tally : Tally) (honest : g.honest new.disk) where
+    abbrev s : Session
+    s = session_in g states old tally
 
-      go : (w : CaptureFault) → AnswersEdit said seen (Err w) → Steps s told (Err (fault_of_capture w)) s
-      go fault.OutOfMemory answers = (unbroken, refl)
-      go fault.BadTemplate answers = (unbroken, refuses fault.BadTemplate answers, refl)
-      go fault.BadEntry answers = (unbroken, refuses fault.BadEntry answers, refl)
-      go fault.NotFound answers = (unbroken, refuses fault.NotFound answers, refl)
-      go fault.NotUnique answers = (unbroken, refuses fault.NotUnique answers, refl)
+    abbrev told : Outcome
+    told = with_entry s file target place moment (Ok node) (unwrap_or (text_at s.names s.files file) [])
 
-  pub target_planned : (edit : Edit) (changes : List (List ℕ × List ℕ)) → (answers : AnswersEdit (captured s.states target place moment node (tree seen)) seen (Ok edit)) → changes ≡ (name, print answers.0) ∷ []
-      → told ≡ changed s changes
-  target_planned edit changes answers are = document_is (Ok answers.0) answers.1 ∙ ap (changed s) (sym are)
+    document_is : (made : Result Document CaptureFault) → said ≡ made → told ≡ with_document s file made
+    document_is made is = ap (λ (d : Document). with_document s file (captured states target place moment node d)) (document_seen sees tally honest) ∙ ap (with_document s file) is
+
+    -- what is refused for its target
+    target_refused : (why : CaptureFault) → AnswersEdit said seen.bytes (Err why) → Steps s told (Err (fault_of_capture why)) s
+    target_refused fault.OutOfMemory answers = (sees.unbroken, refl)
+    target_refused why answers = (sees.unbroken, document_is (Err why) answers, refl)
+
+    pub entry_fails : (result : Result Edit CaptureFault) {why : CaptureFault} (answer : Result Plan RunFault) → result ≡ Err why → AnswersEdit said seen.bytes result → IsErrAnd answer (λ y. y ≡ fault_of_capture why) → Plans s told answer new.held (session_in g states new tally)
+    entry_fails result {why} answer was answers handed = plans_not_fit s (session_in g states new tally) told new.held (fault_of_capture why) answer handed (sees.reads tally honest) (target_refused why (subst (AnswersEdit said seen.bytes) was answers))
+
+    pub entry_planned : (plan : Plan) (edit : Edit) (answers : AnswersEdit said seen.bytes (Ok edit)) → MakesDocument file seen.bytes answers.0 plan → Plans s told (Ok plan) new.held (session_in g states new tally)
+    entry_planned plan edit answers makes = (document_is (Ok answers.0) answers.1 ∙ ap (changed s) (sym (document_texts sees plan answers.0 makes)), sees.reads tally honest)

@@ -1,167 +1,338 @@
 -- What is noted of a store's files stays true of their texts.
-use Rattle.std.proofs.Common.{◌≡◌, ◌≢◌, ◌⊎◌, inl, inr, ℕ, zero, suc, ◌+◌, ◌<◌, ◌≤◌, Bool, true, false, List, [], ◌∷◌, length, slice_get, Option, Some, None, refl, sym, ◌∙◌, ap, subst, below_more, arith}
+use Rattle.std.proofs.Common.{◌≡◌, ◌≢◌, ◌⊎◌, inl, inr, ℕ, zero, suc, ◌+◌, ◌<◌, ◌≤◌, true, false, List, [], ◌∷◌, length, drop, get_or, slice_get, Option, Some, None, refl, sym, ◌∙◌, ap, subst, below_more, arith}
 use Rattle.std.proofs.Math.ListN.{set}
 use Rattle.std.proofs.lemmas.Option.{slice_get_within}
 use Rattle.std.specs.Prelude.{OnErr, OnOk, Result, Ok, Err}
-use Rattle.std.specs.Option.{option_map}
+use Rattle.std.specs.Option.{ForSome, option_map}
+use Rattle.std.specs.Prelude.{IsSomeAnd}
 use Rattle.std.specs.Str.{bytes_eq}
 use Rattle.org_disk.proofs.Names.{name_cases}
-use Rattle.org_splice.specs.Texts.{EditedText, terminated_text, settled}
+use Rattle.org_splice.specs.declared.edit.Edit.{Edit}
+use Rattle.org_splice.specs.Edits.{CanApply, applied, applied_each}
+use Rattle.org_splice.specs.Lines.{terminated}
+use Rattle.org_splice.specs.Texts.{EditedText, terminated_text, settled, spliced_each}
+use Rattle.org_splice.proofs.Lines.{terminated_twice}
 use Rattle.org_outline.specs.Tree.{tree}
 use Rattle.org_outline.proofs.Trees.{tree-terminated}
-use Rattle.org_state.specs.declared.run.Running.{Running}
+use Rattle.org_state.specs.declared.searched.Searched.{Searched}
+use Rattle.org_state.specs.declared.searched.Searched.TheVariants.{Clockless}
 use Rattle.org_state.specs.Clock.{running_in}
+use Rattle.org_state.specs.Searched.{IsSearched}
+use Rattle.org_texts.specs.declared.plan.FileEdits.{FileEdits}
 use Rattle.org_texts.specs.declared.plan.Plan.{Plan}
-use Rattle.org_texts.specs.Plan.{planned}
+use Rattle.org_texts.specs.Plan.{CanEdit, IsPlan, planned, with_edits, with_second}
 use Rattle.org_texts.specs.Texts.{Holding, TextSet, terminated_in, settled_set, text_of, with_text}
 use Rattle.org_texts.proofs.Heads.{terminated_text-bytes}
 use Rattle.org_texts.proofs.Looking.{change_other, change_this, text_of-settled}
 use Rattle.org_commands.specs.Clocks.{RunsIn}
-use Rattle.org_commands.specs.Files.{files_of}
+use Rattle.org_commands.specs.Files.{AreReady, files_of, second_file}
 use Rattle.org_commands.specs.InOrder.{is_name}
-use Rattle.org_commands.specs.Clockless.{AreClockless, Forgets, IsNoted}
-use Rattle.org_commands.proofs.Held.{held_other, plan_other}
+use Rattle.org_commands.specs.Clockless.{AreKnown, FollowsEdits, IsKnown, IsNoted, Lowers, StaysKnown}
+use Rattle.org_commands.proofs.Held.{held_other}
+use Rattle.org_commands.proofs.Plans.{first_name, one_name, ready_text, second_name}
 
 -- ---- one text
 
 -- a text that is the same
-same_text : (old new : TextSet) (name : List ℕ) (found : Option Running) → text_of new name ≡ text_of old name → RunsIn old name found → RunsIn new name found
-same_text old new name found same runs = (runs.0, same ∙ runs.1, runs.2)
+same_text : (old new : TextSet) (name : List ℕ) (searched : Searched) → text_of new name ≡ text_of old name → IsKnown searched old name → IsKnown searched new name
+same_text old new name searched same known = (known.0, same ∙ known.1, known.2)
 
 -- another text is held
-runs_held : (own bytes : List ℕ) (set : TextSet) (name : List ℕ) → text_of set own ≡ None → RunsIn set name None → RunsIn (with_text own bytes set) name None
-runs_held own bytes set name none runs = elim (name_cases own name) [
+known_held : (own bytes : List ℕ) (set : TextSet) (name : List ℕ) (searched : Searched) → text_of set own ≡ None → IsKnown searched set name → IsKnown searched (with_text own bytes set) name
+known_held own bytes set name searched none known = elim (name_cases own name) [
   | inl is ↦
-      let no : Some runs.0 ≡ None = sym runs.1 ∙ ap (text_of set) (sym is.0) ∙ none in
+      let no : Some known.0 ≡ None = sym known.1 ∙ ap (text_of set) (sym is.0) ∙ none in
       absurd (cc)
-  | inr apart ↦ same_text set (with_text own bytes set) name None (held_other own bytes set name apart.0) runs
+  | inr apart ↦ same_text set (with_text own bytes set) name searched (held_other own bytes set name apart.0) known
 ]
 
 -- a text is terminated
-runs_terminated : (own : List ℕ) (set : TextSet) (name : List ℕ) → RunsIn set name None → RunsIn (terminated_in own set) name None
-runs_terminated own set name runs = elim (name_cases own name) [
+known_terminated : (own : List ℕ) (set : TextSet) (name : List ℕ) (searched : Searched) → IsKnown searched set name → IsKnown searched (terminated_in own set) name
+known_terminated own set name searched known = elim (name_cases own name) [
   | inl is ↦
-      let here : text_of set own ≡ Some runs.0 = ap (text_of set) is.0 ∙ runs.1 in
-      subst (λ (n : List ℕ). RunsIn (terminated_in own set) n None) is.0 (
-        terminated_text runs.0,
+      let here : text_of set own ≡ Some known.0 = ap (text_of set) is.0 ∙ known.1 in
+      let bytes : terminated known.0.bytes ≡ terminated (terminated_text known.0).bytes = sym (ap terminated (terminated_text-bytes known.0) ∙ terminated_twice known.0.bytes) in
+      subst (λ (n : List ℕ). IsKnown searched (terminated_in own set) n) is.0 (
+        terminated_text known.0,
         change_this own terminated_text set.texts ∙ ap (option_map terminated_text) here,
-        ap (λ (b : List ℕ). running_in (tree b)) (terminated_text-bytes runs.0) ∙ ap running_in (tree-terminated runs.0.bytes) ∙ runs.2,
+        subst (IsSearched searched) bytes known.2,
       )
-  | inr apart ↦ same_text set (terminated_in own set) name None (change_other own name terminated_text set.texts apart.0) runs
+  | inr apart ↦ same_text set (terminated_in own set) name searched (change_other own name terminated_text set.texts apart.0) known
 ]
 
 -- the texts are on the disk
-runs_settled : (set : TextSet) (name : List ℕ) → RunsIn set name None → RunsIn (settled_set set) name None
-runs_settled set name runs =
-    (settled runs.0.bytes, text_of-settled set name ∙ ap (option_map (λ (t : EditedText). settled t.bytes)) runs.1, runs.2)
+known_settled : (set : TextSet) (name : List ℕ) (searched : Searched) → IsKnown searched set name → IsKnown searched (settled_set set) name
+known_settled set name searched known =
+    (settled known.0.bytes, text_of-settled set name ∙ ap (option_map (λ (t : EditedText). settled t.bytes)) known.1, known.2)
+
+-- no clock runs in a text of which that is known
+pub clockless_known : (searched : Searched) (set : TextSet) (name : List ℕ) → searched ≡ Clockless → IsKnown searched set name → RunsIn set name None
+clockless_known searched set name is known =
+    let none : running_in (tree (terminated known.0.bytes)) ≡ None = subst (λ (s : Searched). IsSearched s (terminated known.0.bytes)) is known.2 in
+    (known.0, known.1, ap running_in (sym (tree-terminated known.0.bytes)) ∙ none)
 
 -- ---- the notes
 
-clockless_still : (names : List (List ℕ)) (clockless : List Bool) (old new : TextSet) → ((name : List ℕ) → RunsIn old name None → RunsIn new name None) → AreClockless names clockless old → AreClockless names clockless new
-clockless_still names clockless old new still are i at name is = still name (are i at name is)
+known_still : (names : List (List ℕ)) (notes : List Searched) (old new : TextSet) → ((name : List ℕ) (searched : Searched) → IsKnown searched old name → IsKnown searched new name) → AreKnown names notes old → AreKnown names notes new
+known_still names notes old new still are i searched at name is = still name searched (are i searched at name is)
 
-pub noted_still : (names more : List (List ℕ)) (clockless : List Bool) (held : Holding) → more ≡ names → IsNoted names clockless held → IsNoted more clockless held
-noted_still names more clockless held same noted = subst (λ (ns : List (List ℕ)). IsNoted ns clockless held) (sym same) noted
+pub noted_still : (names more : List (List ℕ)) (notes : List Searched) (held : Holding) → more ≡ names → IsNoted names notes held → IsNoted more notes held
+noted_still names more notes held same noted = subst (λ (ns : List (List ℕ)). IsNoted ns notes held) (sym same) noted
 
-pub noted_held : (own bytes : List ℕ) (names : List (List ℕ)) (clockless : List Bool) (held next : Holding) → text_of held.now own ≡ None → text_of held.before own ≡ None → next.now ≡ with_text own bytes held.now
-    → next.before ≡ with_text own bytes held.before → IsNoted names clockless held → IsNoted names clockless next
-noted_held own bytes names clockless held next none none_before now before noted = record {
-  now = subst (AreClockless names clockless) (sym now) (clockless_still names clockless held.now (with_text own bytes held.now) (λ name runs. runs_held own bytes held.now name none runs) noted.now);
-  before = subst (AreClockless names clockless) (sym before) (clockless_still names clockless held.before (with_text own bytes held.before) (λ name runs. runs_held own bytes held.before name none_before runs) noted.before);
+pub noted_held : (own bytes : List ℕ) (names : List (List ℕ)) (notes : List Searched) (held next : Holding) → text_of held.now own ≡ None → text_of held.before own ≡ None → next.now ≡ with_text own bytes held.now
+    → next.before ≡ with_text own bytes held.before → IsNoted names notes held → IsNoted names notes next
+noted_held own bytes names notes held next none none_before now before noted = record {
+  now = subst (AreKnown names notes) (sym now) (known_still names notes held.now (with_text own bytes held.now) (λ name searched known. known_held own bytes held.now name searched none known) noted.now);
+  before = subst (AreKnown names notes) (sym before) (known_still names notes held.before (with_text own bytes held.before) (λ name searched known. known_held own bytes held.before name searched none_before known) noted.before);
 }
 
 -- the edits of a command, taken back or kept
-pub noted_undone : (names : List (List ℕ)) (clockless : List Bool) (held next : Holding) → next.now ≡ held.before → next.before ≡ held.before → IsNoted names clockless held → IsNoted names clockless next
-noted_undone names clockless held next now before noted = record {
-  now = subst (AreClockless names clockless) (sym now) noted.before;
-  before = subst (AreClockless names clockless) (sym before) noted.before;
+pub noted_undone : (names : List (List ℕ)) (notes : List Searched) (held next : Holding) → next.now ≡ held.before → next.before ≡ held.before → IsNoted names notes held → IsNoted names notes next
+noted_undone names notes held next now before noted = record {
+  now = subst (AreKnown names notes) (sym now) noted.before;
+  before = subst (AreKnown names notes) (sym before) noted.before;
 }
 
-pub noted_kept : (names : List (List ℕ)) (clockless : List Bool) (held next : Holding) → next.now ≡ held.now → next.before ≡ held.now → IsNoted names clockless held → IsNoted names clockless next
-noted_kept names clockless held next now before noted = record {
-  now = subst (AreClockless names clockless) (sym now) noted.now;
-  before = subst (AreClockless names clockless) (sym before) noted.now;
+pub noted_kept : (names : List (List ℕ)) (notes : List Searched) (held next : Holding) → next.now ≡ held.now → next.before ≡ held.now → IsNoted names notes held → IsNoted names notes next
+noted_kept names notes held next now before noted = record {
+  now = subst (AreKnown names notes) (sym now) noted.now;
+  before = subst (AreKnown names notes) (sym before) noted.now;
 }
 
-pub noted_settled : (names : List (List ℕ)) (clockless : List Bool) (held next : Holding) → next.now ≡ settled_set held.now → next.before ≡ settled_set held.now → IsNoted names clockless held → IsNoted names clockless next
-noted_settled names clockless held next now before noted =
-    let are : AreClockless names clockless (settled_set held.now) = clockless_still names clockless held.now (settled_set held.now) (runs_settled held.now) noted.now in
-    record { now = subst (AreClockless names clockless) (sym now) are; before = subst (AreClockless names clockless) (sym before) are }
+pub noted_settled : (names : List (List ℕ)) (notes : List Searched) (held next : Holding) → next.now ≡ settled_set held.now → next.before ≡ settled_set held.now → IsNoted names notes held → IsNoted names notes next
+noted_settled names notes held next now before noted =
+    let are : AreKnown names notes (settled_set held.now) = known_still names notes held.now (settled_set held.now) (λ name searched known. known_settled held.now name searched known) noted.now in
+    record { now = subst (AreKnown names notes) (sym now) are; before = subst (AreKnown names notes) (sym before) are }
 
 -- a text that is made ready, or the command's edits that were taken back
-pub noted_made_ready : {E : Type 0} (result : Result (Unit {0}) E) (own : List ℕ) (names : List (List ℕ)) (clockless : List Bool) (held next : Holding)
-    → OnOk result (next.now ≡ terminated_in own held.now) → OnErr result (next.now ≡ held.before) → next.before ≡ held.before → IsNoted names clockless held → IsNoted names clockless next
-noted_made_ready (Ok _) own names clockless held next now undone before noted = record {
-  now = subst (AreClockless names clockless) (sym now) (clockless_still names clockless held.now (terminated_in own held.now) (runs_terminated own held.now) noted.now);
-  before = subst (AreClockless names clockless) (sym before) noted.before;
+pub noted_made_ready : {E : Type 0} (result : Result (Unit {0}) E) (own : List ℕ) (names : List (List ℕ)) (notes : List Searched) (held next : Holding)
+    → OnOk result (next.now ≡ terminated_in own held.now) → OnErr result (next.now ≡ held.before) → next.before ≡ held.before → IsNoted names notes held → IsNoted names notes next
+noted_made_ready (Ok _) own names notes held next now undone before noted = record {
+  now = subst (AreKnown names notes) (sym now) (known_still names notes held.now (terminated_in own held.now) (λ name searched known. known_terminated own held.now name searched known) noted.now);
+  before = subst (AreKnown names notes) (sym before) noted.before;
 }
-noted_made_ready (Err e) own names clockless held next now undone before noted = noted_undone names clockless held next undone before noted
+noted_made_ready (Err e) own names notes held next now undone before noted = noted_undone names notes held next undone before noted
 
--- ---- notes are made and forgotten
-
-pub nothing_noted : (names : List (List ℕ)) (clockless : List Bool) (held : Holding) → clockless ≡ [] → IsNoted names clockless held
-nothing_noted names clockless held none =
-    let no : (set : TextSet) → AreClockless names clockless set = λ set i at. absurd (not_in i (ap (λ (q : List Bool). slice_get q i) (sym none) ∙ at)) in
+pub nothing_noted : (names : List (List ℕ)) (notes : List Searched) (held : Holding) → notes ≡ [] → IsNoted names notes held
+nothing_noted names notes held none =
+    let no : (set : TextSet) → AreKnown names notes set = λ set i searched at. absurd (not_in i searched (ap (λ (q : List Searched). slice_get q i) (sym none) ∙ at)) in
     record { now = no held.now; before = no held.before }
   where
-    not_in : (i : ℕ) → ◌≡◌ {A = Option Bool} (slice_get [] i) (Some true) → ⊥
-    not_in i at = cc
+    not_in : (i : ℕ) (searched : Searched) → ◌≡◌ {A = Option Searched} (slice_get [] i) (Some searched) → ⊥
+    not_in i searched at = cc
 
-pub noted_fewer : (names gone : List (List ℕ)) (old new : List Bool) (held : Holding) → Forgets names gone old new → IsNoted names old held → IsNoted names new held
-noted_fewer names gone old new held forgets noted = record {
-  now = λ i at. noted.now i (forgets i at).0;
-  before = λ i at. noted.before i (forgets i at).0;
-}
+-- ---- a file is noted
 
-pub noted_put : (plan : Plan) (names : List (List ℕ)) (old new : List Bool) (held next : Holding) → next.now ≡ planned plan held.now → next.before ≡ held.before → Forgets names (files_of plan) old new → IsNoted names old held
-    → IsNoted names new next
-noted_put plan names old new held next now before forgets noted = record {
-  now = subst (AreClockless names new) (sym now) (λ i at name is.
-      let left = forgets i at in
-      same_text held.now (planned plan held.now) name None (plan_other plan held.now name (left.1 name is)).0 (noted.now i left.0 name is));
-  before = subst (AreClockless names new) (sym before) (noted_fewer names (files_of plan) old new held forgets noted).before;
-}
-
-pub noted_more : (names : List (List ℕ)) (old new : List Bool) (held : Holding) (index : ℕ) → ((i : ℕ) → slice_get new i ≡ Some true → (i ≡ index) ⊎ (slice_get old i ≡ Some true)) → held.now ≡ held.before
-    → ((name : List ℕ) → slice_get names index ≡ Some name → RunsIn held.before name None) → IsNoted names old held → IsNoted names new held
-noted_more names old new held index more unedited runs noted =
-    record { now = subst (AreClockless names new) (sym unedited) clockless; before = clockless }
+pub noted_more : (names : List (List ℕ)) (old new : List Searched) (held : Holding) (index : ℕ) (searched : Searched)
+    → ((i : ℕ) (s : Searched) → slice_get new i ≡ Some s → ((i ≡ index) × (s ≡ searched)) ⊎ (slice_get old i ≡ Some s)) → held.now ≡ held.before
+    → ((name : List ℕ) → slice_get names index ≡ Some name → IsKnown searched held.before name) → IsNoted names old held → IsNoted names new held
+noted_more names old new held index searched more unedited known noted =
+    record { now = subst (AreKnown names new) (sym unedited) are; before = are }
   where
-    clockless : AreClockless names new held.before
-    clockless i at name is = elim (more i at) [
-      | inl here ↦ runs name (subst (λ (k : ℕ). slice_get names k ≡ Some name) here is)
-      | inr was ↦ noted.before i was name is
+    are : AreKnown names new held.before
+    are i s at name is = elim (more i s at) [
+      | inl here ↦
+          subst (λ (q : Searched). IsKnown q held.before name) (sym here.1)
+          (known name (subst (λ (k : ℕ). slice_get names k ≡ Some name) here.0 is))
+      | inr was ↦ noted.before i s was name is
     ]
 
--- what was forgotten, as far as the names that were looked at
-abbrev pub ForgetsBelow : List (List ℕ) → List ℕ → ℕ → List Bool → List Bool → Type 0
-ForgetsBelow names file index old new =
-    (i : ℕ) → slice_get new i ≡ Some true → (slice_get old i ≡ Some true) × (i < index → (name : List ℕ) → slice_get names i ≡ Some name → is_name (file ∷ []) name ≡ false)
+-- ---- edits
 
--- a note that was taken away
-taken : (clockless : List Bool) (index i : ℕ) → slice_get (set clockless index false) i ≡ Some true → (i ≢ index) × (slice_get clockless i ≡ Some true)
-taken [] index i at = absurd (cc)
-taken (x ∷ xs) zero zero at = absurd (cc)
-taken (x ∷ xs) zero (suc i) at = (λ is. cc, at)
-taken (x ∷ xs) (suc index) zero at = (λ is. cc, at)
-taken (x ∷ xs) (suc index) (suc i) at = let later = taken xs index i at in (λ is. let same : i ≡ index = omega (arith, is) in later.0 same, later.1)
+-- the notes of a text whose edits are made
+pub stays_lowered : (names : List (List ℕ)) (file : List ℕ) (size : ℕ) (edits : List Edit) (old new : List Searched) (set : TextSet) → Lowers names file size edits old new → AreKnown names old set → AreKnown names new set
+stays_lowered names file size edits old new set lowers are i searched at name is =
+    let low = lowers i searched at in
+    let known = are i low.0 low.1 name is in
+    (known.0, known.1, low.2 (terminated known.0.bytes) known.2)
 
-pub forgets_this : (names : List (List ℕ)) (file : List ℕ) (index : ℕ) (old mid new : List Bool) → new ≡ set mid index false → ForgetsBelow names file index old mid → ForgetsBelow names file (index + 1) old new
-forgets_this names file index old mid new is sofar i at =
-    let was = taken mid index i (ap (λ (q : List Bool). slice_get q i) (sym is) ∙ at) in
-    let left = sofar i was.1 in
-    (left.0, λ below. left.1 (omega (arith, below, was.0)))
+-- the bytes behind edits
+pub spliced_bytes : (edits : List Edit) (text : EditedText) → (spliced_each edits text).bytes ≡ applied_each edits text.bytes
+spliced_bytes [] text = refl
+spliced_bytes (e ∷ es) text = spliced_bytes es _
 
-pub forgets_other : (names : List (List ℕ)) (file : List ℕ) (index : ℕ) (old new : List Bool) → ((name : List ℕ) → slice_get names index ≡ Some name → bytes_eq file name ≡ false) → ForgetsBelow names file index old new
-    → ForgetsBelow names file (index + 1) old new
-forgets_other names file index old new other sofar i at =
-    let here : (name : List ℕ) → slice_get names index ≡ Some name → is_name (file ∷ []) name ≡ false = λ name is. let f = other name is in rw f refl in
-    ((sofar i at).0, λ below. below_more (λ (j : ℕ). slice_get new j ≡ Some true → (name : List ℕ) → slice_get names j ≡ Some name → is_name (file ∷ []) name ≡ false) index (λ j sooner was. (sofar j was).1 sooner) (λ was. here) i below at)
+applied_ends : (edits : List Edit) (text : List ℕ) → terminated text ≡ text → CanApply edits text → terminated (applied_each edits text) ≡ applied_each edits text
+applied_ends [] text whole can = whole
+applied_ends (e ∷ es) text whole can = applied_ends es (applied e text) can.1 can.2
 
-pub forgets_past : (names : List (List ℕ)) (file : List ℕ) (index next : ℕ) (old new : List Bool) → length new ≤ index → ForgetsBelow names file index old new → ForgetsBelow names file next old new
-forgets_past names file index next old new past sofar i at =
-    ((sofar i at).0, λ _. (sofar i at).1 (omega (arith, past, slice_get_within new i true at)))
+pub follows_lowered : (names : List (List ℕ)) (change : FileEdits) (size : ℕ) (old new : List Searched) (set : TextSet) → Lowers names change.file size change.edits.items old new
+    → CanEdit change set → ForSome (text_of set change.file) (λ (text : EditedText). size ≤ length text.bytes) → ForSome (text_of set change.file) (λ (text : EditedText). terminated text.bytes ≡ text.bytes)
+    → AreKnown names old set → AreKnown names new (with_edits change set)
+follows_lowered names change size old new set lowers can long whole are i searched at name is =
+    let low = lowers i searched at in
+    let known = are i low.0 low.1 name is in
+    let text = known.0 in
+    elim (name_cases change.file name) [
+      | inl same ↦
+          let here : text_of set change.file ≡ Some text = ap (text_of set) same.0 ∙ known.1 in
+          let able : CanApply change.edits.items text.bytes = subst (λ (o : Option EditedText). IsSomeAnd o (λ t. CanApply change.edits.items t.bytes)) here can in
+          let ended : terminated text.bytes ≡ text.bytes = whole text here in
+          let follows = low.3 name is same.1 text.bytes (long text here) able (subst (IsSearched low.0) ended known.2) in
+          let bytes : (spliced_each change.edits.items text).bytes ≡ applied_each change.edits.items text.bytes = spliced_bytes change.edits.items text in
+          let after : applied_each change.edits.items text.bytes ≡ terminated (spliced_each change.edits.items text).bytes = sym (ap terminated bytes ∙ applied_ends change.edits.items text.bytes ended able) in
+          subst (λ (n : List ℕ). IsKnown searched (with_edits change set) n) same.0 (
+            spliced_each change.edits.items text,
+            change_this change.file (spliced_each change.edits.items) set.texts ∙ ap (option_map (spliced_each change.edits.items)) here,
+            subst (IsSearched searched) after follows,
+          )
+      | inr apart ↦
+          same_text set (with_edits change set) name searched (change_other change.file name (spliced_each change.edits.items) set.texts apart.0) (text, known.1, low.2 (terminated text.bytes) known.2)
+    ]
 
-pub forgets_all : (names : List (List ℕ)) (file : List ℕ) (index : ℕ) (old new : List Bool) → length names ≤ index → ForgetsBelow names file index old new → Forgets names (file ∷ []) old new
-forgets_all names file index old new past sofar i at =
-    ((sofar i at).0, λ name is. (sofar i at).1 (omega (arith, past, slice_get_within names i name is)) name is)
+-- ---- the notes of one file lowered
+
+-- .. as far as the names that were looked at
+abbrev pub LowersBelow : List (List ℕ) → List ℕ → ℕ → List Edit → ℕ → List Searched → List Searched → Type 0
+LowersBelow names file size edits index old new =
+    (i : ℕ) (searched : Searched) → slice_get new i ≡ Some searched
+    → (was : Searched) × (slice_get old i ≡ Some was) × StaysKnown was searched
+    × (i < index → (name : List ℕ) → slice_get names i ≡ Some name → bytes_eq file name ≡ true → FollowsEdits size edits was searched)
+
+pub lowers_none : (names : List (List ℕ)) (file : List ℕ) (size : ℕ) (edits : List Edit) (old : List Searched) → LowersBelow names file size edits 0 old old
+lowers_none names file size edits old i searched at = (searched, at, λ text known. known, λ below. absurd (omega (arith, below)))
+
+-- a note that was put in another's place
+replaced : (notes : List Searched) (index i : ℕ) (new s : Searched) → index < length notes → slice_get (set notes index new) i ≡ Some s → ((i ≡ index) × (s ≡ new)) ⊎ ((i ≢ index) × (slice_get notes i ≡ Some s))
+replaced [] index i new s within at = absurd (omega (arith, within))
+replaced (x ∷ xs) zero zero new s within at = inl (refl, cc)
+replaced (x ∷ xs) zero (suc i) new s within at = inr (λ is. cc, at)
+replaced (x ∷ xs) (suc index) zero new s within at = inr (λ is. cc, at)
+replaced (x ∷ xs) (suc index) (suc i) new s within at = elim (replaced xs index i new s (omega (arith, within)) at) [
+  | inl here ↦ inl (ap suc here.0, here.1)
+  | inr other ↦ inr (λ is. let same : i ≡ index = omega (arith, is) in other.0 same, other.1)
+]
+
+pub lowers_this : (names : List (List ℕ)) (file : List ℕ) (size : ℕ) (edits : List Edit) (index : ℕ) (old mid new : List Searched) (here lower : Searched) → index < length mid → slice_get mid index ≡ Some here → new ≡ set mid index lower
+    → StaysKnown here lower → FollowsEdits size edits here lower
+    → LowersBelow names file size edits index old mid → LowersBelow names file size edits (index + 1) old new
+lowers_this names file size edits index old mid new here lower within at_here is stays follows sofar i searched at =
+    elim (replaced mid index i lower searched within (ap (λ (q : List Searched). slice_get q i) (sym is) ∙ at)) [
+      | inl this ↦
+          let was_here : slice_get mid i ≡ Some here = ap (slice_get mid) this.0 ∙ at_here in
+          let was = sofar i here was_here in
+          subst (λ (s : Searched). (was : Searched) × (slice_get old i ≡ Some was) × StaysKnown was s × (i < index + 1 → (name : List ℕ) → slice_get names i ≡ Some name → bytes_eq file name ≡ true → FollowsEdits size edits was s)) (sym this.1)
+          (was.0, was.1, λ text known. stays text (was.2 text known), λ below name at_name same text long can known. follows text long can (was.2 text known))
+      | inr other ↦
+          let was = sofar i searched other.1 in
+          (was.0, was.1, was.2, λ below. was.3 (omega (arith, below, other.0)))
+    ]
+
+pub lowers_other : (names : List (List ℕ)) (file : List ℕ) (size : ℕ) (edits : List Edit) (index : ℕ) (old new : List Searched) → ((name : List ℕ) → slice_get names index ≡ Some name → bytes_eq file name ≡ false) → LowersBelow names file size edits index old new
+    → LowersBelow names file size edits (index + 1) old new
+lowers_other names file size edits index old new other sofar i searched at =
+    let was = sofar i searched at in (
+      was.0,
+      was.1,
+      was.2,
+      λ below name at_name same. below_more (λ (j : ℕ). j ≡ i → slice_get names j ≡ Some name → FollowsEdits size edits was.0 searched) index
+          (λ j sooner is there. was.3 (omega (arith, sooner, is)) name at_name same)
+          (λ is there. absurd (let no = other name there in cc)) i below refl at_name,
+    )
+
+pub lowers_past : (names : List (List ℕ)) (file : List ℕ) (size : ℕ) (edits : List Edit) (index next : ℕ) (old new : List Searched) → length new ≤ index → LowersBelow names file size edits index old new → LowersBelow names file size edits next old new
+lowers_past names file size edits index next old new past sofar i searched at =
+    let was = sofar i searched at in
+    (was.0, was.1, was.2, λ below. was.3 (omega (arith, past, slice_get_within new i searched at)))
+
+pub lowers_all : (names : List (List ℕ)) (file : List ℕ) (size : ℕ) (edits : List Edit) (index : ℕ) (old new : List Searched) → length names ≤ index → LowersBelow names file size edits index old new → Lowers names file size edits old new
+lowers_all names file size edits index old new past sofar i searched at =
+    let was = sofar i searched at in
+    (was.0, was.1, was.2, λ name at_name same. was.3 (omega (arith, past, slice_get_within names i name at_name)) name at_name same)
+
+-- a plan's edits, in memory
+pub noted_put : (plan : Plan) (names ns : List (List ℕ)) (old new : List Searched) (held next : Holding) → ns ≡ names → next.now ≡ planned plan held.now → next.before ≡ held.before
+    → ((set : TextSet) → AreKnown ns old set → AreKnown ns new set) → (AreKnown ns old held.now → AreKnown ns new (planned plan held.now)) → IsNoted names old held → IsNoted names new next
+noted_put plan names ns old new held next same now before stays follows noted =
+    let N : List Searched → TextSet → Type 0 = λ notes set. AreKnown names notes set in
+    let stays_here : N old held.before → N new held.before = subst (λ (k : List (List ℕ)). AreKnown k old held.before → AreKnown k new held.before) same (stays held.before) in
+    let follows_here : N old held.now → N new (planned plan held.now) = subst (λ (k : List (List ℕ)). AreKnown k old held.now → AreKnown k new (planned plan held.now)) same follows in
+    record {
+      now = subst (N new) (sym now) (follows_here noted.now);
+      before = subst (N new) (sym before) (stays_here noted.before);
+    }
+
+pub noted_not_put : (names ns : List (List ℕ)) (old new : List Searched) (held next : Holding) → ns ≡ names → next.now ≡ held.before → next.before ≡ held.before
+    → ((set : TextSet) → AreKnown ns old set → AreKnown ns new set) → IsNoted names old held → IsNoted names new next
+noted_not_put names ns old new held next same now before stays noted =
+    let stays_here : AreKnown names old held.before → AreKnown names new held.before = subst (λ (k : List (List ℕ)). AreKnown k old held.before → AreKnown k new held.before) same (stays held.before) in
+    record {
+      now = subst (AreKnown names new) (sym now) (stays_here noted.before);
+      before = subst (AreKnown names new) (sym before) (stays_here noted.before);
+    }
+
+-- what a search found of a text that was ready
+pub known_ready : (held : Holding) (before : TextSet) (file : List ℕ) (seen : EditedText) (searched : Searched) → AreReady (file ∷ []) held → text_of held.now file ≡ Some seen → before ≡ held.before → IsSearched searched seen.bytes
+    → IsKnown searched before file
+known_ready held before file seen searched ready at same known =
+    let old = ready_text (file ∷ []) held file seen ready (one_name file) at in
+    subst (λ (set : TextSet). IsKnown searched set file) (sym same) (old.0, old.1, subst (IsSearched searched) old.2 known)
+
+-- what is left of edits, of which one is made
+pub edits_left : (rest : List Edit) (index size next : ℕ) (was searched : Searched) (e : Edit) (text : List ℕ) (edits : List Edit) → index < length rest → e ≡ get_or rest index e
+    → ((t : List ℕ) → size ≤ length t → e.at + e.removed ≤ length t → next ≤ length (applied e t))
+    → ((t : List ℕ) → size ≤ length t → e.at + e.removed ≤ length t → IsSearched was t → IsSearched searched (applied e t))
+    → (now : List ℕ) × (size ≤ length now) × CanApply (drop index rest) now × (applied_each (drop index rest) now ≡ applied_each edits text) × IsSearched was now
+    → (now : List ℕ) × (next ≤ length now) × CanApply (drop (index + 1) rest) now × (applied_each (drop (index + 1) rest) now ≡ applied_each edits text) × IsSearched searched now
+edits_left rest index size next was searched e text edits within is smaller behind (now, small, able, same, known) =
+    let next_index : suc index ≡ index + 1 = omega arith in
+    let split : drop index rest ≡ e ∷ drop (index + 1) rest =
+    drop_split rest index e within ∙ ap (λ (x : Edit). x ∷ drop (suc index) rest) (sym is) ∙ ap (λ (n : ℕ). e ∷ drop n rest) next_index in
+    let can : CanApply (e ∷ drop (index + 1) rest) now = subst (λ (es : List Edit). CanApply es now) split able in
+    (applied e now, smaller now small can.0, can.2, ap (λ (es : List Edit). applied_each es now) (sym split) ∙ same, behind now small can.0 known)
+  where
+    drop_split : (xs : List Edit) (i : ℕ) (d : Edit) → i < length xs → drop i xs ≡ get_or xs i d ∷ drop (suc i) xs
+    drop_split [] i d less = absurd (omega (arith, less))
+    drop_split (x ∷ xs) zero d less = refl
+    drop_split (x ∷ xs) (suc i) d less = drop_split xs i d (omega (arith, less))
+
+-- ---- a plan
+
+ends_ready : (names : List (List ℕ)) (held : Holding) (file : List ℕ) → AreReady names held → is_name names file ≡ true → ForSome (text_of held.now file) (λ (text : EditedText). terminated text.bytes ≡ text.bytes)
+ends_ready names held file ready there text at =
+    let old = ready_text names held file text ready there at in
+    ap terminated old.2 ∙ terminated_twice old.0.bytes ∙ sym old.2
+
+second_there : (plan : Plan) (change : FileEdits) → plan.second ≡ Some change → is_name (files_of plan) change.file ≡ true
+second_there plan change is = subst (λ (o : Option FileEdits). is_name (plan.first.file ∷ second_file o) change.file ≡ true) (sym is) (second_name plan.first.file change.file)
+
+pub plan_of_first : (plan : Plan) → plan.second ≡ None → (set : TextSet) → with_edits plan.first set ≡ planned plan set
+plan_of_first plan none set = ap (λ (o : Option FileEdits). with_second o (with_edits plan.first set)) (sym none)
+
+pub plan_of_both : (plan : Plan) (change : FileEdits) → plan.second ≡ Some change → (set : TextSet) → with_edits change (with_edits plan.first set) ≡ planned plan set
+plan_of_both plan change some set = ap (λ (o : Option FileEdits). with_second o (with_edits plan.first set)) (sym some)
+
+pub first_lowered : (plan : Plan) (names : List (List ℕ)) (size : ℕ) (old new : List Searched) (held : Holding) → IsPlan plan held.now → AreReady (files_of plan) held → Lowers names plan.first.file size plan.first.edits.items old new
+    → ForSome (text_of held.now plan.first.file) (λ (text : EditedText). size ≤ length text.bytes) → AreKnown names old held.now → AreKnown names new (with_edits plan.first held.now)
+first_lowered plan names size old new held is ready lowers long are =
+    follows_lowered names plan.first size old new held.now lowers is.first long (ends_ready (files_of plan) held plan.first.file ready (first_name plan.first.file (second_file plan.second))) are
+
+-- the text of the second file, where the first edits are made: its size isn't told where it is the first file
+pub second_lowered : (plan : Plan) (change : FileEdits) (names : List (List ℕ)) (size : ℕ) (old new : List Searched) (held : Holding) → IsPlan plan held.now → AreReady (files_of plan) held → plan.second ≡ Some change
+    → Lowers names change.file size change.edits.items old new
+    → (plan.first.file ≡ change.file → size ≡ 0) → (plan.first.file ≢ change.file → ForSome (text_of held.now change.file) (λ (text : EditedText). size ≤ length text.bytes))
+    → AreKnown names old (with_edits plan.first held.now) → AreKnown names new (planned plan held.now)
+second_lowered plan change names size old new held is ready some lowers same_file other_file are =
+    let mid = with_edits plan.first held.now in
+    subst (AreKnown names new) (plan_of_both plan change some held.now)
+    (follows_lowered names change size old new mid lowers (is.second change some) long whole are)
+  where
+    long : ForSome (text_of (with_edits plan.first held.now) change.file) (λ (text : EditedText). size ≤ length text.bytes)
+    long text at = elim (name_cases plan.first.file change.file) [
+      | inl same ↦ let none : size ≡ 0 = same_file same.0 in omega (arith, none)
+      | inr apart ↦ other_file apart.0 text (sym (change_other plan.first.file change.file (spliced_each plan.first.edits.items) held.now.texts apart.0) ∙ at)
+    ]
+
+    whole : ForSome (text_of (with_edits plan.first held.now) change.file) (λ (text : EditedText). terminated text.bytes ≡ text.bytes)
+    whole text at = elim (name_cases plan.first.file change.file) [
+      | inl same ↦ edited_ends (text_of held.now plan.first.file) refl is.first
+          (sym (change_this plan.first.file (spliced_each plan.first.edits.items) held.now.texts) ∙ ap (text_of (with_edits plan.first held.now)) same.0 ∙ at)
+      | inr apart ↦ ends_ready (files_of plan) held change.file ready (second_there plan change some) text (sym (change_other plan.first.file change.file (spliced_each plan.first.edits.items) held.now.texts apart.0) ∙ at)
+    ]
+      where
+        edited_ends : (o : Option EditedText) → text_of held.now plan.first.file ≡ o → IsSomeAnd o (λ (t : EditedText). CanApply plan.first.edits.items t.bytes) → option_map (spliced_each plan.first.edits.items) (text_of held.now plan.first.file) ≡ Some text → terminated text.bytes ≡ text.bytes
+        edited_ends None was can made = absurd can
+        edited_ends (Some own) was can made =
+            let ended : terminated own.bytes ≡ own.bytes = ends_ready (files_of plan) held plan.first.file ready (first_name plan.first.file (second_file plan.second)) own was in
+            let one : spliced_each plan.first.edits.items own ≡ text = let both : Some (spliced_each plan.first.edits.items own) ≡ Some text = sym (ap (option_map (spliced_each plan.first.edits.items)) was) ∙ made in cc in
+            let bytes : text.bytes ≡ applied_each plan.first.edits.items own.bytes = ap (λ (t : EditedText). t.bytes) (sym one) ∙ spliced_bytes plan.first.edits.items own in
+            ap terminated bytes ∙ applied_ends plan.first.edits.items own.bytes ended can ∙ sym bytes

@@ -15,7 +15,7 @@ use Rattle.org_outline.specs.States.{Keywords}
 use Rattle.org_outline.specs.Paths.{find_path}
 use Rattle.org_outline.specs.Tree.{Document, print, tree}
 use Rattle.org_outline.proofs.Trees.{tree-terminated}
-use Rattle.org_stamp.specs.Calendar.{CivilMinute}
+use Rattle.org_stamp.specs.Calendar.{Moment}
 use Rattle.org_texts.specs.declared.plan.Plan.{Plan}
 use Rattle.org_texts.specs.Texts.{Holding, held_over, text_of}
 use Rattle.org_move.specs.Refile.{Moved}
@@ -73,14 +73,14 @@ not_moved other file text target said result why is told = subst (PlansClocks ot
 -- ---- a clock opened
 
 -- an answer, told of what the outline and the slice are
-pub opening_told : (states given : Keywords) (path titles : List (List ℕ)) (now : CivilMinute) (text seen : List ℕ) (answer : Result Edit StateFault) → given ≡ states → titles ≡ path → seen ≡ text
+pub opening_told : (states given : Keywords) (path titles : List (List ℕ)) (now : Moment) (text seen : List ℕ) (answer : Result Edit StateFault) → given ≡ states → titles ≡ path → seen ≡ text
     → AnswersOpening given titles now seen answer → AnswersOpening states path now text answer
 opening_told states given path titles now text seen answer s p t answers =
     subst (λ (k : Keywords). AnswersOpening k path now text answer) s
     (subst (λ (ts : List (List ℕ)). AnswersOpening given ts now text answer) p
     (subst (λ (b : List ℕ). AnswersOpening given titles now b answer) t answers))
 
-pub opening_fault : (states : Keywords) (path : List (List ℕ)) (now : CivilMinute) (text : List ℕ) (why : StateFault) → why ≢ fault.OutOfMemory → AnswersOpening states path now text (Err why)
+pub opening_fault : (states : Keywords) (path : List (List ℕ)) (now : Moment) (text : List ℕ) (why : StateFault) → why ≢ fault.OutOfMemory → AnswersOpening states path now text (Err why)
     → (none : PathFault) × (find_path states (tree text) path ≡ Err none) × (why ≡ fault_of_path none)
 opening_fault states path now text fault.OutOfMemory some answers = absurd (some refl)
 opening_fault states path now text fault.NotFound some answers = answers
@@ -91,13 +91,13 @@ opening_fault states path now text fault.BadRepeat some answers = answers
 opening_fault states path now text fault.DateRange some answers = answers
 opening_fault states path now text fault.ClockBackwards some answers = answers
 
-pub start_refused : (states : Keywords) (path : List (List ℕ)) (now : CivilMinute) (text : List ℕ) (why : StateFault) → AnswersOpening states path now text (Err why) → why ≢ fault.OutOfMemory
+pub start_refused : (states : Keywords) (path : List (List ℕ)) (now : Moment) (text : List ℕ) (why : StateFault) → AnswersOpening states path now text (Err why) → why ≢ fault.OutOfMemory
     → clocked_in now None (tree text) (find_path states (tree text) path) ≡ Err why
 start_refused states path now text why answers some =
     let none = opening_fault states path now text why some answers in
     ap (λ (f : Result ℕ PathFault). clocked_in now None (tree text) f) none.1 ∙ ap (λ (f : StateFault). Err f) (sym none.2)
 
-pub start_made : (states : Keywords) (path : List (List ℕ)) (now : CivilMinute) (text : List ℕ) (edit : Edit) (edits : List Edit) → edits ≡ edit ∷ [] → AnswersOpening states path now text (Ok edit)
+pub start_made : (states : Keywords) (path : List (List ℕ)) (now : Moment) (text : List ℕ) (edit : Edit) (edits : List Edit) → edits ≡ edit ∷ [] → AnswersOpening states path now text (Ok edit)
     → (new : Document) × (clocked_in now None (tree text) (find_path states (tree text) path) ≡ Ok (Some new)) × AreEdits edits text (print new)
 start_made states path now text edit edits are (i, found, makes) = (
   with_opened now i (tree text),
@@ -107,14 +107,14 @@ start_made states path now text edit edits are (i, found, makes) = (
 
 -- ---- a clock moved within a text
 
-pub switch_told : (states given : Keywords) (path titles : List (List ℕ)) (now : CivilMinute) (from : ℕ) (text seen : List ℕ) (answer : Result (Vec Edit Global) StateFault) → given ≡ states → titles ≡ path → seen ≡ text
+pub switch_told : (states given : Keywords) (path titles : List (List ℕ)) (now : Moment) (from : ℕ) (text seen : List ℕ) (answer : Result (Vec Edit Global) StateFault) → given ≡ states → titles ≡ path → seen ≡ text
     → AnswersSwitch now seen from (find_path given (tree seen) titles) answer → AnswersSwitch now text from (find_path states (tree text) path) answer
 switch_told states given path titles now from text seen answer s p t answers =
     subst (λ (k : Keywords). AnswersSwitch now text from (find_path k (tree text) path) answer) s
     (subst (λ (ts : List (List ℕ)). AnswersSwitch now text from (find_path given (tree text) ts) answer) p
     (subst (λ (b : List ℕ). AnswersSwitch now b from (find_path given (tree b) titles) answer) t answers))
 
-pub switch_refused : (now : CivilMinute) (text : List ℕ) (from : ℕ) (found : Result ℕ PathFault) (why : StateFault) → AnswersSwitch now text from found (Err why) → why ≢ fault.OutOfMemory → switched_at now from (tree text) found ≡ Err why
+pub switch_refused : (now : Moment) (text : List ℕ) (from : ℕ) (found : Result ℕ PathFault) (why : StateFault) → AnswersSwitch now text from found (Err why) → why ≢ fault.OutOfMemory → switched_at now from (tree text) found ≡ Err why
 switch_refused now text from found fault.OutOfMemory answers some = absurd (some refl)
 switch_refused now text from found fault.NotFound answers some = answers
 switch_refused now text from found fault.NotUnique answers some = answers
@@ -124,14 +124,14 @@ switch_refused now text from found fault.BadRepeat answers some = answers
 switch_refused now text from found fault.DateRange answers some = answers
 switch_refused now text from found fault.ClockBackwards answers some = answers
 
-pub switch_stays : (now : CivilMinute) (text : List ℕ) (from : ℕ) (found : Result ℕ PathFault) (edits : Vec Edit Global) → edits.items ≡ [] → AnswersSwitch now text from found (Ok edits) → switched_at now from (tree text) found ≡ Ok None
+pub switch_stays : (now : Moment) (text : List ℕ) (from : ℕ) (found : Result ℕ PathFault) (edits : Vec Edit Global) → edits.items ≡ [] → AnswersSwitch now text from found (Ok edits) → switched_at now from (tree text) found ≡ Ok None
 switch_stays now text from found edits none (new, is, makes) = go new is makes
   where
     go : (o : Option Document) → switched_at now from (tree text) found ≡ Ok o → Makes o text edits.items → switched_at now from (tree text) found ≡ Ok None
     go None is makes = is
     go (Some d) is makes = absurd (makes.0 none)
 
-pub switch_made : (now : CivilMinute) (text : List ℕ) (from : ℕ) (found : Result ℕ PathFault) (edits : Vec Edit Global) → edits.items ≢ [] → AnswersSwitch now text from found (Ok edits)
+pub switch_made : (now : Moment) (text : List ℕ) (from : ℕ) (found : Result ℕ PathFault) (edits : Vec Edit Global) → edits.items ≢ [] → AnswersSwitch now text from found (Ok edits)
     → (new : Document) × (switched_at now from (tree text) found ≡ Ok (Some new)) × AreEdits edits.items text (print new)
 switch_made now text from found edits some (new, is, makes) = go new is makes
   where
@@ -141,7 +141,7 @@ switch_made now text from found edits some (new, is, makes) = go new is makes
 
 -- ---- a clock closed
 
-closing_fault : (now : CivilMinute) (text : List ℕ) (i : ℕ) (why : StateFault) → AnswersClosing now text i (Err why) → why ≢ fault.OutOfMemory → with_closed now i (tree text) ≡ Err why
+closing_fault : (now : Moment) (text : List ℕ) (i : ℕ) (why : StateFault) → AnswersClosing now text i (Err why) → why ≢ fault.OutOfMemory → with_closed now i (tree text) ≡ Err why
 closing_fault now text i fault.OutOfMemory answers some = absurd (some refl)
 closing_fault now text i fault.NotFound answers some = answers
 closing_fault now text i fault.NotUnique answers some = answers
@@ -151,11 +151,11 @@ closing_fault now text i fault.BadRepeat answers some = answers
 closing_fault now text i fault.DateRange answers some = answers
 closing_fault now text i fault.ClockBackwards answers some = answers
 
-pub stop_refused : (now : CivilMinute) (text seen : List ℕ) (running : Running) (why : StateFault) → seen ≡ text → AnswersClosing now seen running.heading (Err why) → why ≢ fault.OutOfMemory → clocked_out now running (tree text) ≡ Err why
+pub stop_refused : (now : Moment) (text seen : List ℕ) (running : Running) (why : StateFault) → seen ≡ text → AnswersClosing now seen running.heading (Err why) → why ≢ fault.OutOfMemory → clocked_out now running (tree text) ≡ Err why
 stop_refused now text seen running why same answers some =
     ap (result_map_both (λ (new : Document). Some new) (λ (f : StateFault). f)) (closing_fault now text running.heading why (subst (λ (b : List ℕ). AnswersClosing now b running.heading (Err why)) same answers) some)
 
-pub stop_made : (now : CivilMinute) (text seen : List ℕ) (running : Running) (edit : Edit) (edits : List Edit) → seen ≡ text → edits ≡ edit ∷ [] → AnswersClosing now seen running.heading (Ok edit)
+pub stop_made : (now : Moment) (text seen : List ℕ) (running : Running) (edit : Edit) (edits : List Edit) → seen ≡ text → edits ≡ edit ∷ [] → AnswersClosing now seen running.heading (Ok edit)
     → (new : Document) × (clocked_out now running (tree text) ≡ Ok (Some new)) × AreEdits edits text (print new)
 stop_made now text seen running edit edits same are answers =
     let made = subst (λ (b : List ℕ). AnswersClosing now b running.heading (Ok edit)) same answers in (
@@ -166,7 +166,7 @@ stop_made now text seen running edit edits same are answers =
 
 -- ---- a clock moved to another text
 
-module _ (states : Keywords) (path : List (List ℕ)) (now : CivilMinute) (other text : List ℕ) (running : Running) where
+module _ (states : Keywords) (path : List (List ℕ)) (now : Moment) (other text : List ℕ) (running : Running) where
   abbrev pub said : Result Moved StateFault
   said = clock_moved now running (tree other) (tree text) (find_path states (tree text) path)
 
@@ -242,7 +242,7 @@ one_refusal : (why : PathFault) → Refuses (refusal_of_state (fault_of_path why
 one_refusal path.NotFound = refl
 one_refusal path.NotUnique = refl
 
-pub path_fails : (s : Session) (file : List ℕ) (moment : CivilMinute) (d : Document) (found : Result ℕ PathFault) (clock : Option (List ℕ × Running)) (why : PathFault) → found ≡ Err why
+pub path_fails : (s : Session) (file : List ℕ) (moment : Moment) (d : Document) (found : Result ℕ PathFault) (clock : Option (List ℕ × Running)) (why : PathFault) → found ≡ Err why
     → clock_in_beside s file moment d found clock ≡ Refuses (refusal_of_path why)
 path_fails s file moment d found None why is = ap (λ (f : Result ℕ PathFault). with_state s file (clocked_in moment None d f)) is ∙ one_refusal why
 path_fails s file moment d found (Some clock) why is = elim (name_cases clock.0 file) [
@@ -266,20 +266,20 @@ none_left None out = refl
 none_left (Some x) out = absurd (out x refl)
 
 -- what clocking in is to do, where this clock runs
-pub clock_in_is : (s : Session) (file : List ℕ) (path : List (List ℕ)) (moment : CivilMinute) (text : Option (List ℕ)) (clock : Option (List ℕ × Running)) → is_some text ≡ true → running_over s.names s.files ≡ clock
+pub clock_in_is : (s : Session) (file : List ℕ) (path : List (List ℕ)) (moment : Moment) (text : Option (List ℕ)) (clock : Option (List ℕ × Running)) → is_some text ≡ true → running_over s.names s.files ≡ clock
     → clock_in s file path moment text ≡ clock_in_beside s file moment (tree (unwrap_or text [])) (find_path s.states (tree (unwrap_or text [])) path) clock
 clock_in_is s file path moment None clock some is = absurd (false≢true some)
 clock_in_is s file path moment (Some text) clock some is = ap (clock_in_beside s file moment (tree text) (find_path s.states (tree text) path)) is
 
 -- .. in the same file, and in another one
-pub beside_same : (s : Session) (file : List ℕ) (moment : CivilMinute) (d : Document) (found : Result ℕ PathFault) (clock : List ℕ × Running) → clock.0 ≡ file
+pub beside_same : (s : Session) (file : List ℕ) (moment : Moment) (d : Document) (found : Result ℕ PathFault) (clock : List ℕ × Running) → clock.0 ≡ file
     → clock_in_beside s file moment d found (Some clock) ≡ with_state s file (clocked_in moment (Some clock.1) d found)
 beside_same s file moment d found clock is = elim (name_cases clock.0 file) [
   | inl same ↦ let t = same.1 in rw t refl
   | inr not ↦ absurd (not.0 is)
 ]
 
-pub beside_other : (s : Session) (file : List ℕ) (moment : CivilMinute) (d : Document) (found : Result ℕ PathFault) (clock : List ℕ × Running) → clock.0 ≢ file
+pub beside_other : (s : Session) (file : List ℕ) (moment : Moment) (d : Document) (found : Result ℕ PathFault) (clock : List ℕ × Running) → clock.0 ≢ file
     → clock_in_beside s file moment d found (Some clock) ≡ with_clock_moved s clock.0 file (clock_moved moment clock.1 (tree (unwrap_or (text_at s.names s.files clock.0) [])) d found)
 beside_other s file moment d found clock apart = elim (name_cases clock.0 file) [
   | inl same ↦ absurd (apart same.0)

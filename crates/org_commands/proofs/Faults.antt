@@ -32,12 +32,6 @@ pub whole_behind : {A E : Type 0} (answer : Result A E) (x : A) (device : E) (br
 whole_behind answer x device true is breaks = absurd (fine_is_no_fault answer x device is (breaks.1 refl))
 whole_behind answer x device false is breaks = refl
 
--- what is broken, where a fault is handed on
-pub breaks_handed : {A B : Type 0} (first : Result A RunFault) (second : Result B RunFault) (fault : RunFault) (mid new : Bool) → first ≡ Err fault → second ≡ Err fault → new ≡ mid → IsErrOf first Device ↔ IsTrue mid
-    → IsErrOf second Device ↔ IsTrue new
-breaks_handed first second fault mid new was given same breaks =
-    (λ fell. same ∙ breaks.0 (fault_of_first first second fault Device was given fell), λ broken. fault_of_first second first fault Device given was (breaks.1 (sym same ∙ broken)))
-
 module _ {D : Type 0} {g : Ghosts D} {old mid new : D} where
   -- the accounts of a call behind one whose answer is Ok
   pub accounts_behind : {A Failed : Type 0} (answer : Result A RunFault) (x : A) → answer ≡ Ok x → Accounts g old mid (IsErrOf answer Device) → Accounts g mid new Failed

@@ -26,13 +26,13 @@ module _ {D : Type 0} (g : Ghosts D) where
 
   -- The settled texts are those of the disk's files, and a crash at the start leaves an image of
   -- these. What is left then recovers to what is settled, and that is allowed.
-  module _ (old : StoreView D) (Left : Image → Type 0) (Alone : List ℕ → Type 0) (Failed : Type 0) (start : (image : Image) → g.left_since old.disk (g.moment old.disk) image → AreImages (g.files old.disk) image)
+  module _ (old : StoreView D) (Left : Image → Type 0) (Alone : List ℕ → Type 0) (Failed : Type 0) (start : (image : Image) → g.left_since old.disk (g.instant old.disk) image → AreImages (g.files old.disk) image)
       (own : old.session.settled ≡ texts_of (contents (g.files old.disk)) old.session.names) (clockless : (image : Image) → Holds old.session (contents (g.files old.disk)) old.session.settled image → Left image) where
     still : IsAtRest (g.files old.disk) → (image : Image) → AreImages (g.files old.disk) image → Left image
     still rest image are = clockless image (left_at_rest old.session (g.files old.disk) own rest image are)
 
     -- a call that left the disk's files as they were
-    pub leaves_same : (new : StoreView D) → Passes (g.moment old.disk) (g.moment new.disk) (g.left_since old.disk) (g.left_since new.disk) (AreImages (g.files old.disk)) → g.files new.disk ≡ g.files old.disk
+    pub leaves_same : (new : StoreView D) → Passes (g.instant old.disk) (g.instant new.disk) (g.left_since old.disk) (g.left_since new.disk) (AreImages (g.files old.disk)) → g.files new.disk ≡ g.files old.disk
         → new.session.settled ≡ texts_of (contents (g.files new.disk)) new.session.names → LeavesDisk g old new Left Alone Failed
     leaves_same new passes same now = record {
       any_moment = λ rest. leaves_only (passes_as passes (still rest)) (λ image since. still rest image (start image since));
@@ -45,12 +45,12 @@ module _ {D : Type 0} (g : Ghosts D) where
     -- a call that made no call of the disk
     pub leaves_unwritten : (new : StoreView D) → new.disk ≡ old.disk → new.session.settled ≡ texts_of (contents (g.files new.disk)) new.session.names → LeavesDisk g old new Left Alone Failed
     leaves_unwritten new same now = leaves_same new
-        (subst (λ (disk : D). Passes (g.moment old.disk) (g.moment disk) (g.left_since old.disk) (g.left_since disk) (AreImages (g.files old.disk))) (sym same)
-        (passes_none (g.moment old.disk) (g.left_since old.disk) (AreImages (g.files old.disk))))
+        (subst (λ (disk : D). Passes (g.instant old.disk) (g.instant disk) (g.left_since old.disk) (g.left_since disk) (AreImages (g.files old.disk))) (sym same)
+        (passes_none (g.instant old.disk) (g.left_since old.disk) (AreImages (g.files old.disk))))
         (ap g.files same) now
 
     -- such a call, and one after it
-    pub leaves_after : (mid new : StoreView D) (Later : Image → Type 0) (Under : List ℕ → Type 0) (Fell : Type 0) → Passes (g.moment old.disk) (g.moment mid.disk) (g.left_since old.disk) (g.left_since mid.disk) (AreImages (g.files old.disk))
+    pub leaves_after : (mid new : StoreView D) (Later : Image → Type 0) (Under : List ℕ → Type 0) (Fell : Type 0) → Passes (g.instant old.disk) (g.instant mid.disk) (g.left_since old.disk) (g.left_since mid.disk) (AreImages (g.files old.disk))
         → g.files mid.disk ≡ g.files old.disk → LeavesDisk g mid new Later Under Fell → ((image : Image) → Later image → Left image) → ((name : List ℕ) → Alone name → Under name) → (Fell → Failed)
         → LeavesDisk g old new Left Alone Failed
     leaves_after mid new Later Under Fell passes same later weaker fewer failed = record {

@@ -28,7 +28,7 @@ accounts_as back on call = record {
 pub only_reads_none : {D A : Type 0} {g : Ghosts D} {old : OpenFiles D} {answer : Result A RunFault}
     → old.broken ≡ false → (IsErrOf answer Broken → ⊥) → (IsErrOf answer Device → ⊥) → OnlyReads g old old answer
 only_reads_none {g = g} {old = old} unbroken works stays = record {
-  looks = λ h. looks_none g.files g.moment g.left_since old.disk;
+  looks = λ h. looks_none g.files g.instant g.left_since old.disk;
   names = refl;
   dirty_files = refl;
   works = works;

@@ -4,7 +4,7 @@ use Rattle.std.specs.Prelude.{codes}
 use Rattle.org_outline.specs.declared.moves.Place.{Place}
 use Rattle.org_outline.specs.declared.moves.Place.TheVariants.{First, Last}
 use Rattle.org_capture.specs.declared.target.Target.TheVariants.{Top}
-use Rattle.org_stamp.specs.Calendar.{CivilMinute, at_minute, civil_day}
+use Rattle.org_stamp.specs.Calendar.{Moment, at_minute, civil_day}
 use Rattle.org_splice.specs.Lines.{print_lines}
 use Rattle.org_move.specs.Counts.{count_over}
 use Rattle.org_commands.specs.declared.command.Refusal.TheVariants.{NoSuchFile, BadTemplate, BadEntry, NotFound, InsideItself}
@@ -20,7 +20,7 @@ store a b =
     let states : Keywords = record { active = codes "TODO" ∷ []; done = codes "DONE" ∷ [] } in
     record { states = states; names = codes "a.org" ∷ codes "b.org" ∷ []; files = files; settled = files; accepted = 0; acknowledged = 0; group = 1; broken = false }
 
-abbrev moment : CivilMinute
+abbrev moment : Moment
 moment = at_minute (civil_day 2026 7 1) 600
 
 abbrev captured_in : Session → List ℕ → List ℕ → Outcome

@@ -49,7 +49,7 @@ settle_failed texts states old new tally result set.Broken fails = absurd (fails
 
 -- what a settling that failed leaves of the disk
 module _ {D : Type 0} (g : Ghosts D) (states : Keywords) (old new : OpenFiles D) (tally : Tally)
-    (start : (image : Image) → g.left_since old.disk (g.moment old.disk) image → AreImages (g.files old.disk) image) where
+    (start : (image : Image) → g.left_since old.disk (g.instant old.disk) image → AreImages (g.files old.disk) image) where
   abbrev before : StoreView D
   before = view_over g.files states old tally
 
@@ -63,7 +63,7 @@ module _ {D : Type 0} (g : Ghosts D) (states : Keywords) (old new : OpenFiles D)
       (IsLeftAlone {A = Unit {0}} before.session before.dirty AsksToSettle (Err fault) now.session.accepted) (IsErrOf {T = Unit {0}} (Err fault) Device) start refl (λ image holds. inl holds) now (ap (λ (held : OpenFiles D). held.disk) same) refl
 
   pub settle_leaves : (result : Result (Unit {0}) SetFault) (fault : SetFault) → Fails old new result fault
-      → (IsAtRest (g.files old.disk) → LeavesOnly (g.moment old.disk) (g.moment new.disk) (g.left_since old.disk) (g.left_since new.disk) (HoldsEither old.names (contents (g.files old.disk)) before.session.files))
+      → (IsAtRest (g.files old.disk) → LeavesOnly (g.instant old.disk) (g.instant new.disk) (g.left_since old.disk) (g.left_since new.disk) (HoldsEither old.names (contents (g.files old.disk)) before.session.files))
       → (IsAtRest (g.files old.disk) → IsRecoverable (g.files new.disk)) → LeavesAlone g (IsOther old.held.before.dirty) old.disk new.disk
       → LeavesDisk g before now (IsLeft {A = Unit {0}} before.session (contents (g.files old.disk)) AsksToSettle (Err (fault_of_set fault)) now.session.accepted)
       (IsLeftAlone {A = Unit {0}} before.session before.dirty AsksToSettle (Err (fault_of_set fault)) now.session.accepted) (IsErrOf {T = Unit {0}} (Err (fault_of_set fault)) Device)

@@ -1,25 +1,52 @@
 -- What is told of the time clocked at a heading.
-use Rattle.std.proofs.Common.{◌≡◌, false, ℕ, List, Some, Result, Ok, Err, sym, ◌∙◌, ap}
-use Rattle.org_splice.specs.Lines.{terminated}
+use Rattle.std.proofs.Common.{◌≡◌, ◌∷◌, [], false, ℕ, List, Result, Ok, Err, sym, ◌∙◌, ap, subst}
+use Rattle.std.specs.Result.{IsErrAnd, result_map_both}
+use Rattle.org_disk.specs.declared.disk.Disk.{Ghosts}
+use Rattle.org_splice.specs.Texts.{EditedText}
 use Rattle.org_outline.specs.declared.paths.PathFault.{PathFault}
+use Rattle.org_outline.specs.States.{Keywords}
 use Rattle.org_outline.specs.Tree.{Document, tree}
 use Rattle.org_outline.proofs.Trees.{tree-terminated}
 use Rattle.org_state.specs.Clock.{clocked_at}
 use Rattle.org_commands.specs.declared.command.Reply.TheVariants.{Time}
-use Rattle.org_commands.specs.Keeping.{fault_of_path}
+use Rattle.org_commands.specs.declared.command.RunFault.{RunFault}
+use Rattle.org_commands.specs.declared.tally.Tally.{Tally}
+use Rattle.org_commands.specs.Files.{OpenFiles}
+use Rattle.org_commands.specs.InOrder.{text_at}
+use Rattle.org_commands.specs.Keeping.{Reads, fault_of_path}
 use Rattle.org_commands.specs.Outcome.{Outcome, time, with_minutes}
 use Rattle.org_commands.specs.Session.{Session}
 use Rattle.org_commands.specs.Step.{Steps}
+use Rattle.org_commands.proofs.Handing.{handed_on}
+use Rattle.org_commands.proofs.MadeReady.{Sees, session_in, text_seen, unread}
 
--- what is to be told of the text, which is seen terminated
-pub time_is : (s : Session) (path : List (List ℕ)) (text seen : List ℕ) (said : Result ℕ PathFault) → seen ≡ terminated text → said ≡ clocked_at s.states path (tree seen) → time s path (Some text) ≡ with_minutes said
-time_is s path text seen said stays_terminated is =
-    ap (λ (d : Document). with_minutes (clocked_at s.states path d)) (sym (ap tree stays_terminated ∙ tree-terminated text)) ∙ ap with_minutes (sym is)
+-- a fault, handed on as a question's
+time_fault : (old new : Session) (told : Outcome) (fault : RunFault) (answer : Result ℕ RunFault) → IsErrAnd answer (λ y. y ≡ fault) → Steps old told (Err fault) new → Steps old told (result_map_both Time (λ f. f) answer) new
+time_fault old new told fault answer handed steps = subst (λ (r : Result ℕ RunFault). Steps old told (result_map_both Time (λ f. f) r) new) (sym (handed_on answer fault handed)) steps
 
--- it is told
-pub does_tell : (old new : Session) (told : Outcome) (minutes : ℕ) → old.broken ≡ false → told ≡ with_minutes (Ok minutes) → new ≡ old → Steps old told (Ok (Time minutes)) new
-does_tell old new told minutes unbroken is same = (unbroken, is, same)
+-- .. of the reading
+pub time_unread : {D : Type 0} (g : Ghosts D) (states : Keywords) (old new : OpenFiles D) (tally : Tally) (told : Outcome) {A : Type 0} {read : Result A RunFault} {fault : RunFault} (answer : Result ℕ RunFault) → IsErrAnd answer (λ y. y ≡ fault)
+    → old.broken ≡ false → read ≡ Err fault → Reads (session_in g states old tally) read (session_in g states new tally) → Steps (session_in g states old tally) told (result_map_both Time (λ f. f) answer) (session_in g states new tally)
+time_unread g states old new tally told {fault = fault} answer handed unbroken is reads =
+    time_fault (session_in g states old tally) (session_in g states new tally) told fault answer handed (unread g states old new tally told unbroken is reads)
 
--- .. or refused
-pub does_refuse : (old new : Session) (told : Outcome) (why : PathFault) → old.broken ≡ false → told ≡ with_minutes (Err why) → new ≡ old → Steps old told (Err (fault_of_path why)) new
-does_refuse old new told why unbroken is same = (unbroken, is, same)
+module _ {D : Type 0} {g : Ghosts D} {states : Keywords} {old new : OpenFiles D} {file : List ℕ} {seen : EditedText} (sees : Sees g states old new (file ∷ []) file seen) (path : List (List ℕ)) (tally : Tally) (honest : g.honest new.disk) where
+  abbrev s : Session
+  s = session_in g states old tally
+
+  abbrev told : Outcome
+  told = time s path (text_at s.names s.files file)
+
+  -- what is to be told of the text, which is seen terminated
+  time_is : (said : Result ℕ PathFault) → said ≡ clocked_at states path (tree seen.bytes) → told ≡ with_minutes said
+  time_is said is =
+      let text = text_seen sees tally honest in
+      ap (time s path) text.1 ∙ ap (λ (d : Document). with_minutes (clocked_at states path d)) (sym (ap tree text.2 ∙ tree-terminated text.0)) ∙ ap with_minutes (sym is)
+
+  -- it is told
+  pub time_told : (minutes : ℕ) → Ok minutes ≡ clocked_at states path (tree seen.bytes) → Steps s told (Ok (Time minutes)) (session_in g states new tally)
+  time_told minutes is = (sees.unbroken, time_is (Ok minutes) is, sees.reads tally honest)
+
+  -- .. or refused
+  pub time_refused : (why : PathFault) → Err why ≡ clocked_at states path (tree seen.bytes) → (answer : Result ℕ RunFault) → IsErrAnd answer (λ y. y ≡ fault_of_path why) → Steps s told (result_map_both Time (λ f. f) answer) (session_in g states new tally)
+  time_refused why is answer handed = time_fault s (session_in g states new tally) told (fault_of_path why) answer handed (sees.unbroken, time_is (Err why) is, sees.reads tally honest)

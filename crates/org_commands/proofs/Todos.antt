@@ -1,35 +1,37 @@
 -- Changes of states: what their planner finds is what the outcome says.
-use Rattle.std.proofs.Common.{◌≡◌, ◌≢◌, ℕ, true, false, List, [], ◌∷◌, Option, Some, None, Result, Ok, Err, Vec, refl, sym, ◌∙◌, ap, subst}
+use Rattle.std.proofs.Common.{◌≡◌, ◌≢◌, ℕ, false, List, [], ◌∷◌, Option, Some, None, Result, Ok, Err, Vec, refl, sym, ◌∙◌, ap, subst}
 use Rattle.std.specs.Global.{Global}
 use Rattle.std.specs.Prelude.{IfNone, IfSome}
-use Rattle.std.specs.Option.{ForSome}
+use Rattle.std.specs.Option.{ForSome, unwrap_or}
+use Rattle.std.specs.Result.{IsErrAnd}
+use Rattle.org_disk.specs.declared.disk.Disk.{Ghosts}
 use Rattle.org_splice.specs.declared.edit.Edit.{Edit}
 use Rattle.org_splice.specs.Edits.{AreEdits}
-use Rattle.org_splice.specs.Lines.{terminated}
 use Rattle.org_splice.specs.Texts.{EditedText}
 use Rattle.org_outline.specs.States.{Keywords}
 use Rattle.org_outline.specs.Tree.{Document, print, tree}
 use Rattle.org_outline.proofs.Trees.{tree-terminated}
-use Rattle.org_stamp.specs.Calendar.{CivilMinute}
+use Rattle.org_stamp.specs.Calendar.{Moment}
 use Rattle.org_texts.specs.declared.plan.Plan.{Plan}
-use Rattle.org_texts.specs.Texts.{Holding, text_of}
 use Rattle.org_state.specs.declared.fault.StateFault.{StateFault}
 use Rattle.org_state.specs.declared.fault.StateFault.TheVariants as fault
 use Rattle.org_state.specs.Answers.{AnswersTodo, Makes}
 use Rattle.org_state.specs.Todo.{IsTodo, todo as in_state}
 use Rattle.org_state.proofs.Computed.{todo_computed}
-use Rattle.org_commands.specs.Files.{AreReady, IsPlanFor}
-use Rattle.org_commands.specs.InOrder.{is_name}
+use Rattle.org_commands.specs.declared.command.RunFault.{RunFault}
+use Rattle.org_commands.specs.declared.tally.Tally.{Tally}
+use Rattle.org_commands.specs.Files.{IsPlanFor, OpenFiles}
+use Rattle.org_commands.specs.InOrder.{text_at}
 use Rattle.org_commands.specs.Keeping.{PlansOrStays, fault_of_state}
 use Rattle.org_commands.specs.Outcome.{Outcome, Refuses, changed, refusal_of_state, todo, with_state}
 use Rattle.org_commands.specs.Session.{Session}
 use Rattle.org_commands.specs.Step.{Steps}
 use Rattle.org_commands.specs.Todo.{PlansState}
-use Rattle.org_commands.proofs.Plans.{one_text, plan_of_one}
+use Rattle.org_commands.proofs.MadeReady.{Sees, document_fits, document_seen, document_texts, session_in, stays_not_fit, text_seen}
 
 -- ---- the edits
 
-module _ (states : Keywords) (path : List (List ℕ)) (state : List ℕ) (now : CivilMinute) (text : List ℕ) where
+module _ (states : Keywords) (path : List (List ℕ)) (state : List ℕ) (now : Moment) (text : List ℕ) where
   -- no edits, for this reason
   pub state_refused : (file : List ℕ) (result : Result (Option Plan) StateFault) (why : StateFault) → result ≡ Err why → AnswersTodo states path state now text (Err why) → PlansState file text (in_state states path state now (tree text)) result
   state_refused file result why is answers = subst (PlansState file text (in_state states path state now (tree text))) (sym is) (go why answers)
@@ -39,13 +41,7 @@ module _ (states : Keywords) (path : List (List ℕ)) (state : List ℕ) (now : 
 
       go : (w : StateFault) → AnswersTodo states path state now text (Err w) → PlansState file text (in_state states path state now (tree text)) (Err w)
       go fault.OutOfMemory answers = tt
-      go fault.NotFound answers = told fault.NotFound answers
-      go fault.NotUnique answers = told fault.NotUnique answers
-      go fault.UnknownState answers = told fault.UnknownState answers
-      go fault.OddPlanning answers = told fault.OddPlanning answers
-      go fault.BadRepeat answers = told fault.BadRepeat answers
-      go fault.DateRange answers = told fault.DateRange answers
-      go fault.ClockBackwards answers = told fault.ClockBackwards answers
+      go w answers = told w answers
 
   -- edits that change nothing
   pub state_stays : (edits : Vec Edit Global) → edits.items ≡ [] → AnswersTodo states path state now text (Ok edits) → in_state states path state now (tree text) ≡ Ok None
@@ -74,45 +70,48 @@ plan_made file text said edits (Some plan) none (changes, named, alone, are) sta
 
 -- ---- the outcome
 
--- what is to be done with the text, which the planner sees terminated
-pub todo_is : (s : Session) (file : List ℕ) (path : List (List ℕ)) (state : List ℕ) (moment : CivilMinute) (text seen : List ℕ) → seen ≡ terminated text
-    → todo s file path state moment (Some text) ≡ with_state s file (in_state s.states path state moment (tree seen))
-todo_is s file path state moment text seen stays_terminated = ap (λ (d : Document). with_state s file (in_state s.states path state moment d)) (sym (ap tree stays_terminated ∙ tree-terminated text))
-
--- what is refused
-pub state_not_made : (s : Session) (file : List ℕ) (seen : List ℕ) (told : Outcome) (said : Result (Option Document) StateFault) (result : Result (Option Plan) StateFault) (why : StateFault) → s.broken ≡ false → told ≡ with_state s file said
-    → result ≡ Err why → PlansState file seen said result → Steps s told (Err (fault_of_state why)) s
-state_not_made s file seen told said result why unbroken is was plans = go why (subst (PlansState file seen said) was plans)
+-- what isn't to be done
+state_not_made : (s : Session) {told : Outcome} (file seen : List ℕ) (said : Result (Option Document) StateFault) (result : Result (Option Plan) StateFault) (why : StateFault) → s.broken ≡ false → told ≡ with_state s file said → result ≡ Err why
+    → PlansState file seen said result → Steps s told (Err (fault_of_state why)) s
+state_not_made s {told} file seen said result why unbroken is was plans = go why (subst (PlansState file seen said) was plans)
   where
     refuses : (w : StateFault) → said ≡ Err w → told ≡ Refuses (refusal_of_state w)
     refuses w none = is ∙ ap (with_state s file) none
 
     go : (w : StateFault) → PlansState file seen said (Err w) → Steps s told (Err (fault_of_state w)) s
     go fault.OutOfMemory plans = (unbroken, refl)
-    go fault.NotFound plans = (unbroken, refuses fault.NotFound plans, refl)
-    go fault.NotUnique plans = (unbroken, refuses fault.NotUnique plans, refl)
-    go fault.UnknownState plans = (unbroken, refuses fault.UnknownState plans, refl)
-    go fault.OddPlanning plans = (unbroken, refuses fault.OddPlanning plans, refl)
-    go fault.BadRepeat plans = (unbroken, refuses fault.BadRepeat plans, refl)
-    go fault.DateRange plans = (unbroken, refuses fault.DateRange plans, refl)
-    go fault.ClockBackwards plans = (unbroken, refuses fault.ClockBackwards plans, refl)
+    go w plans = (unbroken, refuses w plans, refl)
 
-pub todo_refused : (s : Session) (file : List ℕ) (path : List (List ℕ)) (state : List ℕ) (moment : CivilMinute) (text seen : List ℕ) (result : Result (Option Plan) StateFault) (why : StateFault) → s.broken ≡ false → seen ≡ terminated text
-    → result ≡ Err why → PlansState file seen (in_state s.states path state moment (tree seen)) result → Steps s (todo s file path state moment (Some text)) (Err (fault_of_state why)) s
-todo_refused s file path state moment text seen result why unbroken stays_terminated was plans =
-    state_not_made s file seen (todo s file path state moment (Some text)) (in_state s.states path state moment (tree seen)) result why unbroken (todo_is s file path state moment text seen stays_terminated) was plans
+module _ {D : Type 0} {g : Ghosts D} {states : Keywords} {old new : OpenFiles D} {file : List ℕ} {seen : EditedText} (sees : Sees g states old new (file ∷ []) file seen) where
+  -- what is planned is for the files as they are
+  pub state_fits : (said : Result (Option Document) StateFault) (o : Option Plan) → PlansState file seen.bytes said (Ok o) → ForSome o (λ plan. IsPlanFor new.names new.held plan)
+  state_fits said None plans = λ plan is. absurd (cc)
+  state_fits said (Some one) (d, is, makes) = λ plan is.
+      let same : one ≡ plan = cc in
+      subst (λ (p : Plan). IsPlanFor new.names new.held p) same (document_fits sees one d makes)
 
--- ---- the plan
+  module _ (tally : Tally) (honest : g.honest new.disk) where
+    abbrev s : Session
+    s = session_in g states old tally
 
-pub state_fits : (names : List (List ℕ)) (held : Holding) (file : List ℕ) (seen : EditedText) (said : Result (Option Document) StateFault) (o : Option Plan) → PlansState file seen.bytes said (Ok o) → text_of held.now file ≡ Some seen
-    → is_name names file ≡ true → AreReady (file ∷ []) held → ForSome o (λ plan. IsPlanFor names held plan)
-state_fits names held file seen said None plans at named ready = λ plan is. absurd (cc)
-state_fits names held file seen said (Some one) (new, is, makes) at named ready = λ plan is.
-    let same : one ≡ plan = cc in
-    subst (λ (p : Plan). IsPlanFor names held p) same (plan_of_one one names held file seen (print new) makes.0 makes.1 at makes.2 named ready)
+    -- what a change of a state is to do with the text, which the planner sees terminated
+    pub todo_is : (path : List (List ℕ)) (state : List ℕ) (moment : Moment) → todo s file path state moment (text_at s.names s.files file) ≡ with_state s file (in_state states path state moment (tree seen.bytes))
+    todo_is path state moment =
+        let text = text_seen sees tally honest in
+        ap (todo s file path state moment) text.1 ∙ ap (λ (d : Document). with_state s file (in_state states path state moment d)) (sym (ap tree text.2 ∙ tree-terminated text.0))
 
-pub state_planned : (s new : Session) (held : Holding) (file : List ℕ) (seen : EditedText) (said : Result (Option Document) StateFault) (told : Outcome) (o : Option Plan) → told ≡ with_state s file said → PlansState file seen.bytes said (Ok o)
-    → text_of held.now file ≡ Some seen → new ≡ s → PlansOrStays s told (Ok o) held new
-state_planned s new held file seen said told None is plans at same = (is ∙ ap (with_state s file) plans, same)
-state_planned s new held file seen said told (Some plan) is (d, made, makes) at same =
-    (is ∙ ap (with_state s file) made ∙ ap (changed s) (sym (one_text plan held file seen (print d) makes.0 makes.1 at makes.2)), same)
+    -- .. and what is to be done with the document
+    pub document_is : (said : Document → Result (Option Document) StateFault) → with_state s file (said (tree (unwrap_or (text_at s.names s.files file) []))) ≡ with_state s file (said (tree seen.bytes))
+    document_is said = ap (λ (d : Document). with_state s file (said d)) (document_seen sees tally honest)
+
+    -- nothing is planned, for this reason
+    pub state_fails : {told : Outcome} (said : Result (Option Document) StateFault) (result : Result (Option Plan) StateFault) {why : StateFault} (answer : Result (Option Plan) RunFault) → told ≡ with_state s file said
+        → result ≡ Err why → PlansState file seen.bytes said result → IsErrAnd answer (λ y. y ≡ fault_of_state why) → PlansOrStays s told answer new.held (session_in g states new tally)
+    state_fails {told} said result {why} answer is was plans handed =
+        stays_not_fit s (session_in g states new tally) told new.held (fault_of_state why) answer handed (sees.reads tally honest) (state_not_made s file seen.bytes said result why sees.unbroken is was plans)
+
+    -- .. or what is to be done
+    pub state_planned : {told : Outcome} (said : Result (Option Document) StateFault) (o : Option Plan) → told ≡ with_state s file said → PlansState file seen.bytes said (Ok o) → PlansOrStays s told (Ok o) new.held (session_in g states new tally)
+    state_planned said None is plans = (is ∙ ap (with_state s file) plans, sees.reads tally honest)
+    state_planned said (Some plan) is (d, made, makes) =
+        (is ∙ ap (with_state s file) made ∙ ap (changed s) (sym (document_texts sees plan d makes)), sees.reads tally honest)

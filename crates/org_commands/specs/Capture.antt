@@ -2,7 +2,7 @@
 use Rattle.std.specs.Prelude.{◌≡◌, ℕ, List, Option, Some, None, Result, Ok, Err, Vec}
 use Rattle.std.specs.Global.{Global}
 use Rattle.org_outline.specs.Tree.{Node}
-use Rattle.org_stamp.specs.Calendar.{CivilMinute}
+use Rattle.org_stamp.specs.Calendar.{Moment}
 use Rattle.org_capture.specs.declared.fault.CaptureFault.{CaptureFault}
 use Rattle.org_capture.specs.declared.fault.CaptureFault.TheVariants.{BadEntry, OutOfMemory}
 use Rattle.org_capture.specs.Entry.{IsEntry, entry_in}
@@ -17,7 +17,7 @@ entry_of_text (Ok text) = one_entry (entry_in text)
 entry_of_text (Err fault) = Err fault
 
 -- the heading that a template stands for at a moment, with what lies below it
-abbrev pub new_entry : CivilMinute → List ℕ → List ℕ → Result Node CaptureFault
+abbrev pub new_entry : Moment → List ℕ → List ℕ → Result Node CaptureFault
 new_entry moment template initial = entry_of_text (expanded template moment initial)
 
 -- the bytes are this entry; or there is none, for this reason, or no memory for it

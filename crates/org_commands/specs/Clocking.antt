@@ -3,7 +3,7 @@ use Rattle.std.specs.Prelude.{◌≡◌, ℕ, List, Option, None, Some, Result, 
 use Rattle.std.specs.Result.{result_map_both}
 use Rattle.org_outline.specs.declared.paths.PathFault.{PathFault}
 use Rattle.org_outline.specs.Tree.{Document}
-use Rattle.org_stamp.specs.Calendar.{CivilMinute}
+use Rattle.org_stamp.specs.Calendar.{Moment}
 use Rattle.org_texts.specs.declared.plan.Plan.{Plan}
 use Rattle.org_move.specs.Refile.{Moved}
 use Rattle.org_state.specs.declared.run.Running.{Running}
@@ -15,19 +15,19 @@ use Rattle.org_commands.specs.Refile.{MakesDocuments}
 
 -- A clock opened at the heading that was found, and the one that runs in the document closed;
 -- nothing changes where both are at one heading.
-abbrev pub clocked_in : CivilMinute → Option Running → Document → Result ℕ PathFault
+abbrev pub clocked_in : Moment → Option Running → Document → Result ℕ PathFault
     → Result (Option Document) StateFault
 clocked_in now None d found = result_map_both (λ i. Some (with_opened now i d)) fault_of_path found
 clocked_in now (Some running) d found = switched_at now running.heading d found
 
 -- the clock that runs in the document closed
-abbrev pub clocked_out : CivilMinute → Running → Document → Result (Option Document) StateFault
+abbrev pub clocked_out : Moment → Running → Document → Result (Option Document) StateFault
 clocked_out now running d =
     result_map_both (λ new. Some new) (λ fault. fault) (with_closed now running.heading d)
 
 -- the first document with its clock closed, the second with one opened at the heading that was
 -- found
-abbrev pub clock_moved : CivilMinute → Running → Document → Document → Result ℕ PathFault
+abbrev pub clock_moved : Moment → Running → Document → Document → Result ℕ PathFault
     → Result Moved StateFault
 clock_moved now running other d (Ok i) =
     result_map_both (λ new. record { source = new; target = with_opened now i d }) (λ fault. fault)

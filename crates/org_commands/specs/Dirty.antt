@@ -11,16 +11,16 @@ use Rattle.org_commands.specs.Outcome.{Outcome, written}
 use Rattle.org_commands.specs.Session.{StoreView}
 use Rattle.org_commands.specs.Step.{fills}
 
--- whether the file of a name is among those that wait
+-- whether the file of a name is among the dirty ones
 abbrev pub is_listed : List (List ℕ) → List ℕ → Bool
 is_listed dirty name = list_any (bytes_eq name) dirty
 
--- a file waits now only where it waited before, or is one of these
+-- a file is dirty now only where it was before, or is one of these
 abbrev pub Dirties : List (List ℕ) → List (List ℕ) → List (List ℕ) → Type 0
 Dirties old names new =
     (name : List ℕ) → is_listed new name ≡ true → is_listed (old ++ names) name ≡ true
 
--- Which files wait behind a call of a store that is to do this and got this answer: none where all
+-- Which files are dirty behind a call of a store that is to do this and got this answer: none where all
 -- was settled; behind a command that was accepted at most those of before, and those that it gives
 -- new texts; else those of before.
 abbrev pub DirtyAfter : {D : Type 0} → StoreView D → Outcome → Result Reply RunFault → StoreView D
@@ -33,7 +33,7 @@ DirtyAfter old outcome (Ok (Text bytes)) new = new.dirty ≡ old.dirty
 DirtyAfter old outcome (Ok (Time minutes)) new = new.dirty ≡ old.dirty
 DirtyAfter old outcome (Err fault) new = new.dirty ≡ old.dirty
 
--- no file waits where all accepted commands are acknowledged
+-- no file is dirty where all accepted commands are acknowledged
 abbrev pub NoneDirty : {D : Type 0} → StoreView D → Type 0
 NoneDirty kept = kept.session.acknowledged ≡ kept.session.accepted → kept.dirty ≡ []
 
@@ -43,7 +43,7 @@ DirtyAfterSettled old (Ok _) new = new ≡ []
 DirtyAfterSettled old (Err fault) new = new ≡ old
 
 -- Which texts are dirty once a command that edited them was counted: none where it fills the group, else
--- all that wait as they are; where it isn't counted, those of before the command.
+-- all dirty ones as they are; where it isn't counted, those of before the command.
 abbrev pub DirtyAfterCounted : {A : Type 0} → Bool → Holding → Result A RunFault → Holding → Type 0
 DirtyAfterCounted full old (Ok _) new = new.before.dirty ≡ (if full then [] else old.now.dirty)
 DirtyAfterCounted full old (Err fault) new = new.before.dirty ≡ old.before.dirty

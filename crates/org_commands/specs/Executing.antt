@@ -41,7 +41,7 @@ LeavesDirty g old command answer new =
     DirtyAfter (view_of g old) (outcome (view_of g old).session command) answer (view_of g new)
 
 -- What counting one more command does, which made the texts what they are: they are kept, or all
--- that waits is settled.
+-- that is dirty is settled.
 abbrev pub KeepsOrSettles : {D : Type 0} → Ghosts D → Executor D → Result (Unit {0}) RunFault
     → Executor D → Type 0
 KeepsOrSettles g old answer new = g.honest new.files.disk

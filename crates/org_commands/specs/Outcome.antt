@@ -7,7 +7,7 @@ use Rattle.org_outline.specs.declared.paths.PathFault.{PathFault}
 use Rattle.org_outline.specs.Paths.{find_path}
 use Rattle.org_outline.specs.declared.paths.PathFault.TheVariants as path_fault
 use Rattle.org_outline.specs.Tree.{Document, Node, print, tree}
-use Rattle.org_stamp.specs.Calendar.{CivilMinute}
+use Rattle.org_stamp.specs.Calendar.{Moment}
 use Rattle.org_capture.specs.declared.fault.CaptureFault.{CaptureFault}
 use Rattle.org_capture.specs.declared.fault.CaptureFault.TheVariants as fault
 use Rattle.org_capture.specs.declared.target.Target.{Target}
@@ -83,7 +83,7 @@ abbrev pub with_document : Session → List ℕ → Result Document CaptureFault
 with_document s name (Ok new) = changed s ((name, print new) ∷ [])
 with_document s name (Err fault) = Refuses (refusal_of fault)
 
-abbrev pub with_entry : Session → List ℕ → Target → Place → CivilMinute → Result Node CaptureFault
+abbrev pub with_entry : Session → List ℕ → Target → Place → Moment → Result Node CaptureFault
     → List ℕ → Outcome
 with_entry s name target place moment (Ok entry) text =
     with_document s name (captured s.states target place moment entry (tree text))
@@ -91,7 +91,7 @@ with_entry s name target place moment (Err fault) text = Refuses (refusal_of fau
 
 -- A capture into a file that has this text: it is refused for its file first, then for its
 -- template, then for its entry, then for its target.
-abbrev pub capture : Session → List ℕ → Target → Place → CivilMinute → List ℕ → List ℕ
+abbrev pub capture : Session → List ℕ → Target → Place → Moment → List ℕ → List ℕ
     → Option (List ℕ) → Outcome
 capture s name target place moment template initial None = Refuses NoSuchFile
 capture s name target place moment template initial (Some text) =
@@ -146,7 +146,7 @@ with_state s file (Err fault) = Refuses (refusal_of_state fault)
 
 -- A change of a state in a file that has this text: it is refused for its file first, then for its
 -- path, then for its state, then for the heading's planning.
-abbrev pub todo : Session → List ℕ → List (List ℕ) → List ℕ → CivilMinute → Option (List ℕ)
+abbrev pub todo : Session → List ℕ → List (List ℕ) → List ℕ → Moment → Option (List ℕ)
     → Outcome
 todo s file path state moment None = Refuses NoSuchFile
 todo s file path state moment (Some text) =
@@ -154,7 +154,7 @@ todo s file path state moment (Some text) =
 
 -- An archiving to this destination, from a file that has the first text; the destination's file has
 -- the second one, if it is one of the store's. The two are one where their names are.
-abbrev pub archive_to : Session → List ℕ → List (List ℕ) → CivilMinute → List ℕ → Destination
+abbrev pub archive_to : Session → List ℕ → List (List ℕ) → Moment → List ℕ → Destination
     → Option (List ℕ) → Outcome
 archive_to s file path moment text to None = Refuses NoSuchFile
 archive_to s file path moment text to (Some target) =
@@ -163,7 +163,7 @@ archive_to s file path moment text to (Some target) =
     else with_moved s (texts_across file to.file)
     (archive_across s.states file path moment (tree text) s.states to (tree target))
 
-abbrev pub archive_at : Session → List ℕ → List (List ℕ) → CivilMinute → List ℕ
+abbrev pub archive_at : Session → List ℕ → List (List ℕ) → Moment → List ℕ
     → Result Destination MoveFault → Outcome
 archive_at s file path moment text (Ok to) =
     archive_to s file path moment text to (text_at s.names s.files to.file)
@@ -172,7 +172,7 @@ archive_at s file path moment text (Err fault) = Refuses (refusal_of_move fault)
 -- An archiving from a file that has this text: it is refused for its file first, then for its path,
 -- then where the file is an archive file, then for its location, then for the location's file and
 -- for the heading there.
-abbrev pub archive : Session → List ℕ → List (List ℕ) → CivilMinute → Option (List ℕ) → Outcome
+abbrev pub archive : Session → List ℕ → List (List ℕ) → Moment → Option (List ℕ) → Outcome
 archive s file path moment None = Refuses NoSuchFile
 archive s file path moment (Some text) =
     archive_at s file path moment text (location s.states file path text)
@@ -184,7 +184,7 @@ with_clock_moved s other file (Err fault) = Refuses (refusal_of_state fault)
 
 -- Clocking in at the heading that was found in a file with this document, where this clock runs: in
 -- the same file, or in another one, of which the new text comes first.
-abbrev pub clock_in_beside : Session → List ℕ → CivilMinute → Document → Result ℕ PathFault
+abbrev pub clock_in_beside : Session → List ℕ → Moment → Document → Result ℕ PathFault
     → Option (List ℕ × Running) → Outcome
 clock_in_beside s file moment d found None = with_state s file (clocked_in moment None d found)
 clock_in_beside s file moment d found (Some clock) =
@@ -194,14 +194,14 @@ clock_in_beside s file moment d found (Some clock) =
 
 -- Clocking in at a heading of a file that has this text: it is refused for its file first, then for
 -- its path, then where the moment is before the start of the clock that is to be closed.
-abbrev pub clock_in : Session → List ℕ → List (List ℕ) → CivilMinute → Option (List ℕ) → Outcome
+abbrev pub clock_in : Session → List ℕ → List (List ℕ) → Moment → Option (List ℕ) → Outcome
 clock_in s file path moment None = Refuses NoSuchFile
 clock_in s file path moment (Some text) =
     clock_in_beside s file moment (tree text) (find_path s.states (tree text) path)
     (running_over s.names s.files)
 
 -- clocking out, where this clock runs
-abbrev pub clock_out : Session → CivilMinute → Option (List ℕ × Running) → Outcome
+abbrev pub clock_out : Session → Moment → Option (List ℕ × Running) → Outcome
 clock_out s moment None = Refuses NoClock
 clock_out s moment (Some clock) =
     with_state s clock.0

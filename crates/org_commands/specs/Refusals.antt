@@ -1,4 +1,4 @@
--- The number and the name of each refusal, as a reply tells them.
+-- The number and the name of each refusal, as a reply has them.
 use Rattle.std.specs.Prelude.{ℕ, List, codes}
 use Rattle.org_commands.specs.declared.command.Refusal.{Refusal}
 use Rattle.org_commands.specs.declared.command.Refusal.TheVariants.{NoSuchFile, BadTemplate, BadEntry, NotFound, NotUnique, InsideItself, AlreadyArchive, UnknownState, OddPlanning, BadRepeat, DateRange, NoClock, ClockBackwards, BadLocation, TooLarge}

@@ -25,7 +25,7 @@ pub record LeavesDisk {D : Type 0} (g : Ghosts D) (old new : StoreView D) (Left 
     (Alone : List ℕ → Type 0) (Failed : Type 0) : Type 0 where
   -- where all was on the disk: what a crash at any moment since the call began leaves
   pub any_moment : IsAtRest (g.files old.disk)
-      → LeavesOnly (g.moment old.disk) (g.moment new.disk) (g.left_since old.disk)
+      → LeavesOnly (g.instant old.disk) (g.instant new.disk) (g.left_since old.disk)
       (g.left_since new.disk) Left
   -- where the disk didn't fail: the store's files have the texts that are settled, and all others
   -- are as they were
@@ -46,7 +46,7 @@ pub record IsIdle {D A : Type 0} (Asks : Type 0) (old : StoreView D) (answer : R
   pub untouched : IsErrOf answer Broken → new ≡ old
   -- no accepted command is pending
   pub nothing : Asks → old.session.acknowledged ≡ old.session.accepted → new ≡ old
-  -- .. and where no file waits, there is no call of the disk
+  -- .. and where no file is dirty, there is no call of the disk
   pub unneeded : Asks → old.dirty ≡ [] → new.disk ≡ old.disk
 
 -- When a store is broken, whatever its disk does: Broken is answered exactly where it was so

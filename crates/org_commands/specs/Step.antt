@@ -36,7 +36,7 @@ IsSettled s = s.broken ≡ false → s.acknowledged ≡ s.accepted → s.files �
 abbrev pub failed_in_read : Session → Session
 failed_in_read s = record s { broken = true }
 
--- a call of the disk failed while texts were put on the disk. The session then tells nothing of the
+-- a call of the disk failed while texts were put on the disk. The session then says nothing of the
 -- files: `left` and `now` may be any.
 abbrev pub torn : Session → List (List ℕ) → List (List ℕ) → Session
 torn s left now = record s { files = left; settled = now; broken = true }

@@ -2,7 +2,7 @@
 //!
 //! Each file is read once, when a command first names it, and edited in memory from then on. What
 //! the disk has is what was read, and what was committed since: nobody else writes it.
-ghost use Rattle.std.specs.Prelude.{◌≡◌, ◌⊎◌, ◌↔◌, ◌<◌, ◌∷◌, [], List, ℕ, None, Some, nat_lt, length, slice_get, true, false, IfOk, IfErr, MatchResult, OnOk, OnErr, IsErrOf, IsSome, IsTrue};
+ghost use Rattle.std.specs.Prelude.{◌≡◌, ◌⊎◌, ◌↔◌, ◌+◌, ◌<◌, ◌≤◌, ◌∷◌, [], List, ℕ, None, Some, nat_lt, length, slice_get, true, false, IfOk, IfErr, MatchResult, OnOk, OnErr, IsErrOf, IsSome, IsTrue};
 ghost use Rattle.std.specs.List.{All};
 ghost use Rattle.std.specs.Map.{lookup};
 ghost use Rattle.std.specs.Option.{ForSome, option_map};
@@ -13,19 +13,26 @@ ghost use Rattle.org_fileset.specs.Opening.{IsDeviceRefusal, IsRefusedFor};
 ghost use Rattle.org_fileset.specs.Recovery.{Reopens};
 ghost use Rattle.org_fileset.specs.Names.{limit};
 ghost use Rattle.org_outline.specs.States.{Keywords};
-ghost use Rattle.org_texts.specs.Texts.{bytes_or, text_of};
+ghost use Rattle.org_splice.specs.Edits.{applied};
+ghost use Rattle.org_splice.specs.Lines.{terminated};
+ghost use Rattle.org_state.specs.Searched.{IsSearched};
+ghost use Rattle.org_state.specs.declared.searched.Searched.TheVariants.{Clockless};
+ghost use Rattle.org_texts.specs.Plan.{IsPlan, planned};
+ghost use Rattle.org_texts.specs.Texts.{TextSet, bytes_or, text_of};
 ghost use Rattle.org_commands.specs.Clocks.{RunsIn};
 ghost use Rattle.org_commands.specs.Files.{AreOpened, AreReady, AreSmallToWrite, CommitsHeld, HoldsCommitted, IsPlanFor, IsReady, KeepsFiles, KeepsHeld, PutsPlan, StaysInMemory, disk_of, files_of, has_large, texts_in};
 ghost use Rattle.org_commands.specs.InOrder.{is_name};
 ghost use Rattle.org_commands.specs.Keeping.{Reads};
-ghost use Rattle.org_commands.specs.Clockless.{Forgets};
+ghost use Rattle.org_commands.specs.Clockless.{AreKnown, FollowsEdits, IsKnown, Lowers, StaysKnown};
 ghost use Rattle.org_commands.specs.Reading.{OnlyReads};
 ghost use Rattle.org_commands.specs.Session.{BetweenSessions};
 
 use crate::command::{Refusal, RunFault};
 use org_disk::{Disk, FileName};
 use org_fileset::{FileSet, LIMIT, OpenRefused, SetFault};
-use org_texts::{Held, Plan, Texts};
+use org_splice::Edit;
+use org_state::Searched;
+use org_texts::{Edits, Held, Plan, Texts};
 use std::alloc::{AllocError, Global};
 use std::marker::Model;
 
@@ -39,9 +46,9 @@ pub struct Files<D: Disk> {
     alloc: Global,
     set: FileSet<D>,
     texts: Texts,
-    // Which files are held and known to have no clock that runs, by the numbers of their names; it
-    // may end early.
-    clockless: Vec<bool>,
+    // Where the files are known to have no clock that runs, by the numbers of their names; it may
+    // end early.
+    searched: Vec<Searched>,
 }
 
 impl<D: Disk> Model for Files<D> {
@@ -60,7 +67,7 @@ impl<D: Disk> Model for Files<D> {
     } };
 
     ghost invariant = { λ f. IsSound f.set.names ((f.set.broken ≡ false) × D.honest f.set.disk)
-        (contents (D.files f.set.disk)) f.texts × IsNoted f.set.names f.clockless.items f.texts };
+        (contents (D.files f.set.disk)) f.texts × IsNoted f.set.names f.searched.items f.texts };
 }
 
 impl<D: Disk> Files<D> {
@@ -84,7 +91,7 @@ impl<D: Disk> Files<D> {
                 alloc,
                 set,
                 texts: Texts::new(alloc),
-                clockless: Vec::new(alloc),
+                searched: Vec::new(alloc),
             }),
             Err(refused) => Err(refused),
         }
@@ -217,18 +224,30 @@ impl<D: Disk> Files<D> {
         ensures { IsTrue result → (name : List ℕ) → slice_get self.now.names index ≡ Some name
             → RunsIn self.now.held.before name None }
     {
-        is_noted(&self.clockless, index)
+        is_clockless(&self.searched, index)
     }
 
-    /// Notes that no clock runs in the file of this number, until an edit of it is put. Nothing
+    /// Where the text of the file of this number is known to have no clock that runs.
+    pub(crate) fn searched(&self, index: usize) -> Searched
+        ensures { (name : List ℕ) → slice_get self.now.names index ≡ Some name
+            → ForSome (text_of self.now.held.now name)
+            (λ text. IsSearched result (terminated text.bytes)) }
+    {
+        match self.searched.get(index) {
+            Some(searched) => *searched,
+            None => Searched::nothing(),
+        }
+    }
+
+    /// Notes where the text of the file of this number is known to have no clock that runs. Nothing
     /// else changes.
-    pub(crate) fn note_clockless(&mut self, index: usize)
+    pub(crate) fn note(&mut self, index: usize, searched: Searched)
         requires unedited { self.old.held.now ≡ self.old.held.before }
-        requires clockless { (name : List ℕ) → slice_get self.old.names index ≡ Some name
-            → RunsIn self.old.held.before name None }
+        requires known { (name : List ℕ) → slice_get self.old.names index ≡ Some name
+            → IsKnown searched self.old.held.before name }
         ensures { self.new ≡ self.old }
     {
-        note(&mut self.clockless, index);
+        note(&mut self.searched, index, searched);
     }
 
     /// Makes the edits of a plan, in memory. `TooLarge` where one of the texts would be past the
@@ -239,7 +258,7 @@ impl<D: Disk> Files<D> {
         ensures before { self.new.held.before ≡ self.old.held.before }
         ensures puts { PutsPlan plan.now self.old.held result self.new.held }
     {
-        forget_plan(&mut self.clockless, self.set.names(), plan);
+        lower_plan(&mut self.searched, self.set.names(), &self.texts, plan);
         self.texts.apply(plan)?;
         if is_large(&self.texts, plan) {
             self.texts.undo();
@@ -322,43 +341,98 @@ fn is_large(texts: &Texts, plan: &Plan<'_>) -> bool
     }
 }
 
-/// Whether the file of this number is noted.
-fn is_noted(clockless: &[bool], index: usize) -> bool
-    ensures { IsTrue result → slice_get clockless.now index ≡ Some true }
+/// Whether it is known that no clock runs in the file of this number.
+fn is_clockless(notes: &[Searched], index: usize) -> bool
+    ensures { IsTrue result → slice_get notes.now index ≡ Some Clockless }
 {
-    matches!(clockless.get(index), Some(true))
+    matches!(notes.get(index), Some(Searched::Clockless))
 }
 
-/// Notes the file of this number, where it is noted already or is the next one. Without memory it
-/// isn't noted.
-fn note(clockless: &mut Vec<bool>, index: usize)
-    ensures { (i : ℕ) → slice_get clockless.new.items i ≡ Some true
-        → (i ≡ index) ⊎ (slice_get clockless.old.items i ≡ Some true) }
+/// Notes what is known of the file of this number, where it is noted already or is the next one.
+/// Without memory it isn't noted.
+fn note(notes: &mut Vec<Searched>, index: usize, searched: Searched)
+    ensures { (i : ℕ) (new : Searched) → slice_get notes.new.items i ≡ Some new
+        → ((i ≡ index) × (new ≡ searched)) ⊎ (slice_get notes.old.items i ≡ Some new) }
 {
-    if index < clockless.len() {
-        clockless[index] = true;
-    } else if index == clockless.len() {
-        let _ = clockless.push(true);
+    if index < notes.len() {
+        notes[index] = searched;
+    } else if index == notes.len() {
+        let _ = notes.push(searched);
     }
 }
 
-/// Forgets what was noted of the file of this name.
-fn forget(clockless: &mut Vec<bool>, names: &[FileName], file: &FileName)
-    ensures { Forgets names.now (file.now ∷ []) clockless.old.items clockless.new.items }
+/// The size of the held text of this name.
+fn size_of(texts: &Texts, name: &FileName) -> usize
+    ensures { ForSome (text_of texts.now.now name.now) (λ text. result ≤ length text.bytes) }
+{
+    match texts.get(name) {
+        Some(held) => held.bytes().len(),
+        None => 0,
+    }
+}
+
+/// What is known of a text of this size, or of a larger one, behind edits.
+fn lowered(searched: Searched, size: usize, edits: &Edits) -> Searched
+    ensures stays { StaysKnown searched result }
+    ensures follows { FollowsEdits size edits.now.items searched result }
+{
+    let (first, rest) = edits.parts();
+    let mut searched = searched.behind(size, first);
+    let mut size = size_behind(size, first);
+    for edit in rest {
+        searched = searched.behind(size, edit);
+        size = size_behind(size, edit);
+    }
+    searched
+}
+
+/// The size of a text behind an edit, or a smaller one.
+fn size_behind(size: usize, edit: &Edit) -> usize
+    ensures { (text : List ℕ) → size ≤ length text
+        → edit.now.at + edit.now.removed ≤ length text
+        → result ≤ length (applied edit.now text) }
+{
+    size.saturating_sub(edit.removed)
+        .saturating_add(edit.bytes.len())
+}
+
+/// Lowers what is noted of one file, whose text has this size, or a larger one, to what is known
+/// behind edits.
+fn lower(notes: &mut Vec<Searched>, names: &[FileName], file: &FileName, size: usize, edits: &Edits)
+    ensures { Lowers names.now file.now size edits.now.items notes.old.items notes.new.items }
 {
     for (index, name) in names.iter().enumerate() {
-        if index < clockless.len() && file == name {
-            clockless[index] = false;
+        if index < notes.len() && file == name {
+            notes[index] = lowered(notes[index], size, edits);
         }
     }
 }
 
-/// Forgets what was noted of the files that a plan changes.
-fn forget_plan(clockless: &mut Vec<bool>, names: &[FileName], plan: &Plan<'_>)
-    ensures { Forgets names.now (files_of plan.now) clockless.old.items clockless.new.items }
+/// Lowers what is noted of the files that a plan changes.
+fn lower_plan(notes: &mut Vec<Searched>, names: &[FileName], texts: &Texts, plan: &Plan<'_>)
+    requires plan { IsPlan plan.now texts.now.now }
+    requires ready { AreReady (files_of plan.now) texts.now }
+    ensures stays { (set : TextSet) → AreKnown names.now notes.old.items set
+        → AreKnown names.now notes.new.items set }
+    ensures follows { AreKnown names.now notes.old.items texts.now.now
+        → AreKnown names.now notes.new.items (planned plan.now texts.now.now) }
 {
-    forget(clockless, names, plan.first.file.name());
+    let first = plan.first.file.name();
+    lower(
+        notes,
+        names,
+        first,
+        size_of(texts, first),
+        &plan.first.edits,
+    );
     if let Some(change) = &plan.second {
-        forget(clockless, names, change.file.name());
+        let second = change.file.name();
+        // Of the same file the size isn't known here: the first edits changed it.
+        let size = if second == first {
+            0
+        } else {
+            size_of(texts, second)
+        };
+        lower(notes, names, second, size, &change.edits);
     }
 }

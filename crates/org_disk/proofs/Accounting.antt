@@ -74,13 +74,18 @@ accounts_then {g = g} {new = new} first second = record {
 }
 
 -- Of calls that only look, by what is seen of the disk: `LooksOver g` names its parts as well.
-pub looks_none : {D : Type 0} (files : D → List ℕ → FileState) (moment : D → ℕ) (left_since : D → ℕ → (List ℕ → List ℕ) → Type 0) (disk : D)
-    → LooksInCall files moment left_since disk disk
-looks_none files moment left_since disk = record { same = refl; time = passes_none (moment disk) (left_since disk) (AreImages (files disk)) }
+pub looks_none : {D : Type 0} (files : D → List ℕ → FileState) (instant : D → ℕ) (left_since : D → ℕ → (List ℕ → List ℕ) → Type 0) (disk : D)
+    → LooksInCall files instant left_since disk disk
+looks_none files instant left_since disk = record { same = refl; time = passes_none (instant disk) (left_since disk) (AreImages (files disk)) }
 
-pub looks_then : {D : Type 0} {files : D → List ℕ → FileState} {moment : D → ℕ} {left_since : D → ℕ → (List ℕ → List ℕ) → Type 0} {old mid new : D}
-    → LooksInCall files moment left_since old mid → LooksInCall files moment left_since mid new → LooksInCall files moment left_since old new
+pub looks_then : {D : Type 0} {files : D → List ℕ → FileState} {instant : D → ℕ} {left_since : D → ℕ → (List ℕ → List ℕ) → Type 0} {old mid new : D}
+    → LooksInCall files instant left_since old mid → LooksInCall files instant left_since mid new → LooksInCall files instant left_since old new
 looks_then first second = record {
   same = second.same ∙ first.same;
   time = passes_then first.time second.time (λ image left. subst (λ (f : List ℕ → FileState). AreImages f image) first.same left);
 }
+
+-- the same where each is known while the disk is honest behind it
+pub looks_behind : {D : Type 0} {files : D → List ℕ → FileState} {instant : D → ℕ} {left_since : D → ℕ → (List ℕ → List ℕ) → Type 0} {old mid new : D} {before after : Type 0}
+    → (before → LooksInCall files instant left_since old mid) → (after → before) → (after → LooksInCall files instant left_since mid new) → after → LooksInCall files instant left_since old new
+looks_behind first back second ended = looks_then (first (back ended)) (second ended)

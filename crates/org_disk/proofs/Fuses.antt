@@ -1,5 +1,5 @@
 -- The accounts of a fuse, of those of its disk.
-use Rattle.std.proofs.Common.{◌≡◌, ℕ, ◌+◌, ◌-◌, ◌^◌, min, List, refl, sym, ap, ◌∙◌, subst, inl, inr, ⊎_elim, arith}
+use Rattle.std.proofs.Common.{◌≡◌, ℕ, ◌+◌, ◌-◌, ◌^◌, min, Bool, true, false, true≢false, List, refl, sym, ap, ◌∙◌, subst, inl, inr, ⊎_elim, arith}
 use Rattle.std.specs.Prelude.{Result, Ok, Err}
 use Rattle.std.proofs.lemmas.Bool.{cases_lt}
 use Rattle.org_disk.specs.Calls.{AccountsOfCall, LooksInCall, PassesInCall}
@@ -54,16 +54,16 @@ accounts_passed {honest = honest} {failures = failures} old mid new (Err fault) 
 pub burns_blown : {D A : Type 0} (old new : Fuse D) (fault : DiskFault) → new.passes ≡ old.passes - 1 → old.passes ≡ 0 → new.disk ≡ old.disk → Burns {A = A} old new (Err fault)
 burns_blown old new fault spent none same = record { spent = spent; blown = λ none. (refl, same); passed = λ some. absurd (omega (arith, some, none)) }
 
-pub burns_passed : {D A : Type 0} (old new : Fuse D) (result : Result A DiskFault) → new.passes ≡ old.passes - 1 → (old.passes ≡ 0 → ⊥) → new.failures ≡ old.failures → Burns old new result
-burns_passed old new result spent some kept = record { spent = spent; blown = λ none. absurd (some none); passed = λ some. kept }
+pub burns_passed : {D A : Type 0} (old new : Fuse D) (result : Result A DiskFault) (passes : Bool) → passes ≡ true → (old.passes ≡ 0 → passes ≡ false) → new.passes ≡ old.passes - 1 → new.failures ≡ old.failures → Burns old new result
+burns_passed old new result passes some none spent kept = record { spent = spent; blown = λ last. absurd (true≢false (sym some ∙ none last)); passed = λ some. kept }
 
 -- The disk, where a call failed at the fuse.
-module _ {D : Type 0} (files : D → List ℕ → FileState) (moment : D → ℕ) (left_since : D → ℕ → (List ℕ → List ℕ) → Type 0) (old new : D) (same : new ≡ old) where
-  pub passes_blown : (P : (List ℕ → List ℕ) → Type 0) → PassesInCall moment left_since old new P
-  passes_blown P = subst (λ (d : D). PassesInCall moment left_since old d P) (sym same)
+module _ {D : Type 0} (files : D → List ℕ → FileState) (instant : D → ℕ) (left_since : D → ℕ → (List ℕ → List ℕ) → Type 0) (old new : D) (same : new ≡ old) where
+  pub passes_blown : (P : (List ℕ → List ℕ) → Type 0) → PassesInCall instant left_since old new P
+  passes_blown P = subst (λ (d : D). PassesInCall instant left_since old d P) (sym same)
       (record { later = omega arith; nothing_else = λ t image le left. inl left; keeps = λ t image le left. left })
 
-  pub looks_blown : LooksInCall files moment left_since old new
+  pub looks_blown : LooksInCall files instant left_since old new
   looks_blown = record { same = ap files same; time = passes_blown (AreImages (files old)) }
 
   pub changes_blown : (effect : FileState → FileState) (name : List ℕ) (fault : DiskFault) → IsImage (files new name) (files new name).content → Changes effect name (files old) (files new) (Err fault)

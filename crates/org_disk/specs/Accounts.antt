@@ -23,16 +23,16 @@ module _ {D : Type 0} (g : Ghosts D) (old new : D) where
   -- Time goes on from the one disk to the other, and a crash meanwhile leaves nothing new but what
   -- has P.
   abbrev pub PassesOver : ((List ℕ → List ℕ) → Type 0) → Type 0
-  PassesOver P = PassesInCall g.moment g.left_since old new P
+  PassesOver P = PassesInCall g.instant g.left_since old new P
 
   -- A crash at any moment since the one disk leaves what has P.
   abbrev pub LeavesOver : ((List ℕ → List ℕ) → Type 0) → Type 0
   LeavesOver P =
-      LeavesOnly (g.moment old) (g.moment new) (g.left_since old) (g.left_since new) P
+      LeavesOnly (g.instant old) (g.instant new) (g.left_since old) (g.left_since new) P
 
   -- a call that only looks
   abbrev pub LooksOver : Type 0
-  LooksOver = LooksInCall g.files g.moment g.left_since old new
+  LooksOver = LooksInCall g.files g.instant g.left_since old new
 
   abbrev pub Looks : Type 0
   Looks = g.honest new → LooksOver

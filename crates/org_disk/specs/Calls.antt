@@ -19,11 +19,11 @@ pub record AccountsOfCall {D : Type 0} {A : Type 0} (truthful : Type 0) (honest 
 -- has P.
 abbrev pub PassesInCall : {D : Type 0} → (D → ℕ) → (D → ℕ → (List ℕ → List ℕ) → Type 0)
     → D → D → ((List ℕ → List ℕ) → Type 0) → Type 0
-PassesInCall moment left_since old new P =
-    Passes (moment old) (moment new) (left_since old) (left_since new) P
+PassesInCall instant left_since old new P =
+    Passes (instant old) (instant new) (left_since old) (left_since new) P
 
 -- A call that only looks: the files stay, and a crash meanwhile leaves an image of them.
-pub record LooksInCall {D : Type 0} (files : D → List ℕ → FileState) (moment : D → ℕ)
+pub record LooksInCall {D : Type 0} (files : D → List ℕ → FileState) (instant : D → ℕ)
     (left_since : D → ℕ → (List ℕ → List ℕ) → Type 0) (old new : D) : Type 0 where
   pub same : files new ≡ files old
-  pub time : PassesInCall moment left_since old new (AreImages (files old))
+  pub time : PassesInCall instant left_since old new (AreImages (files old))

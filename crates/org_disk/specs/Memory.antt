@@ -15,8 +15,8 @@ abbrev pub memory_files : MemoryDisk → List ℕ → FileState
 memory_files disk = files_after disk.calls.items
 
 -- its clock: how many calls it was given, `set` among them
-abbrev pub memory_moment : MemoryDisk → ℕ
-memory_moment disk = length disk.calls.items
+abbrev pub memory_instant : MemoryDisk → ℕ
+memory_instant disk = length disk.calls.items
 
 -- what a crash might have left of it since a moment
 abbrev pub memory_left_since : MemoryDisk → ℕ → (List ℕ → List ℕ) → Type 0
@@ -25,7 +25,7 @@ memory_left_since disk = LeftSince disk.calls.items
 -- a call without effect: each file is as it was, and a crash within the call leaves an image from
 -- before it
 abbrev pub HasNoEffect : MemoryDisk → MemoryDisk → Type 0
-HasNoEffect old new = LooksInCall memory_files memory_moment memory_left_since old new
+HasNoEffect old new = LooksInCall memory_files memory_instant memory_left_since old new
 
 -- how many calls of `Disk` are in the record
 abbrev pub call_count : MemoryDisk → ℕ

@@ -34,7 +34,7 @@ pub trait Disk {
     ghost files: { Self → List ℕ → FileState };
 
     /// A clock, which no call sets back.
-    ghost moment: { Self → ℕ };
+    ghost instant: { Self → ℕ };
 
     /// What a crash might have left of the disk at this moment or later, within a call or between
     /// two.
@@ -47,7 +47,7 @@ pub trait Disk {
     fn length(&mut self, name: &FileName) -> Result<u64, DiskFault>
         ensures value { IfOk result (λ n. honest self.new →
             n ≡ length (files self.old name.now).content) }
-        ensures looks { honest self.new → LooksInCall files moment left_since self.old self.new }
+        ensures looks { honest self.new → LooksInCall files instant left_since self.old self.new }
         ensures accounts { AccountsOfCall truthful honest failures self.old self.new result };
 
     /// Fills the buffer with the bytes of a file from `from` on; they lie within its length. It
@@ -57,7 +57,7 @@ pub trait Disk {
             (files self.old name.now).content }
         ensures bytes { OnOk result (honest self.new →
             into.new ≡ take (length into.old) (drop from (files self.old name.now).content)) }
-        ensures looks { honest self.new → LooksInCall files moment left_since self.old self.new }
+        ensures looks { honest self.new → LooksInCall files instant left_since self.old self.new }
         ensures accounts { AccountsOfCall truthful honest failures self.old self.new result };
 
     /// Writes bytes over a file from `from` on, which is at most its length; the file grows where
@@ -70,7 +70,7 @@ pub trait Disk {
         ensures effect { honest self.new →
             Changes (write from bytes.now) name.now (files self.old) (files self.new) result }
         ensures time { honest self.new →
-            PassesInCall moment left_since self.old self.new
+            PassesInCall instant left_since self.old self.new
             (AreLeftBy (write from bytes.now) name.now (files self.old)) }
         ensures accounts { AccountsOfCall truthful honest failures self.old self.new result };
 
@@ -82,7 +82,7 @@ pub trait Disk {
         ensures effect { honest self.new →
             Changes (cut to) name.now (files self.old) (files self.new) result }
         ensures time { honest self.new →
-            PassesInCall moment left_since self.old self.new
+            PassesInCall instant left_since self.old self.new
             (AreLeftBy (cut to) name.now (files self.old)) }
         ensures accounts { AccountsOfCall truthful honest failures self.old self.new result };
 
@@ -91,7 +91,7 @@ pub trait Disk {
         ensures effect { honest self.new →
             Changes sync name.now (files self.old) (files self.new) result }
         ensures time { honest self.new →
-            PassesInCall moment left_since self.old self.new
+            PassesInCall instant left_since self.old self.new
             (AreLeftBy sync name.now (files self.old)) }
         ensures accounts { AccountsOfCall truthful honest failures self.old self.new result };
 
@@ -101,9 +101,9 @@ pub trait Disk {
 
     /// A crash at this moment may leave each image of the disk.
     ghost counts_now: { (disk : Self) (t : ℕ) (image : List ℕ → List ℕ) → honest disk →
-        t ≤ moment disk → AreImages (files disk) image → left_since disk t image };
+        t ≤ instant disk → AreImages (files disk) image → left_since disk t image };
 
     /// A crash at this moment leaves an image of the disk, and nothing else.
     ghost only_now: { (disk : Self) (image : List ℕ → List ℕ) → honest disk →
-        left_since disk (moment disk) image → AreImages (files disk) image };
+        left_since disk (instant disk) image → AreImages (files disk) image };
 }

@@ -67,7 +67,7 @@ impl<D: Disk> Disk for Fuse<D> {
 
     ghost files = { λ fuse. D.files fuse.disk };
 
-    ghost moment = { λ fuse. D.moment fuse.disk };
+    ghost instant = { λ fuse. D.instant fuse.disk };
 
     ghost left_since = { λ fuse. D.left_since fuse.disk };
 
@@ -84,7 +84,7 @@ impl<D: Disk> Disk for Fuse<D> {
         ensures value { IfOk result (λ n. D.honest self.new.disk →
             n ≡ length (D.files self.old.disk name.now).content) }
         ensures looks { D.honest self.new.disk →
-            LooksInCall D.files D.moment D.left_since self.old.disk self.new.disk }
+            LooksInCall D.files D.instant D.left_since self.old.disk self.new.disk }
         ensures accounts { AccountsOfCall D.truthful (λ fuse. D.honest fuse.disk)
             (λ fuse. fuse_failures fuse.failures (D.failures fuse.disk)) self.old self.new result }
         ensures burns { Burns self.old self.new result }
@@ -101,7 +101,7 @@ impl<D: Disk> Disk for Fuse<D> {
         ensures bytes { OnOk result (D.honest self.new.disk → into.new ≡
             take (length into.old) (drop from (D.files self.old.disk name.now).content)) }
         ensures looks { D.honest self.new.disk →
-            LooksInCall D.files D.moment D.left_since self.old.disk self.new.disk }
+            LooksInCall D.files D.instant D.left_since self.old.disk self.new.disk }
         ensures accounts { AccountsOfCall D.truthful (λ fuse. D.honest fuse.disk)
             (λ fuse. fuse_failures fuse.failures (D.failures fuse.disk)) self.old self.new result }
         ensures burns { Burns self.old self.new result }
@@ -120,7 +120,7 @@ impl<D: Disk> Disk for Fuse<D> {
             Changes (write from bytes.now) name.now
             (D.files self.old.disk) (D.files self.new.disk) result }
         ensures time { D.honest self.new.disk →
-            PassesInCall D.moment D.left_since self.old.disk self.new.disk
+            PassesInCall D.instant D.left_since self.old.disk self.new.disk
             (AreLeftBy (write from bytes.now) name.now (D.files self.old.disk)) }
         ensures accounts { AccountsOfCall D.truthful (λ fuse. D.honest fuse.disk)
             (λ fuse. fuse_failures fuse.failures (D.failures fuse.disk)) self.old self.new result }
@@ -137,7 +137,7 @@ impl<D: Disk> Disk for Fuse<D> {
         ensures effect { D.honest self.new.disk →
             Changes (cut to) name.now (D.files self.old.disk) (D.files self.new.disk) result }
         ensures time { D.honest self.new.disk →
-            PassesInCall D.moment D.left_since self.old.disk self.new.disk
+            PassesInCall D.instant D.left_since self.old.disk self.new.disk
             (AreLeftBy (cut to) name.now (D.files self.old.disk)) }
         ensures accounts { AccountsOfCall D.truthful (λ fuse. D.honest fuse.disk)
             (λ fuse. fuse_failures fuse.failures (D.failures fuse.disk)) self.old self.new result }
@@ -153,7 +153,7 @@ impl<D: Disk> Disk for Fuse<D> {
         ensures effect { D.honest self.new.disk →
             Changes sync name.now (D.files self.old.disk) (D.files self.new.disk) result }
         ensures time { D.honest self.new.disk →
-            PassesInCall D.moment D.left_since self.old.disk self.new.disk
+            PassesInCall D.instant D.left_since self.old.disk self.new.disk
             (AreLeftBy sync name.now (D.files self.old.disk)) }
         ensures accounts { AccountsOfCall D.truthful (λ fuse. D.honest fuse.disk)
             (λ fuse. fuse_failures fuse.failures (D.failures fuse.disk)) self.old self.new result }

@@ -328,7 +328,7 @@ impl Disk for MemoryDisk {
     ghost use Rattle.std.specs.Prelude.{◌≡◌, ◌+◌, ◌^◌, ◌<◌, ◌≤◌, length, take, drop, IfOk, IsFalse, OnOk, OnErr};
     ghost use Rattle.org_disk.specs.Disk.{AreLeftBy, Changes, cut, sync, write};
     ghost use Rattle.org_disk.specs.Calls.{PassesInCall};
-    ghost use Rattle.org_disk.specs.Memory.{call_count, memory_files, memory_left_since, memory_moment, crashes_within, HasNoEffect, TakesTurn};
+    ghost use Rattle.org_disk.specs.Memory.{call_count, memory_files, memory_left_since, memory_instant, crashes_within, HasNoEffect, TakesTurn};
     ghost use Rattle.org_disk.specs.RecordLaws.{own_image, now_counts, now_alone};
 
     ghost honest = { λ _. Unit {0} };
@@ -337,7 +337,7 @@ impl Disk for MemoryDisk {
 
     ghost files = { memory_files };
 
-    ghost moment = { memory_moment };
+    ghost instant = { memory_instant };
 
     ghost left_since = { memory_left_since };
 
@@ -378,7 +378,7 @@ impl Disk for MemoryDisk {
         requires fits { from + length bytes.now < 2 ^ 64 }
         ensures effect { Changes (write from bytes.now) name.now
             (memory_files self.old) (memory_files self.new) result }
-        ensures time { PassesInCall memory_moment memory_left_since self.old self.new
+        ensures time { PassesInCall memory_instant memory_left_since self.old self.new
             (AreLeftBy (write from bytes.now) name.now (memory_files self.old)) }
         ensures no_effect { IsFalse (crashes_within self.old.crash) →
             OnErr result (HasNoEffect self.old self.new) }
@@ -398,7 +398,7 @@ impl Disk for MemoryDisk {
         requires { to ≤ length (memory_files self.old name.now).content }
         ensures effect { Changes (cut to) name.now
             (memory_files self.old) (memory_files self.new) result }
-        ensures time { PassesInCall memory_moment memory_left_since self.old self.new
+        ensures time { PassesInCall memory_instant memory_left_since self.old self.new
             (AreLeftBy (cut to) name.now (memory_files self.old)) }
         ensures no_effect { IsFalse (crashes_within self.old.crash) →
             OnErr result (HasNoEffect self.old self.new) }
@@ -411,7 +411,7 @@ impl Disk for MemoryDisk {
     fn sync(&mut self, name: &FileName) -> Result<(), DiskFault>
         ensures effect { Changes sync name.now (memory_files self.old) (memory_files self.new)
             result }
-        ensures time { PassesInCall memory_moment memory_left_since self.old self.new
+        ensures time { PassesInCall memory_instant memory_left_since self.old self.new
             (AreLeftBy sync name.now (memory_files self.old)) }
         ensures no_effect { OnErr result (HasNoEffect self.old self.new) }
         ensures turn { TakesTurn self.old self.new result }

@@ -130,10 +130,10 @@ changes_left changes entries files m n past since are edits left = record {
 
 -- no call of the disk, and no change
 pub commits_none : {D A E : Type 0} (g : Ghosts D) (after : Image) (Alone : List ℕ → Type 0) (disk : D) (r : Result A E)
-    → ((image : Image) → g.left_since disk (g.moment disk) image → AreImages (g.files disk) image) → OnOk r (IsCommitted after (g.files disk) (g.files disk)) → CommitsOver g after Alone disk disk r
+    → ((image : Image) → g.left_since disk (g.instant disk) image → AreImages (g.files disk) image) → OnOk r (IsCommitted after (g.files disk) (g.files disk)) → CommitsOver g after Alone disk disk r
 commits_none g after Alone disk r now done = record {
   done = done;
-  any_moment = λ rest. leaves_only (passes_none (g.moment disk) (g.left_since disk) (IsBeforeOrAfter (contents (g.files disk)) after)) (λ image left. inl (at_rest_recovers (g.files disk) rest image (now image left)));
+  any_moment = λ rest. leaves_only (passes_none (g.instant disk) (g.left_since disk) (IsBeforeOrAfter (contents (g.files disk)) after)) (λ image left. inl (at_rest_recovers (g.files disk) rest image (now image left)));
   recoverable = λ rest. inl (λ name not. rest.stable name);
   alone = alone_none g Alone disk;
 }
@@ -148,7 +148,7 @@ commits_changes g changes entries old new r s some are edits commits done = reco
     made = λ name not. made.made name not ∙ changes_made changes entries (contents (g.files old)) name are edits;
     rest = made.rest;
   }) done;
-  any_moment = λ rest. changes_left changes entries (contents (g.files old)) (g.moment old) (g.moment new) (g.left_since old) (g.left_since new) are edits (commits.any_moment rest);
+  any_moment = λ rest. changes_left changes entries (contents (g.files old)) (g.instant old) (g.instant new) (g.left_since old) (g.left_since new) are edits (commits.any_moment rest);
   recoverable = commits.recoverable;
   alone = alone_fewer g (IsOther (keys_of changes)) (IsUnwritten entries) old new commits.alone (λ name other. others_unwritten changes entries name are some other);
 }

@@ -20,12 +20,12 @@ rest_recovers files texts rest = closed_recovers texts (contents files) (shut (c
 
 -- an image of the disk in the middle is one that a crash might have left since the start
 pub counts_between : {D : Type 0} (g : Ghosts D) (old mid new : D)
-    → ((image : Image) → AreImages (g.files mid) image → g.left_since mid (g.moment old) image) → IsBetween g old mid new
-    → (image : Image) → AreImages (g.files mid) image → g.left_since new (g.moment old) image
+    → ((image : Image) → AreImages (g.files mid) image → g.left_since mid (g.instant old) image) → IsBetween g old mid new
+    → (image : Image) → AreImages (g.files mid) image → g.left_since new (g.instant old) image
 counts_between g old mid new counts between image left = between.keeps image (counts image left)
 
 pub middle_of_commit : {D : Type 0} (g : Ghosts D) (old mid new : D) (after : Image)
-    → ((image : Image) → AreImages (g.files mid) image → g.left_since mid (g.moment old) image) → AreImages (g.files mid) (contents (g.files mid)) → IsAtRest (g.files mid)
+    → ((image : Image) → AreImages (g.files mid) image → g.left_since mid (g.instant old) image) → AreImages (g.files mid) (contents (g.files mid)) → IsAtRest (g.files mid)
     → IsBetween g old mid new → LeavesOver g old new (IsBeforeOrAfter (contents (g.files old)) after)
     → SameFiles (contents (g.files mid)) (contents (g.files old)) ⊎ SameFiles (contents (g.files mid)) after
 middle_of_commit g old mid new after counts own rest between leaves =
@@ -36,7 +36,7 @@ differ : (half held other : Image) → SameFiles held half → AreOtherFiles hal
 differ half held other made apart same = apart.differs (sym (made apart.name apart.apart) ∙ same apart.name apart.apart)
 
 pub commits_apart : {D : Type 0} (g : Ghosts D) (old mid new : D) (half after : Image)
-    → ((image : Image) → AreImages (g.files mid) image → g.left_since mid (g.moment old) image) → AreImages (g.files mid) (contents (g.files mid)) → IsAtRest (g.files old)
+    → ((image : Image) → AreImages (g.files mid) image → g.left_since mid (g.instant old) image) → AreImages (g.files mid) (contents (g.files mid)) → IsAtRest (g.files old)
     → IsCommitted half (g.files old) (g.files mid) → AreOtherFiles half (contents (g.files old)) → AreOtherFiles half after
     → IsBetween g old mid new → LeavesOver g old new (IsBeforeOrAfter (contents (g.files old)) after) → ⊥
 commits_apart g old mid new half after counts own rest made from_old from_new between leaves =
@@ -47,4 +47,4 @@ commits_apart g old mid new half after counts own rest made from_old from_new be
 pub between_commits : {D : Type 0} (g : Ghosts D) (old mid new : D) {P Q : Image → Type 0}
     → LeavesOver g old mid P → LeavesOver g mid new Q → IsBetween g old mid new
 between_commits g old mid new first second =
-    record { later = first.passes.later; keeps = λ image left. second.passes.keeps (g.moment old) image first.passes.later left }
+    record { later = first.passes.later; keeps = λ image left. second.passes.keeps (g.instant old) image first.passes.later left }

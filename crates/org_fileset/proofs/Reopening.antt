@@ -99,8 +99,8 @@ module _ {D : Type 0} (g : Ghosts D) where
   reopens_as old new r told made done = record { done = done; any_moment = made.any_moment; recoverable = made.recoverable; bad = made.bad; idle = made.idle; alone = made.alone }
 
 module _ {D : Type 0} (g : Ghosts D) (old : D)
-    (starts : (image : Image) → g.left_since old (g.moment old) image → AreImages (g.files old) image) where
-  before : EachRecovers (g.files old) → (image : Image) → g.left_since old (g.moment old) image → RecoversAsBefore (g.files old) image
+    (starts : (image : Image) → g.left_since old (g.instant old) image → AreImages (g.files old) image) where
+  before : EachRecovers (g.files old) → (image : Image) → g.left_since old (g.instant old) image → RecoversAsBefore (g.files old) image
   before each image left = as_before (g.files old) each image (starts image left)
 
   -- a look that fails is an opening that fails

@@ -21,7 +21,7 @@ use Rattle.org_fileset.specs.Writes.{HasImagesOf, LeavesAlone, IsOther, IsUnwrit
 module _ {D : Type 0} (g : Ghosts D) where
   -- no call
   pub alone_none : (These : List ℕ → Type 0) (disk : D) → LeavesAlone g These disk disk
-  alone_none These disk = record { same = λ name this. refl; time = passes_none (g.moment disk) (g.left_since disk) (HasImagesOf These (g.files disk)) }
+  alone_none These disk = record { same = λ name this. refl; time = passes_none (g.instant disk) (g.left_since disk) (HasImagesOf These (g.files disk)) }
 
   -- one run of calls after another
   pub alone_then : (These : List ℕ → Type 0) (old mid new : D) → LeavesAlone g These old mid → LeavesAlone g These mid new

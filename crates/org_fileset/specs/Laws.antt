@@ -56,9 +56,9 @@ pub record AreAtRest (texts : Image) (files : List ℕ → FileState) : Type 0 w
 -- of it is forgotten.
 pub record IsBetween {D : Type 0} (g : Ghosts D)
     (old mid new : D) : Type 0 where
-  pub later : g.moment old ≤ g.moment mid
-  pub keeps : (image : Image) → g.left_since mid (g.moment old) image
-      → g.left_since new (g.moment old) image
+  pub later : g.instant old ≤ g.instant mid
+  pub keeps : (image : Image) → g.left_since mid (g.instant old) image
+      → g.left_since new (g.instant old) image
 
 -- some file but the journal has other bytes
 pub record AreOtherFiles (one other : Image) : Type 0 where

@@ -25,7 +25,7 @@ abbrev pub IsDeviceRefusal : {A D : Type 0} → Result A (OpenRefused D) → Typ
 IsDeviceRefusal (Ok opened) = ⊥
 IsDeviceRefusal (Err refused) = refused.fault ≡ Device
 
--- the same fault, as an opening tells it
+-- the same fault, as an opening reports it
 abbrev pub fault_of : FindFault → OpenFault
 fault_of find.BadJournal = BadJournal
 fault_of find.Device = Device

@@ -157,10 +157,10 @@ pub record CommitsOver {D A E : Type 0} (g : Ghosts D) (after : Image) (Alone : 
 abbrev pub AppliesPatchesOver : {D : Type 0} → Ghosts D → List (ℕ × List ℕ) → ℕ → List ℕ → List ℕ
     → D → D → Type 0
 AppliesPatchesOver g patches final name to old new =
-    AppliesPatches patches final name to (g.moment old) (g.moment new) (g.left_since old)
+    AppliesPatches patches final name to (g.instant old) (g.instant new) (g.left_since old)
     (g.left_since new) (g.files old) (g.files new)
 
 abbrev pub TakesOver : {D : Type 0} → Ghosts D → List Entry → Image → D → D → Type 0
 TakesOver g entries texts old new =
-    Replays entries texts (g.moment old) (g.moment new) (g.left_since old) (g.left_since new)
+    Replays entries texts (g.instant old) (g.instant new) (g.left_since old) (g.left_since new)
     (g.files old) (g.files new)

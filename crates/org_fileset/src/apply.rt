@@ -19,6 +19,10 @@ use org_journal::Entry;
 /// Applies an entry's patches to its file, and cuts it to the entry's length. Before, within and
 /// after it, also where it fails, the entry makes the same text of whatever a crash leaves of the
 /// file.
+///
+/// # Errors
+///
+/// `DiskFault`: a call of the disk failed.
 pub fn apply_entry<D: Disk>(disk: &mut D, entry: &Entry) -> Result<(), DiskFault>
     requires formed { D.honest disk.old →
         AreWellFormed (pairs_of entry.now.patches) entry.now.length }
@@ -50,6 +54,10 @@ pub fn apply_entry<D: Disk>(disk: &mut D, entry: &Entry) -> Result<(), DiskFault
 /// Applies the entries of a record to their files, one after the other. Before, within and after
 /// it, also where it fails, the record makes the same texts of whatever a crash leaves of the
 /// files, if it did so at the start.
+///
+/// # Errors
+///
+/// `DiskFault`: a call of the disk failed.
 pub fn apply_all<D: Disk>(disk: &mut D, entries: &[Entry]) -> Result<(), DiskFault>
     requires applicable { D.honest disk.old → AreApplicable entries.now }
     requires fits { D.honest disk.old → IsTrue (all_fit entries.now (contents (D.files disk.old))) }
@@ -71,6 +79,10 @@ pub fn apply_all<D: Disk>(disk: &mut D, entries: &[Entry]) -> Result<(), DiskFau
 
 /// Syncs the files of a record. Before, within and after it, also where it fails, the record makes
 /// the same texts of whatever a crash leaves of the files, if it did so at the start.
+///
+/// # Errors
+///
+/// `DiskFault`: a call of the disk failed.
 pub fn sync_all<D: Disk>(disk: &mut D, entries: &[Entry]) -> Result<(), DiskFault>
     requires { D.honest disk.old → AreApplicable entries.now }
     ensures replays { D.honest disk.new → IsStable (D.files disk.old journal_name)

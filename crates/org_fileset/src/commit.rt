@@ -20,6 +20,10 @@ use org_journal::{Entry, arm, close_gate, open_gate};
 /// Does what an open journal's record says: applies it to its files, syncs them, and closes the
 /// gate. Where the record makes the same texts of whatever a crash leaves at the start, every image
 /// recovers to them at every moment since.
+///
+/// # Errors
+///
+/// `DiskFault`: a call of the disk failed.
 pub fn replay<D: Disk>(disk: &mut D, journal: &FileName, entries: &[Entry]) -> Result<(), DiskFault>
     requires journal { journal.now ≡ journal_name }
     requires applicable { D.honest disk.old → AreApplicable entries.now }
@@ -54,6 +58,10 @@ fn write_record<D: Disk>(disk: &mut D, journal: &FileName, body: &[u8]) -> Resul
 /// on. Where all files are on the disk at the start, every image at every moment since recovers to
 /// all files before, or to all files after. No other file is written; and behind the closed gate
 /// the record stays.
+///
+/// # Errors
+///
+/// `DiskFault`: a call of the disk failed.
 pub fn commit_entries<D: Disk>(
     disk: &mut D,
     journal: &FileName,

@@ -27,6 +27,10 @@ fn entry_of(name: &FileName, text: &Editing) -> Result<Entry, AllocError>
 }
 
 /// The entries of all changed files, in the order of the set.
+///
+/// # Errors
+///
+/// `AllocError`.
 pub fn entries_of<C: Changes<FileName>>(
     alloc: Global,
     changes: &C,

@@ -22,6 +22,10 @@ pub fn in_order(names: Vec<FileName>) -> Vec<FileName>
 
 /// These names, none of which is an archive file's or the journal's, and those of their archive
 /// files.
+///
+/// # Errors
+///
+/// `AllocError`.
 pub fn with_archives(alloc: Global, given: &[FileName]) -> Result<Vec<FileName>, AllocError>
     requires { All IsOrgFile given.now }
     ensures { IfOk result (λ names. names.items ≡ with_archives given.now) }

@@ -84,6 +84,11 @@ impl From<FindFault> for OpenFault {
 }
 
 /// The names of a set's files in byte order: the given ones and those of their archive files.
+///
+/// # Errors
+///
+/// - `TooManyFiles`: more than 256 different names were given.
+/// - `OutOfMemory`.
 pub fn all_names(alloc: Global, given: Vec<FileName>) -> Result<Vec<FileName>, OpenFault>
     requires { All IsOrgFile given.items }
     ensures { AreAllNames given.items result }
@@ -97,6 +102,10 @@ pub fn all_names(alloc: Global, given: Vec<FileName>) -> Result<Vec<FileName>, O
 }
 
 /// The journal's name, and the names of a set's files.
+///
+/// # Errors
+///
+/// Those of `all_names`.
 pub fn journal_and_names(
     alloc: Global,
     given: Vec<FileName>,
@@ -112,6 +121,11 @@ pub fn journal_and_names(
 }
 
 /// Asks for the length of each of these files.
+///
+/// # Errors
+///
+/// - `TooLarge`: the first of the files that is past the limit.
+/// - `Device`, `OutOfMemory`.
 pub fn check_sizes<D: Disk>(disk: &mut D, names: &[FileName]) -> Result<(), OpenFault>
     ensures sizes { D.honest disk.new → HaveSizes (contents (D.files disk.old)) names.now result }
     ensures not_too_many { IsErrOf result OpenFault.TooManyFiles → ⊥ }
@@ -128,6 +142,10 @@ pub fn check_sizes<D: Disk>(disk: &mut D, names: &[FileName]) -> Result<(), Open
 }
 
 /// Finishes what a crash cut short, and then asks for the length of each of these files.
+///
+/// # Errors
+///
+/// Those of `recover`, then those of `check_sizes`.
 pub fn make_ready<D: Disk>(
     alloc: Global,
     disk: &mut D,

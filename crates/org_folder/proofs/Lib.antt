@@ -1,4 +1,4 @@
 mod Names
-mod Told
+mod Recorded
 mod Absent
 mod Places

@@ -15,8 +15,8 @@ is_same None other = false
 abbrev pub is_again : List (Option Node) → ℕ → Bool
 is_again nodes at = list_any (λ other. is_same other (get_or nodes at None)) (take at nodes)
 
--- of these names a name behind the first may be told to lead to a file that has one already
-abbrev pub MayTell : List (List ℕ) → AliasFault → Type 0
-MayTell names (SameFile name) = Contains (drop 1 names) name
-MayTell names Device = Unit {0}
-MayTell names OutOfMemory = Unit {0}
+-- of these names one behind the first may be reported, which leads to the file of one before it
+abbrev pub MayReport : List (List ℕ) → AliasFault → Type 0
+MayReport names (SameFile name) = Contains (drop 1 names) name
+MayReport names Device = Unit {0}
+MayReport names OutOfMemory = Unit {0}

@@ -1,6 +1,7 @@
 -- The calls on the files of a folder: a record of what was asked and answered, and the files that
 -- it stands for.
-use Rattle.std.specs.Prelude.{◌≡◌, ◌≢◌, ◌⊎◌, ◌≤◌, ℕ, Bool, true, false, List, [], ◌∷◌, length, take, drop, if◌then◌else◌, Result, ⊤}
+use Rattle.std.specs.Prelude.{◌≡◌, ◌≢◌, ◌⊎◌, ◌≤◌, ℕ, Bool, true, false, List, [], ◌∷◌, length, take, drop, if◌then◌else◌, Result, ⊤, IsTrue}
+use Rattle.std.specs.List.{list_any}
 use Rattle.std.specs.Str.{bytes_eq}
 use Rattle.org_disk.specs.Disk.{FileState, IsImage, AreImages, AreLeftBy, Changes, Passes, stable, write, cut, sync}
 use Rattle.org_disk.specs.declared.disk.DiskFault.{DiskFault}
@@ -24,7 +25,8 @@ pub record World : Type 0 where
   pub left : List Event → List ℕ
 
 -- a call on the file of one name
-abbrev pub changed : List ℕ → (FileState → FileState) → (List ℕ → FileState) → List ℕ → FileState
+abbrev pub changed : List ℕ → (FileState → FileState) → (List ℕ → FileState)
+    → List ℕ → FileState
 changed name effect files other = if bytes_eq name other then effect (files other) else files other
 
 -- a file after a call that failed: it may have gone any part of its way, and reads as this
@@ -41,7 +43,8 @@ files world (Write name from bytes true ∷ earlier) =
     changed name (write from bytes) (files world earlier)
 files world (Write name from bytes false ∷ earlier) =
     changed name
-    (λ file. reading (world.left (Write name from bytes false ∷ earlier)) (write from bytes file))
+    (λ file.
+    reading (world.left (Write name from bytes false ∷ earlier)) (write from bytes file))
     (files world earlier)
 files world (Cut name n true ∷ earlier) = changed name (cut n) (files world earlier)
 files world (Cut name n false ∷ earlier) =
@@ -75,13 +78,25 @@ abbrev pub AreRight : World → List Event → Type 0
 AreRight world [] = (name : List ℕ) → IsImage (world.start name) (world.start name).content
 AreRight world (event ∷ earlier) = IsRight world event earlier × AreRight world earlier
 
+-- where the answers were right: the place is no farther than the end of the file of a name
+abbrev pub IsWithin : World → List Event → List ℕ → ℕ → Type 0
+IsWithin world calls name n =
+    AreRight world calls → n ≤ length (files world calls name).content
+
+-- where the answers were right: none of these names has a file
+abbrev pub AreAbsent : World → List Event → List (List ℕ) → Type 0
+AreAbsent world calls names =
+    AreRight world calls → (name : List ℕ) → IsTrue (list_any (bytes_eq name) names)
+    → files world calls name ≡ stable []
+
 -- no write, cut or sync among these calls is on the file of this name
 abbrev pub IsLeftAlone : List ℕ → List Event → Type 0
 IsLeftAlone name [] = ⊤
 IsLeftAlone name (Absent other ∷ earlier) = IsLeftAlone name earlier
 IsLeftAlone name (Length other n ∷ earlier) = IsLeftAlone name earlier
 IsLeftAlone name (Read other from bytes ∷ earlier) = IsLeftAlone name earlier
-IsLeftAlone name (Write other from bytes ok ∷ earlier) = (other ≢ name) × IsLeftAlone name earlier
+IsLeftAlone name (Write other from bytes ok ∷ earlier) =
+    (other ≢ name) × IsLeftAlone name earlier
 IsLeftAlone name (Cut other n ok ∷ earlier) = (other ≢ name) × IsLeftAlone name earlier
 IsLeftAlone name (Sync other ok ∷ earlier) = (other ≢ name) × IsLeftAlone name earlier
 

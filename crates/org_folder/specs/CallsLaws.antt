@@ -15,14 +15,15 @@ reading_keeps : (content : List ℕ) (file : FileState) → IsImage file content
 reading_keeps content file image =
     record { no_shorter = image.no_shorter; no_longer = image.no_longer; fixed = λ i fixed. refl }
 
-pub changed_here : (name : List ℕ) (effect : FileState → FileState) (old : List ℕ → FileState)
+pub changed_here : (name : List ℕ) (effect : FileState → FileState)
+    (old : List ℕ → FileState)
     → changed name effect old name ≡ effect (old name)
 changed_here name effect old =
     cond-true (bytes_eq name name) (effect (old name)) (old name)
     ((bytes_eq-Decides name name).1 refl)
 
-pub changed_other : (name : List ℕ) (effect : FileState → FileState) (old : List ℕ → FileState)
-    (other : List ℕ)
+pub changed_other : (name : List ℕ) (effect : FileState → FileState)
+    (old : List ℕ → FileState) (other : List ℕ)
     → other ≢ name → changed name effect old other ≡ old other
 changed_other name effect old other apart =
     cond-false (bytes_eq name other) (effect (old other)) (old other)

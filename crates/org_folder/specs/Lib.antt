@@ -6,3 +6,4 @@ pub mod FolderDisk
 pub mod Locks
 pub mod Note
 pub mod OrgFiles
+pub mod Right

@@ -5,9 +5,10 @@ use Rattle.std.specs.declared.fs.locks.TryLockError.TheVariants.{Error, WouldBlo
 use Rattle.org_folder.specs.declared.lock.LockFault.{LockFault}
 use Rattle.org_folder.specs.declared.lock.LockFault.TheVariants.{Locked}
 
--- The folder where it was locked; a folder that another store has locked is told, and one that
--- can't be locked isn't held.
-abbrev pub held : {F : Type 0} → F → Result (Unit {0}) TryLockError → Result (Option F) LockFault
+-- The folder where it was locked; one that another store has locked is reported, and one that can't
+-- be locked isn't held.
+abbrev pub held : {F : Type 0} → F → Result (Unit {0}) TryLockError
+    → Result (Option F) LockFault
 held folder (Ok _) = Ok (Some folder)
 held folder (Err WouldBlock) = Err Locked
 held folder (Err (Error fault)) = Ok None

@@ -1,4 +1,4 @@
--- What a note of a call tells: the event of its name and bytes.
+-- What a note of a call says: the event of its name and bytes.
 use Rattle.std.specs.Prelude.{ℕ, List}
 use Rattle.org_folder.specs.Calls.{Event}
 use Rattle.org_folder.specs.Calls.Event.{Absent, Length, Read, Write, Cut, Sync}

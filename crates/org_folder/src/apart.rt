@@ -5,8 +5,8 @@
 ghost use Rattle.std.specs.Prelude.{◌≡◌, ◌<◌, ℕ, [], length, IfOk, IfErr, IfSome, IfNone, IsTrue, IsFalse};
 ghost use Rattle.std.specs.List.{list_any};
 ghost use Rattle.std.specs.IoError.{error_kind};
-ghost use Rattle.org_folder.specs.Apart.{is_again, is_same, MayTell};
-ghost use Rattle.org_folder.specs.Faults.{IsToldAs};
+ghost use Rattle.org_folder.specs.Apart.{is_again, is_same, MayReport};
+ghost use Rattle.org_folder.specs.Faults.{IsReportedAs};
 ghost use Rattle.org_folder.specs.declared.apart.AliasFault.TheVariants.{Device, OutOfMemory};
 
 use crate::lock::LockedFolder;
@@ -33,7 +33,7 @@ pub enum AliasFault {
 }
 
 impl From<io::Error> for AliasFault {
-    ghost from_gives = { λ error fault. IsToldAs (error_kind error) OutOfMemory Device fault };
+    ghost from_gives = { λ error fault. IsReportedAs (error_kind error) OutOfMemory Device fault };
 
     fn from(error: io::Error) -> AliasFault {
         match error.kind() {
@@ -59,14 +59,14 @@ impl<T: Drop> From<AllocFailed<T>> for AliasFault {
     }
 }
 
-/// A file as the system tells it from others: its device, and its number there.
+/// What the system distinguishes a file by: its device, and its number there.
 #[derive(Clone, Copy)]
 pub struct Node {
     device: u64,
     number: u64,
 }
 
-/// Looks where names of a locked folder lead, and tells the first that leads to the file of one
+/// Looks where names of a locked folder lead, and reports the first that leads to the file of one
 /// before it. Links are followed; a name without a file leads nowhere. It changes nothing.
 ///
 /// What the system answers of a name is no clause, so whether two names lead to one file isn't
@@ -76,7 +76,7 @@ pub fn check_aliases<R: Files + AllocGlobal>(
     folder: &LockedFolder<'_>,
     names: &[FileName],
 ) -> Result<(), AliasFault>
-    ensures { IfErr result (MayTell names.now) }
+    ensures { IfErr result (MayReport names.now) }
 {
     let nodes = nodes_of(rt, folder.path(), names)?;
     match first_again(nodes.as_slice()) {
@@ -92,7 +92,7 @@ fn nodes_of<R: Files + AllocGlobal>(
     names: &[FileName],
 ) -> Result<Vec<Option<Node>>, AliasFault>
     ensures size { IfOk result (λ nodes. length nodes.items ≡ length names.now) }
-    ensures fault { IfErr result (MayTell []) }
+    ensures fault { IfErr result (MayReport []) }
 {
     let mut nodes = Vec::new(rt.alloc());
     for name in names {
@@ -106,15 +106,15 @@ fn node_of<R: Files + AllocGlobal>(
     path: &str,
     name: &FileName,
 ) -> Result<Option<Node>, AliasFault>
-    ensures { IfErr result (MayTell []) }
+    ensures { IfErr result (MayReport []) }
 {
     let path = Path::new(path).join(rt.alloc(), name.as_str())?;
-    told(fs::metadata(rt, path.as_path()))
+    node_in(fs::metadata(rt, path.as_path()))
 }
 
-// The file that the system told of, none where there is no such file.
-fn told(answer: io::Result<Metadata>) -> Result<Option<Node>, AliasFault>
-    ensures { IfErr result (MayTell []) }
+// The file that the system answered, none where there is no such file.
+fn node_in(answer: io::Result<Metadata>) -> Result<Option<Node>, AliasFault>
+    ensures { IfErr result (MayReport []) }
 {
     match answer {
         Ok(metadata) => Ok(Some(Node {
@@ -128,8 +128,10 @@ fn told(answer: io::Result<Metadata>) -> Result<Option<Node>, AliasFault>
 
 // The first place whose file is that of an earlier one.
 fn first_again(nodes: &[Option<Node>]) -> Option<usize>
-    ensures found { IfSome result (λ at. (at < length nodes.now) × IsTrue (is_again nodes.now at)) }
-    ensures first { IfSome result (λ at. (i : ℕ) → i < at → IsFalse (is_again nodes.now i)) }
+    ensures found { IfSome result (λ at. (at < length nodes.now)
+        × IsTrue (is_again nodes.now at)) }
+    ensures first { IfSome result (λ at. (i : ℕ) → i < at
+        → IsFalse (is_again nodes.now i)) }
     ensures none { IfNone result ((i : ℕ) → i < length nodes.now
         → IsFalse (is_again nodes.now i)) }
 {

@@ -2,8 +2,8 @@
 //!
 //! The record stands in proofs alone. Whether its answers were right is the premise under which a
 //! folder is an honest disk.
-ghost use Rattle.std.specs.Prelude.{◌≡◌, ◌≤◌, List, ◌∷◌, length, is_ok, IsTrue, IsFalse, IfOk, IfSome, IfNone, OnOk, OnErr};
-ghost use Rattle.org_folder.specs.Calls.{files, AreRight, Event, World};
+ghost use Rattle.std.specs.Prelude.{◌≡◌, List, ◌∷◌, is_ok, IsTrue, IsFalse, IfOk, IfSome, IfNone, OnOk, OnErr};
+ghost use Rattle.org_folder.specs.Calls.{Event, IsWithin, World};
 ghost use Rattle.org_folder.specs.Calls.Event.{Absent, Cut, Length, Read, Sync, Write};
 
 use org_disk::{DiskFault, FileName};
@@ -115,15 +115,13 @@ pub trait Calls {
         from: u64,
         bytes: &[u8],
     ) -> Result<(), DiskFault>
-        requires { AreRight world (history self.old) →
-            from ≤ length (files world (history self.old) opened.now.name).content }
-        ensures { history self.new ≡ Write opened.now.name from bytes.now (is_ok result) ∷ history
-            self.old };
+        requires { IsWithin world (history self.old) opened.now.name from }
+        ensures { history self.new
+            ≡ Write opened.now.name from bytes.now (is_ok result) ∷ history self.old };
 
     /// Takes away the bytes of a file from `to` on, which is at most its length.
     fn cut(&mut self, opened: &Opened<Self::File>, to: u64) -> Result<(), DiskFault>
-        requires { AreRight world (history self.old) →
-            to ≤ length (files world (history self.old) opened.now.name).content }
+        requires { IsWithin world (history self.old) opened.now.name to }
         ensures { history self.new ≡ Cut opened.now.name to (is_ok result) ∷ history self.old };
 
     /// Puts a file on the device. Its entry in the folder is there already.

@@ -1,10 +1,12 @@
 //! The files of a folder, as a disk: org_disk's `Disk` over the calls of a system.
 //!
-//! It counts failures and keeps what `folder` opened. Nothing is cached of what files hold.
+//! It counts failures and keeps what `folder` opened. Nothing is cached of what files hold, but
+//! that they aren't there.
 ghost use Rattle.std.specs.Prelude.{◌≡◌, [], IfOk, OnOk, OnErr, length};
 ghost use Rattle.org_disk.specs.Disk.{IsCounted};
-ghost use Rattle.org_folder.specs.Calls.{files, AreRight, LeftSince};
+ghost use Rattle.org_folder.specs.Calls.{LeftSince};
 ghost use Rattle.org_folder.specs.FolderDisk.{path_of, record_of};
+ghost use Rattle.org_folder.specs.Right.{file_of, HasBeenRight};
 
 use crate::calls::{Calls, SystemCalls};
 use crate::folder::Folder;
@@ -17,9 +19,9 @@ use std::os::unix::fs::FileExt;
 
 /// The files of a folder, as a disk over the calls of a system. An absent file and an empty one are
 /// the same: a file is made by its first write of at least one byte, and none is ever removed or
-/// renamed. A file stays open from its first use on; the first sync of a file also puts its entry
-/// in the folder on the device. A call of the system that fails, and want of memory, is a counted
-/// failure.
+/// renamed. Where a file isn't there, the next call on it doesn't look again. A file stays open from
+/// its first use on; the first sync of a file also puts its entry in the folder on the device.
+/// A call of the system that fails, and want of memory, is a counted failure.
 ///
 /// Its files are those that the record of its calls stands for. It is an honest disk as long as
 /// each answer in that record was right, and a wrong one ends it for good; no contract says that a
@@ -104,13 +106,13 @@ where
 {
     ghost use Rattle.org_folder.specs.CallsLaws.{own_image, counts_now, only_now};
 
-    ghost honest = { λ disk. AreRight C.world (C.history disk.folder.calls) };
+    ghost honest = { λ disk. HasBeenRight C.Calls disk.folder.calls };
 
     ghost truthful = { ⊥ };
 
-    ghost files = { λ disk. files C.world (C.history disk.folder.calls) };
+    ghost files = { λ disk. file_of C.Calls disk.folder.calls };
 
-    ghost moment = { λ disk. length (C.history disk.folder.calls) };
+    ghost instant = { λ disk. length (C.history disk.folder.calls) };
 
     ghost left_since = { λ disk. LeftSince C.world (C.history disk.folder.calls) };
 

@@ -1,14 +1,17 @@
 //! The files of a folder, each opened once and kept open.
 //!
-//! Each name stands once among the opened files. Files are made by their first byte, and never
-//! removed or renamed. No fault is counted here.
-ghost use Rattle.std.specs.Prelude.{◌≡◌, ◌⊎◌, ◌<◌, ◌≤◌, [], ◌∷◌, length, take, drop, is_ok, IfOk, IfSome, IfNone, IsErr, OnOk};
-ghost use Rattle.std.specs.List.{HoldsAt};
+//! The opened files stand in byte order of their names, each name once. That a file isn't there is
+//! kept for the next call on it, which doesn't look again. Files are made by their first byte, and
+//! never removed or renamed. No fault is counted here.
+ghost use Rattle.std.specs.Prelude.{◌≡◌, ◌⊎◌, ◌≤◌, [], ◌∷◌, length, take, drop, is_ok, IfOk, IfSome, IfNone, IfErr, IsErr, IsFalse, OnOk};
+ghost use Rattle.std.specs.List.{list_any};
+ghost use Rattle.std.specs.Str.{bytes_eq};
 ghost use Rattle.org_disk.specs.Disk.{cut, stable, sync, write};
-ghost use Rattle.org_folder.specs.Calls.{files, AreRight, Does, Looks};
 ghost use Rattle.org_folder.specs.Calls.Event.{Sync};
+ghost use Rattle.org_folder.specs.Right.{content_of, file_of, DoesRight, HasBeenRight, HaveNoFiles, LiesWithin, LooksRight, StandsAt};
 
 use crate::calls::{Calls, Opened};
+use indexmap::IndexSet;
 use org_disk::{DiskFault, FileName};
 use std::alloc::Global;
 
@@ -16,6 +19,8 @@ use std::alloc::Global;
 pub struct Folder<C: Calls> {
     calls: C,
     files: Vec<Opened<C::File>>,
+    absent: IndexSet<FileName>,
+    ghost known: { HaveNoFiles C.Calls calls absent.keys },
 }
 
 impl<C: Calls + Drop> Folder<C>
@@ -28,17 +33,14 @@ where
         Folder {
             calls,
             files: Vec::new(alloc),
+            absent: IndexSet::new(alloc),
         }
     }
 
     pub fn length(&mut self, name: &FileName) -> Result<u64, DiskFault>
-        ensures value { AreRight C.world (C.history self.new.calls) →
-            IfOk result (λ n. n ≡ length (files C.world (C.history self.old.calls)
-            name.now).content) }
-        ensures looks { AreRight C.world (C.history self.new.calls) →
-            Looks C.world (C.history self.old.calls) (C.history self.new.calls) }
-        ensures honest { AreRight C.world (C.history self.new.calls)
-            → AreRight C.world (C.history self.old.calls) }
+        ensures value { HasBeenRight C.Calls self.new.calls →
+            IfOk result (λ n. n ≡ length (content_of C.Calls self.old.calls name.now)) }
+        ensures looks { LooksRight C.Calls self.old.calls self.new.calls }
     {
         match self.find(name)? {
             Some(at) => self.calls.length(&self.files[at]),
@@ -47,13 +49,9 @@ where
     }
 
     pub fn read(&mut self, name: &FileName, from: u64, into: &mut [u8]) -> Result<(), DiskFault>
-        ensures bytes { AreRight C.world (C.history self.new.calls) → OnOk result (into.new ≡
-            take (length into.old) (drop from
-            (files C.world (C.history self.old.calls) name.now).content)) }
-        ensures looks { AreRight C.world (C.history self.new.calls) →
-            Looks C.world (C.history self.old.calls) (C.history self.new.calls) }
-        ensures honest { AreRight C.world (C.history self.new.calls)
-            → AreRight C.world (C.history self.old.calls) }
+        ensures bytes { HasBeenRight C.Calls self.new.calls → OnOk result (into.new
+            ≡ take (length into.old) (drop from (content_of C.Calls self.old.calls name.now))) }
+        ensures looks { LooksRight C.Calls self.old.calls self.new.calls }
     {
         match self.find(name)? {
             Some(at) => self.calls.read_at(&self.files[at], from, into),
@@ -64,13 +62,9 @@ where
 
     // A write of no bytes makes no file and no call, and changes nothing.
     pub fn write(&mut self, name: &FileName, from: u64, bytes: &[u8]) -> Result<(), DiskFault>
-        requires { AreRight C.world (C.history self.old.calls) →
-            from ≤ length (files C.world (C.history self.old.calls) name.now).content }
-        ensures effect { AreRight C.world (C.history self.new.calls)
-            → Does C.world (write from bytes.now) name.now
-            (C.history self.old.calls) (C.history self.new.calls) result }
-        ensures honest { AreRight C.world (C.history self.new.calls)
-            → AreRight C.world (C.history self.old.calls) }
+        requires { LiesWithin C.Calls self.old.calls name.now from }
+        ensures { DoesRight C.Calls (write from bytes.now) name.now
+            self.old.calls self.new.calls result }
     {
         if bytes.is_empty() {
             return Ok(());
@@ -80,13 +74,8 @@ where
     }
 
     pub fn cut(&mut self, name: &FileName, to: u64) -> Result<(), DiskFault>
-        requires { AreRight C.world (C.history self.old.calls) →
-            to ≤ length (files C.world (C.history self.old.calls) name.now).content }
-        ensures effect { AreRight C.world (C.history self.new.calls)
-            → Does C.world (cut to) name.now
-            (C.history self.old.calls) (C.history self.new.calls) result }
-        ensures honest { AreRight C.world (C.history self.new.calls)
-            → AreRight C.world (C.history self.old.calls) }
+        requires { LiesWithin C.Calls self.old.calls name.now to }
+        ensures { DoesRight C.Calls (cut to) name.now self.old.calls self.new.calls result }
     {
         match self.find(name)? {
             Some(at) => self.calls.cut(&self.files[at], to),
@@ -97,10 +86,7 @@ where
 
     // The first sync of a file takes its entry in the folder along.
     pub fn sync(&mut self, name: &FileName) -> Result<(), DiskFault>
-        ensures effect { AreRight C.world (C.history self.new.calls) → Does C.world sync name.now
-            (C.history self.old.calls) (C.history self.new.calls) result }
-        ensures honest { AreRight C.world (C.history self.new.calls)
-            → AreRight C.world (C.history self.old.calls) }
+        ensures { DoesRight C.Calls sync name.now self.old.calls self.new.calls result }
     {
         match self.find(name)? {
             Some(at) => sync_opened(&mut self.calls, &mut self.files[at]),
@@ -110,67 +96,84 @@ where
 
     // Where the file of a name stands among those that are open, if there is one.
     fn find(&mut self, name: &FileName) -> Result<Option<usize>, DiskFault>
-        ensures name { IfOk result (λ found. IfSome found (λ at.
-            HoldsAt (λ opened. opened.name ≡ name.now) self.new.files.items at)) }
-        ensures index { IfOk result (λ found. IfSome found
-            (λ at. at < length self.new.files.items)) }
-        ensures absent { AreRight C.world (C.history self.new.calls)
-            → IfOk result (λ found. IfNone found
-            (files C.world (C.history self.old.calls) name.now ≡ stable [])) }
+        ensures place { IfOk result (λ found. IfSome found
+            (StandsAt name.now self.new.files.items)) }
+        ensures absent { HasBeenRight C.Calls self.new.calls → IfOk result (λ found.
+            IfNone found (file_of C.Calls self.old.calls name.now ≡ stable [])) }
+        ensures there { IfOk result (λ found. IfSome found (λ _.
+            IsFalse (list_any (bytes_eq name.now) self.new.absent.keys))) }
         ensures found { IfOk result (λ found. IfSome found (λ _.
             C.history self.new.calls ≡ C.history self.old.calls)) }
-        ensures looks { AreRight C.world (C.history self.new.calls) →
-            Looks C.world (C.history self.old.calls) (C.history self.new.calls) }
-        ensures honest { AreRight C.world (C.history self.new.calls)
-            → AreRight C.world (C.history self.old.calls) }
+        ensures looks { LooksRight C.Calls self.old.calls self.new.calls }
     {
-        if let Some(at) = self.position(name) {
-            return Ok(Some(at));
+        // It is believed once: another program may make the file meanwhile.
+        if self.absent.swap_remove(name) {
+            return Ok(None);
         }
+        let place = match self.place(name) {
+            Ok(at) => return Ok(Some(at)),
+            Err(place) => place,
+        };
         match self.calls.open(name)? {
-            Some(opened) => Ok(Some(self.keep(opened)?)),
-            None => Ok(None),
+            Some(opened) => Ok(Some(self.keep(place, opened)?)),
+            None => {
+                self.keep_absent(name);
+                Ok(None)
+            }
         }
     }
 
+    // What is made is no longer absent, and a make that fails may have made it.
     fn find_or_make(&mut self, name: &FileName) -> Result<usize, DiskFault>
-        ensures name { IfOk result (λ at.
-            HoldsAt (λ opened. opened.name ≡ name.now) self.new.files.items at) }
-        ensures index { IfOk result (λ at. at < length self.new.files.items) }
+        ensures place { IfOk result (StandsAt name.now self.new.files.items) }
+        ensures there { IsFalse (list_any (bytes_eq name.now) self.new.absent.keys) }
         ensures same { C.history self.new.calls ≡ C.history self.old.calls }
     {
-        match self.position(name) {
-            Some(at) => Ok(at),
-            None => {
+        self.absent.swap_remove(name);
+        match self.place(name) {
+            Ok(at) => Ok(at),
+            Err(place) => {
                 let opened = self.calls.make(name)?;
-                self.keep(opened)
+                self.keep(place, opened)
             }
         }
     }
 
-    fn position(&self, name: &FileName) -> Option<usize>
-        ensures name { IfSome result (λ at.
-            HoldsAt (λ opened. opened.name ≡ name.now) self.now.files.items at) }
-        ensures index { IfSome result (λ at. at < length self.now.files.items) }
+    // Where the file of a name stands among those that are open, or where it would.
+    fn place(&self, name: &FileName) -> Result<usize, usize>
+        ensures found { IfOk result (StandsAt name.now self.now.files.items) }
+        ensures place { IfErr result (λ place. place ≤ length self.now.files.items) }
     {
-        for (at, opened) in self.files.iter().enumerate() {
-            if opened.name().as_str() == name.as_str() {
-                return Some(at);
-            }
+        let place = self
+            .files
+            .partition_point(|opened| opened.name().as_str() < name.as_str());
+        match self.files.get(place) {
+            Some(opened) if opened.name() == name => Ok(place),
+            _ => Err(place),
         }
-        None
     }
 
-    fn keep(&mut self, opened: Opened<C::File>) -> Result<usize, DiskFault>
-        ensures kept { IfOk result (λ at.
-            HoldsAt (λ kept. kept.name ≡ opened.name) self.new.files.items at) }
-        ensures index { IfOk result (λ at. at < length self.new.files.items) }
+    fn keep(&mut self, place: usize, opened: Opened<C::File>) -> Result<usize, DiskFault>
+        requires { place ≤ length self.old.files.items }
+        ensures place { IfOk result (StandsAt opened.name self.new.files.items) }
+        ensures absent { self.new.absent ≡ self.old.absent }
         ensures calls { self.new.calls ≡ self.old.calls }
     {
-        let at = self.files.len();
-        match self.files.push(opened) {
-            Ok(()) => Ok(at),
+        match self.files.insert(place, opened) {
+            Ok(()) => Ok(place),
             Err(_) => Err(DiskFault),
+        }
+    }
+
+    // Keeps the name of a file that isn't there for the next call on it. Without memory for it, that
+    // call looks again.
+    fn keep_absent(&mut self, name: &FileName)
+        requires { HasBeenRight C.Calls self.old.calls
+            → file_of C.Calls self.old.calls name.now ≡ stable [] }
+        ensures { self.new.calls ≡ self.old.calls }
+    {
+        if let Ok(name) = name.clone() {
+            let _ = self.absent.insert(name);
         }
     }
 }

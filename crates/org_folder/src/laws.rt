@@ -11,6 +11,7 @@ ghost use Rattle.org_folder.specs.Calls.Event.{Absent};
 /// these on a file alone that it opened or made, and none is removed: a write of no bytes, a cut to
 /// nothing and a sync of a file that isn't there are no calls of the system.
 pub fn absent_is_right()
-    ensures { (world : World) (calls : List Event) (name : List ℕ) → world.start name ≡ stable []
-        → IsLeftAlone name calls → IsRight world (Absent name) calls }
+    ensures { (world : World) (calls : List Event) (name : List ℕ)
+        → world.start name ≡ stable [] → IsLeftAlone name calls
+        → IsRight world (Absent name) calls }
 {}

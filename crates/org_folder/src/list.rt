@@ -5,7 +5,7 @@
 ghost use Rattle.std.specs.Prelude.{◌≡◌, ◌↔◌, IsTrue, IsFalse, IfOk, IfSome, IsErrOf, All};
 ghost use Rattle.std.specs.IoError.{error_kind};
 ghost use Rattle.org_disk.specs.Names.{IsOrgFile};
-ghost use Rattle.org_folder.specs.Faults.{IsToldAs};
+ghost use Rattle.org_folder.specs.Faults.{IsReportedAs};
 ghost use Rattle.org_folder.specs.OrgFiles.{is_org_file};
 ghost use Rattle.org_folder.specs.declared.list.ListFault.TheVariants.{Device, OutOfMemory};
 
@@ -16,7 +16,7 @@ use std::fs::{self, DirEntry, Files};
 use std::io::{self, ErrorKind};
 use thiserror::Error;
 
-/// Why a folder's files can't be told.
+/// Why a folder's files can't be listed.
 #[derive(Clone, Copy, Debug, Error)]
 pub enum ListFault {
     /// The folder can't be listed, or the name of one of its entries isn't UTF-8.
@@ -28,7 +28,7 @@ pub enum ListFault {
 }
 
 impl From<io::Error> for ListFault {
-    ghost from_gives = { λ error fault. IsToldAs (error_kind error) OutOfMemory Device fault };
+    ghost from_gives = { λ error fault. IsReportedAs (error_kind error) OutOfMemory Device fault };
 
     fn from(error: io::Error) -> ListFault {
         match error.kind() {

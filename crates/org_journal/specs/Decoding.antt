@@ -1,4 +1,4 @@
--- What a function that takes memory found, told by a reader that takes none.
+-- What a function that takes memory found, in the words of a reader that takes none.
 use Rattle.std.specs.Prelude.{◌≡◌, Option, Some, None, Result, Ok, Err}
 use Rattle.org_journal.specs.declared.fault.RecordFault.{RecordFault}
 use Rattle.org_journal.specs.declared.fault.RecordFault.TheVariants.{Malformed, OutOfMemory}

@@ -42,7 +42,7 @@ abbrev pub IsWritable : Found → Type 0
 IsWritable Closed = Unit {0}
 IsWritable (Armed entries) = IsWellFormed Two entries
 
--- what the header alone tells: None of a closed gate, and the record's size of an open one
+-- what the header alone says: None of a closed gate, and the record's size of an open one
 abbrev pub FindsSize : List ℕ → Result (Option ℕ) FindFault → Type 0
 FindsSize journal (Ok None) = IsFalse (is_open journal)
 FindsSize journal (Ok (Some size)) =

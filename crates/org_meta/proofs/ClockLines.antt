@@ -4,13 +4,13 @@ use Rattle.std.specs.Prelude.{IfSome}
 use Rattle.std.specs.List.{prefix_len, suffix_len}
 use Rattle.std.proofs.lemmas.List.{length-take, length-drop}
 use Rattle.org_splice.specs.Blanks.{is_blank, is_trailing, behind, trimmed_end}
-use Rattle.org_stamp.specs.Calendar.{CivilMinute}
+use Rattle.org_stamp.specs.Calendar.{Moment}
 use Rattle.org_stamp.specs.Parts.{◌>>=◌}
 use Rattle.org_meta.specs.declared.clock.Clock.{Clock}
 use Rattle.org_meta.specs.Clocks.{behind_mark, behind_some, clock_stamp_at, clock_from, clock_of, head_of}
 
 -- what is read from the mark on, from the stamp on, and behind the stamp
-abbrev behind_stamp : List ℕ → List ℕ → CivilMinute × ℕ → Option Clock
+abbrev behind_stamp : List ℕ → List ℕ → Moment × ℕ → Option Clock
 behind_stamp body text start = clock_from start.0 (length body - length text + start.1) (drop start.1 text)
 
 abbrev from_stamp : List ℕ → List ℕ → Option Clock
@@ -32,16 +32,16 @@ pub clock_joined : (line body front after : List ℕ) → body ≡ trimmed_end l
 clock_joined line body front after body_is front_is some none =
     ap (λ (o : Option (List ℕ)). o >>= from_stamp body) none ∙ marked line body front (Some after) body_is front_is some
 
-stamped : (line body front after text : List ℕ) (o : Option (CivilMinute × ℕ)) → body ≡ trimmed_end line → front ≡ behind is_blank body → Some after ≡ behind_mark (codes "CLOCK:") front → Some text ≡ behind_some is_blank after → o ≡ clock_stamp_at text
+stamped : (line body front after text : List ℕ) (o : Option (Moment × ℕ)) → body ≡ trimmed_end line → front ≡ behind is_blank body → Some after ≡ behind_mark (codes "CLOCK:") front → Some text ≡ behind_some is_blank after → o ≡ clock_stamp_at text
     → (o >>= behind_stamp body text) ≡ clock_of line
 stamped line body front after text o body_is front_is some blank is =
-    ap (λ (o : Option (CivilMinute × ℕ)). o >>= behind_stamp body text) is
+    ap (λ (o : Option (Moment × ℕ)). o >>= behind_stamp body text) is
     ∙ ap (λ (o : Option (List ℕ)). o >>= from_stamp body) blank ∙ marked line body front (Some after) body_is front_is some
 
 pub clock_unstamped : (line body front after text : List ℕ) → body ≡ trimmed_end line → front ≡ behind is_blank body → Some after ≡ behind_mark (codes "CLOCK:") front → Some text ≡ behind_some is_blank after → None ≡ clock_stamp_at text → None ≡ clock_of line
 clock_unstamped line body front after text body_is front_is some blank none = stamped line body front after text None body_is front_is some blank none
 
-pub clock_read : (line body front after text behind_it : List ℕ) (start : CivilMinute) (size : ℕ) (found : Option Clock) → body ≡ trimmed_end line → front ≡ behind is_blank body → Some after ≡ behind_mark (codes "CLOCK:") front
+pub clock_read : (line body front after text behind_it : List ℕ) (start : Moment) (size : ℕ) (found : Option Clock) → body ≡ trimmed_end line → front ≡ behind is_blank body → Some after ≡ behind_mark (codes "CLOCK:") front
     → Some text ≡ behind_some is_blank after → Some (start, size) ≡ clock_stamp_at text → behind_it ≡ drop size text → found ≡ clock_from start (length body - length text + size) behind_it → found ≡ clock_of line
 clock_read line body front after text behind_it start size found body_is front_is some blank stamp rest is =
     is ∙ ap (clock_from start (length body - length text + size)) rest

@@ -12,7 +12,7 @@ use Rattle.std.proofs.lemmas.List.{take_at, drop_at, length-drop, take-append-dr
 use Rattle.org_splice.specs.Blanks.{is_blank, is_trailing, front, behind, end_of, trimmed_end}
 use Rattle.org_splice.specs.Lines.{IsLine}
 use Rattle.org_splice.proofs.Ends.{both, front_behind, front_passes, kept_end}
-use Rattle.org_stamp.specs.Calendar.{CivilMinute, IsDay, weekday_of}
+use Rattle.org_stamp.specs.Calendar.{Moment, IsDay, weekday_of}
 use Rattle.org_stamp.specs.Parts.{◌>>=◌}
 use Rattle.org_stamp.specs.Stamp.{StampValue, IsStamp, IsStampText, opening, start_of, stamp_of, date_text, day_name, clock_text, duration_text}
 use Rattle.org_stamp.specs.Front.{stamp_at}
@@ -45,12 +45,12 @@ none_opens None r e = absurd cc
 none_opens (Some n) r e = absurd cc
 
 -- nothing follows the timestamp of an open clock
-open_from : (start : CivilMinute) (head : ℕ) (text : List ℕ) (r : Running) → clock_from start head text ≡ Some (Open r) → (text ≡ []) × (record { start = start; head = head } ≡ r)
+open_from : (start : Moment) (head : ℕ) (text : List ℕ) (r : Running) → clock_from start head text ≡ Some (Open r) → (text ≡ []) × (record { start = start; head = head } ≡ r)
 open_from start head [] r e = (refl, let same : Some (Open (record { start = start; head = head })) ≡ Some (Open r) = e in cc)
 open_from start head (b ∷ text) r e = absurd (none_opens (closed_minutes start (b ∷ text)) r (rw (eqb-suc-zero (length text)) at e))
 
 -- what follows makes it none
-closed_from : (start : CivilMinute) (head b : ℕ) (text : List ℕ) → is_some (running_of (clock_from start head (b ∷ text))) ≡ false
+closed_from : (start : Moment) (head b : ℕ) (text : List ℕ) → is_some (running_of (clock_from start head (b ∷ text))) ≡ false
 closed_from start head b text = rw (eqb-suc-zero (length text)) (by_minutes (closed_minutes start (b ∷ text)))
   where
     by_minutes : (o : Option ℕ) → is_some (running_of (o >>= λ minutes. Some (Closed minutes))) ≡ false
@@ -91,17 +91,17 @@ gone test (b ∷ bs) more e =
       | inr fails ↦ let none : None ≡ Some more = rw fails at e in absurd cc
     ]
 
-record Stamped (text : List ℕ) (start : CivilMinute) (size : ℕ) : Type 0 where
+record Stamped (text : List ℕ) (start : Moment) (size : ℕ) : Type 0 where
   value : StampValue
   clock : is_clock_stamp value ≡ true
   start_is : start_of value ≡ start
   is_text : IsStampText (take size text) value
   within : size ≤ length text
 
-pair_is : (x y : CivilMinute × ℕ) → Some x ≡ Some y → (x.0 ≡ y.0) × (x.1 ≡ y.1)
-pair_is x y e = let same : x ≡ y = cc in (ap (λ (p : CivilMinute × ℕ). p.0) same, ap (λ (p : CivilMinute × ℕ). p.1) same)
+pair_is : (x y : Moment × ℕ) → Some x ≡ Some y → (x.0 ≡ y.0) × (x.1 ≡ y.1)
+pair_is x y e = let same : x ≡ y = cc in (ap (λ (p : Moment × ℕ). p.0) same, ap (λ (p : Moment × ℕ). p.1) same)
 
-stamped : (text : List ℕ) (start : CivilMinute) (size : ℕ) → clock_stamp_at text ≡ Some (start, size) → Stamped text start size
+stamped : (text : List ℕ) (start : Moment) (size : ℕ) → clock_stamp_at text ≡ Some (start, size) → Stamped text start size
 stamped text start size e =
     let read = bind_ok (stamp_at text) (λ r. if is_clock_stamp r.0 then Some (start_of r.0, r.1) else None) (start, size) e in
     elim (cases_Bool (is_clock_stamp read.0.0)) [
@@ -210,7 +210,7 @@ clock_again indentation first others stamp more s blank gap is_text clock trimme
     ap (λ (body : List ℕ). F body (behind_mark mark (behind is_blank body))) trimmed
     ∙ ap (F line) read_mark
     ∙ ap (λ (o : Option (List ℕ)). o >>= λ text. clock_stamp_at text >>= λ start. clock_from start.0 (length line - length text + start.1) (drop start.1 text)) read_gap
-    ∙ ap (λ (o : Option (CivilMinute × ℕ)). o >>= λ start. clock_from start.0 (length line - length text + start.1) (drop start.1 text)) (clock_stamp_again stamp more s is_text clock)
+    ∙ ap (λ (o : Option (Moment × ℕ)). o >>= λ start. clock_from start.0 (length line - length text + start.1) (drop start.1 text)) (clock_stamp_again stamp more s is_text clock)
     ∙ ap (λ n. clock_from (start_of s) n (drop (length stamp) text)) size
     ∙ ap (clock_from (start_of s) (length front)) (drop_at stamp more (length stamp) refl)
 
@@ -224,7 +224,7 @@ ends_shape : (text a m b pad hours : List ℕ) (x y z : ℕ)
 ends_shape text a m b pad hours x y z = simp append_assoc
 
 -- a closed clock line ends in a digit
-closed_ends : (text : List ℕ) (now : CivilMinute) (minutes : ℕ) → trimmed_end (text ++ closing_text now minutes) ≡ text ++ closing_text now minutes
+closed_ends : (text : List ℕ) (now : Moment) (minutes : ℕ) → trimmed_end (text ++ closing_text now minutes) ≡ text ++ closing_text now minutes
 closed_ends text now minutes =
     let n : ℕ = minutes % 60 in
     let hours : List ℕ = decimal (minutes / 60) in
@@ -235,17 +235,17 @@ closed_ends text now minutes =
     ap trimmed_end shape ∙ trim_behind is_trailing before last [] (digit_ends n) ∙ sym shape
 
 -- what a line that is closed becomes
-record Closing (now : CivilMinute) (line new : List ℕ) (r : Running) : Type 0 where
+record Closing (now : Moment) (line new : List ℕ) (r : Running) : Type 0 where
   minutes : ℕ
   run : minutes_between r.start now ≡ Some minutes
   is : new ≡ take r.head line ++ closing_text now minutes
 
-closing_of : (now : CivilMinute) (line new : List ℕ) (r : Running) (o : Option ℕ) → minutes_between r.start now ≡ o → closed_after now (take r.head line) o ≡ Ok new → Closing now line new r
+closing_of : (now : Moment) (line new : List ℕ) (r : Running) (o : Option ℕ) → minutes_between r.start now ≡ o → closed_after now (take r.head line) o ≡ Ok new → Closing now line new r
 closing_of now line new r None run e = absurd cc
 closing_of now line new r (Some minutes) run e =
     record { minutes = minutes; run = run; is = let same : Ok (take r.head line ++ closing_text now minutes) ≡ Ok new = e in cc }
 
-closing_is : (now : CivilMinute) (line new : List ℕ) (r : Running) → running_clock line ≡ Some r → closed_line now line ≡ Ok new → Closing now line new r
+closing_is : (now : Moment) (line new : List ℕ) (r : Running) → running_clock line ≡ Some r → closed_line now line ≡ Ok new → Closing now line new r
 closing_is now line new r runs e = closing_of now line new r (minutes_between r.start now) refl (ap (closed_clock now line) (sym runs) ∙ e)
 
 head_is : (line : List ℕ) (r : Running) → (o : OpenLine line r) → take r.head line ≡ clock_front o.indentation (o.first ∷ o.others) o.stamp
@@ -254,7 +254,7 @@ head_is line r o =
     ap (λ n. take n line) o.head ∙ ap (take (length front)) o.is ∙ take_at front o.tail (length front) refl
 
 -- the clock that it says
-closed_clock_is : (now : CivilMinute) (line new : List ℕ) (r : Running) → running_clock line ≡ Some r → (c : Closing now line new r)
+closed_clock_is : (now : Moment) (line new : List ℕ) (r : Running) → running_clock line ≡ Some r → (c : Closing now line new r)
     → clock_of new ≡ clock_from r.start r.head (closing_text now c.minutes)
 closed_clock_is now line new r runs c =
     let o = open_line_is line r runs in
@@ -271,7 +271,7 @@ run_of line e = by_clock (running_clock line) refl e
     by_clock None is e = absurd (false≢true e)
     by_clock (Some r) is e = (r, is)
 
-pub not_run : (now : CivilMinute) (line new : List ℕ) → is_open line ≡ false → closed_line now line ≡ Ok new → line ≡ new
+pub not_run : (now : Moment) (line new : List ℕ) → is_open line ≡ false → closed_line now line ≡ Ok new → line ≡ new
 not_run now line new e = by_clock (running_clock line) e
   where
     by_clock : (o : Option Running) → is_some o ≡ false → closed_clock now line o ≡ Ok new → line ≡ new
@@ -279,7 +279,7 @@ not_run now line new e = by_clock (running_clock line) e
     by_clock (Some r) e is = absurd (false≢true (sym e))
 
 -- a line that was closed is no open clock
-pub closed_is_not_open : (now : CivilMinute) (line new : List ℕ) → closed_line now line ≡ Ok new → is_open new ≡ false
+pub closed_is_not_open : (now : Moment) (line new : List ℕ) → closed_line now line ≡ Ok new → is_open new ≡ false
 closed_is_not_open now line new e =
     elim (cases_Bool (is_open line)) [
       | inl runs ↦
@@ -292,14 +292,14 @@ closed_is_not_open now line new e =
 
 -- ---- opened
 
-stamp_is : (now : CivilMinute) → IsDay now.day → now.minute < 1440 → IsStamp (stamp_of now false true)
+stamp_is : (now : Moment) → IsDay now.day → now.minute < 1440 → IsStamp (stamp_of now false true)
 stamp_is now day minute = record { day = day; behind = record { time = (minute, tt); cookies = tt; apart = tt } }
 
-moment_is : (now : CivilMinute) → IsDay now.day → now.minute < 1440 → IsStampText (moment_text now) (stamp_of now false true)
+moment_is : (now : Moment) → IsDay now.day → now.minute < 1440 → IsStampText (moment_text now) (stamp_of now false true)
 moment_is now day minute = print_is (stamp_of now false true) (stamp_is now day minute)
 
 -- a moment's clock line is open
-pub opened_is_open : (now : CivilMinute) → IsDay now.day → now.minute < 1440 → is_open (clock_line now) ≡ true
+pub opened_is_open : (now : Moment) → IsDay now.day → now.minute < 1440 → is_open (clock_line now) ≡ true
 opened_is_open now day minute =
     let stamp : List ℕ = moment_text now in
     let d = now.day in
@@ -386,12 +386,12 @@ duration_is minutes =
     arrow_is (2 - length hours) first.first first.others hours _ _ first.is (decimal_digits (minutes / 60)) (digit_is (minutes % 60 / 10)) (digit_is (minutes % 60))
 
 -- what closes a clock says its minutes
-closing_says : (start now : CivilMinute) (minutes : ℕ) → IsDay now.day → now.minute < 1440 → closed_minutes start (closing_text now minutes) ≡ minutes_between start now
+closing_says : (start now : Moment) (minutes : ℕ) → IsDay now.day → now.minute < 1440 → closed_minutes start (closing_text now minutes) ≡ minutes_between start now
 closing_says start now minutes day minute =
     let stamp : List ℕ = moment_text now in
     let more : List ℕ = codes " => " ++ duration_text minutes 2 in
-    let F : CivilMinute × ℕ → Option ℕ = λ end. if is_duration (drop end.1 (stamp ++ more)) then minutes_between start end.0 else None in
-    ap (λ (o : Option (CivilMinute × ℕ)). o >>= F) (clock_stamp_again stamp more (stamp_of now false true) (moment_is now day minute) refl)
+    let F : Moment × ℕ → Option ℕ = λ end. if is_duration (drop end.1 (stamp ++ more)) then minutes_between start end.0 else None in
+    ap (λ (o : Option (Moment × ℕ)). o >>= F) (clock_stamp_again stamp more (stamp_of now false true) (moment_is now day minute) refl)
     ∙ ap (λ (t : List ℕ). if is_duration t then minutes_between start now else None) (drop_at stamp more (length stamp) refl)
     ∙ rw (duration_is minutes) refl
 
@@ -401,11 +401,11 @@ minutes_closed line minutes e = rw e refl
 minutes_open : (line : List ℕ) (r : Running) → clock_of line ≡ Some (Open r) → minutes_in line ≡ 0
 minutes_open line r e = rw e refl
 
-from_minutes : (start : CivilMinute) (head b : ℕ) (text : List ℕ) (minutes : ℕ) → closed_minutes start (b ∷ text) ≡ Some minutes → clock_from start head (b ∷ text) ≡ Some (Closed minutes)
+from_minutes : (start : Moment) (head b : ℕ) (text : List ℕ) (minutes : ℕ) → closed_minutes start (b ∷ text) ≡ Some minutes → clock_from start head (b ∷ text) ≡ Some (Closed minutes)
 from_minutes start head b text minutes e = rw (eqb-suc-zero (length text)) (ap (λ (o : Option ℕ). o >>= λ minutes. Some (Closed minutes)) e)
 
 -- a line that was closed says the minutes from its start to the moment
-pub closed_says : (now : CivilMinute) (line new : List ℕ) (minutes : ℕ) → IsDay now.day → now.minute < 1440 → minutes_run now line ≡ Some minutes → closed_line now line ≡ Ok new → minutes_in new ≡ minutes
+pub closed_says : (now : Moment) (line new : List ℕ) (minutes : ℕ) → IsDay now.day → now.minute < 1440 → minutes_run now line ≡ Some minutes → closed_line now line ≡ Ok new → minutes_in new ≡ minutes
 closed_says now line new minutes day minute run e =
     let r = bind_ok (running_clock line) (λ running. minutes_between running.start now) minutes run in
     let c = closing_is now line new r.0 r.1 e in
@@ -416,7 +416,7 @@ closed_says now line new minutes day minute run e =
 pub open_says : (line : List ℕ) → is_open line ≡ true → minutes_in line ≡ 0
 open_says line runs = let r = run_of line runs in minutes_open line r.0 (open_clock (clock_of line) r.0 r.1)
 
-pub closed_has_run : (now : CivilMinute) (line new : List ℕ) → is_open line ≡ true → closed_line now line ≡ Ok new → (minutes : ℕ) × (minutes_run now line ≡ Some minutes)
+pub closed_has_run : (now : Moment) (line new : List ℕ) → is_open line ≡ true → closed_line now line ≡ Ok new → (minutes : ℕ) × (minutes_run now line ≡ Some minutes)
 closed_has_run now line new runs e =
     let r = run_of line runs in
     let c = closing_is now line new r.0 r.1 e in
@@ -434,7 +434,7 @@ pub blanks_line : (n : ℕ) → Flat (replicate n 32)
 blanks_line zero = empty_line
 blanks_line (suc n) = with_first_byte 32 (replicate n 32) refl (blanks_line n)
 
-pub moment_line : (now : CivilMinute) → Flat (moment_text now)
+pub moment_line : (now : Moment) → Flat (moment_text now)
 moment_line now =
     let d = now.day in
     let day : List ℕ = 32 ∷ day_name (weekday_of d) in
@@ -447,7 +447,7 @@ moment_line now =
     empty_line)
     (with_first_byte 93 [] refl empty_line))
 
-closing_line : (now : CivilMinute) (minutes : ℕ) → Flat (closing_text now minutes)
+closing_line : (now : Moment) (minutes : ℕ) → Flat (closing_text now minutes)
 closing_line now minutes =
     let hours : List ℕ = decimal (minutes / 60) in
     let pad : List ℕ = replicate (2 - length hours) 32 in
@@ -457,10 +457,10 @@ closing_line now minutes =
     (both_lines (pad ++ hours) _ (both_lines pad hours (blanks_line (2 - length hours)) (number_line hours (decimal_digits (minutes / 60))))
     (with_first_byte 58 _ refl (two_line (minutes % 60))))))
 
-pub opened_is_line : (now : CivilMinute) → IsLine (clock_line now)
+pub opened_is_line : (now : Moment) → IsLine (clock_line now)
 opened_is_line now = (both_lines (codes "CLOCK: ") (moment_text now) (tested (codes "CLOCK: ") refl) (moment_line now)).flat
 
-pub closed_is_line : (now : CivilMinute) (line new : List ℕ) → closed_line now line ≡ Ok new → IsLine line → IsLine new
+pub closed_is_line : (now : Moment) (line new : List ℕ) → closed_line now line ≡ Ok new → IsLine line → IsLine new
 closed_is_line now line new e whole =
     elim (cases_Bool (is_open line)) [
       | inl runs ↦
@@ -493,7 +493,7 @@ pub begins_plainly : (indentation : List ℕ) (b : ℕ) (more : List ℕ) → li
 begins_plainly [] b more all other = record { first = b; others = more; is = refl; other = other }
 begins_plainly (c ∷ cs) b more all other = record { first = c; others = cs ++ (b ∷ more); is = refl; other = blank_no_star c (both (is_blank c) (list_all is_blank cs) all).0 }
 
-pub closed_begins : (now : CivilMinute) (line new : List ℕ) → is_open line ≡ true → closed_line now line ≡ Ok new → NoStar new
+pub closed_begins : (now : Moment) (line new : List ℕ) → is_open line ≡ true → closed_line now line ≡ Ok new → NoStar new
 closed_begins now line new runs e =
     let r = run_of line runs in
     let c = closing_is now line new r.0 r.1 e in

@@ -6,7 +6,7 @@ use Rattle.org_splice.specs.Lines.{terminated, print_lines}
 use Rattle.org_splice.specs.declared.Span.{Span}
 use Rattle.org_splice.specs.declared.edit.Edit.{Edit}
 use Rattle.org_splice.proofs.Lines.{print_lines-append}
-use Rattle.org_stamp.specs.Calendar.{CivilMinute}
+use Rattle.org_stamp.specs.Calendar.{Moment}
 use Rattle.org_meta.specs.declared.clock.Running.{Running}
 use Rattle.org_meta.specs.declared.fault.ClockFault.{ClockFault}
 use Rattle.org_meta.specs.declared.fault.ClockFault.TheVariants.{ClockBackwards, OutOfMemory}
@@ -33,7 +33,7 @@ module _ (section : List ℕ) (span : Span) (before : List (List ℕ)) (line : L
       let long : span.end - 1 - span.start ≡ length line = omega (arith, is.start, is.end) in
       ap (λ n. take n (drop span.start section)) long ∙ ap (λ (t : List ℕ). take (length line) t) left ∙ take_at line (10 ∷ print_lines after) (length line) refl
 
-  module _ (now : CivilMinute) (running : Running) (text : List ℕ) (same : text ≡ take (span.end - 1 - span.start) (drop span.start section)) (runs : Some running ≡ running_clock text) where
+  module _ (now : Moment) (running : Running) (text : List ℕ) (same : text ≡ take (span.end - 1 - span.start) (drop span.start section)) (runs : Some running ≡ running_clock text) where
     clock_here : running_clock line ≡ Some running
     clock_here = ap running_clock (sym (same ∙ line_at)) ∙ sym runs
 
@@ -70,7 +70,7 @@ pub line_runs : (section : List ℕ) (span : Span) (text : List ℕ) → termina
 line_runs section span text whole h same = ap is_open (same ∙ line_at section span h.before h.line h.after whole h.is) ∙ h.is.runs
 
 -- memory was refused for a line that can be closed
-pub starved : (section : List ℕ) (span : Span) (now : CivilMinute) (running : Running) (text : List ℕ) (minutes : ℕ) (fault : ClockFault) → terminated section ≡ section → fault ≡ OutOfMemory
+pub starved : (section : List ℕ) (span : Span) (now : Moment) (running : Running) (text : List ℕ) (minutes : ℕ) (fault : ClockFault) → terminated section ≡ section → fault ≡ OutOfMemory
     → text ≡ take (span.end - 1 - span.start) (drop span.start section) → Some running ≡ running_clock text → Some minutes ≡ minutes_between running.start now → ClosesNot now section span fault
 starved section span now running text minutes fault whole memory same runs some =
     λ before line after is. rw memory (take running.head line ++ closing_text now minutes, closes_now section span before line after whole is now running text same runs minutes some)

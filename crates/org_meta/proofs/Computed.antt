@@ -2,14 +2,14 @@
 use Rattle.std.proofs.Common.{◌≡◌, ℕ, true, false, Bool, Result, Ok, Err, List, [], ◌∷◌, if◌then◌else◌, refl, sym, ap, ◌∙◌}
 use Rattle.std.specs.Prelude.{MatchBool, MatchResult}
 use Rattle.std.specs.Result.{result_map_both}
-use Rattle.org_stamp.specs.Calendar.{CivilMinute}
+use Rattle.org_stamp.specs.Calendar.{Moment}
 use Rattle.org_stamp.specs.Stamp.{StampValue}
 use Rattle.org_stamp.specs.Repeat.{IsRepeated, repeated}
 use Rattle.org_stamp.specs.declared.fault.RepeatFault.{RepeatFault}
 use Rattle.org_meta.specs.declared.fault.PlanningFault.{PlanningFault}
 use Rattle.org_meta.specs.Planning.{PlanningEntry, is_closed, is_repeating, entry_text, entry_with, fault_of, behind_text, IsRepeatedEntry, AreRepeated, repeated_entry, behind_first, repeated_entries}
 
-module _ (now : CivilMinute) where
+module _ (now : Moment) where
   matched : {X : Type 0} (t : Bool) (a b x : X) (B : Type 0) → (B → b ≡ x) → MatchBool t (x ≡ a) B → if t then a else b ≡ x
   matched true a b x B other is = sym is
   matched false a b x B other is = other is

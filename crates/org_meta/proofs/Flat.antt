@@ -33,7 +33,7 @@ tested (b ∷ l) e =
 pub two_line : (n : ℕ) → Flat (two_digits n)
 two_line n = record { flat = (λ e. omega (arith, e), (λ e. omega (arith, e), tt)) }
 
-either_line : (b : Bool) (x y : List ℕ) → Flat x → Flat y → Flat (if b then x else y)
+pub either_line : (b : Bool) (x y : List ℕ) → Flat x → Flat y → Flat (if b then x else y)
 either_line true x y p q = p
 either_line false x y p q = q
 

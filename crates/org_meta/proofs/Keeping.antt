@@ -3,7 +3,7 @@ use Rattle.std.proofs.Common.{◌≡◌, ℕ, true, false, ◌&&◌, Option, Som
 use Rattle.std.specs.Prelude.{is_some, codes}
 use Rattle.std.specs.List.{AllByRecursion, list_any}
 use Rattle.std.specs.Option.{option_map, unwrap_or}
-use Rattle.org_stamp.specs.Calendar.{CivilMinute}
+use Rattle.org_stamp.specs.Calendar.{Moment}
 use Rattle.org_meta.specs.Clocking.{is_logbook, in_logbook, logged, clock_line, opened}
 use Rattle.std.proofs.lemmas.Bool.{cases_Bool}
 use Rattle.org_meta.specs.Sections.{SectionParts, split, joined, is_end, value_named, put_before_end, put_in_drawer, planning_size, drawer_size}
@@ -111,7 +111,7 @@ module _ (P : List ℕ → Type 0) (line : List ℕ) (own : P line) where
   pub All-logged : P (codes ":LOGBOOK:") → P (codes ":END:") → (ls : List (List ℕ)) → AllByRecursion P ls → AllByRecursion P (logged line ls)
   All-logged first last ls p = or_new (in_logbook line ls) (codes ":LOGBOOK:" ∷ line ∷ codes ":END:" ∷ ls) (All-log ls p) (first, (own, (last, p)))
 
-pub keeps_opened : (P : List ℕ → Type 0) (now : CivilMinute) (ls : List (List ℕ)) → P (clock_line now) → P (codes ":LOGBOOK:") → P (codes ":END:") → AllByRecursion P ls → AllByRecursion P (joined (opened now (split ls)))
+pub keeps_opened : (P : List ℕ → Type 0) (now : Moment) (ls : List (List ℕ)) → P (clock_line now) → P (codes ":LOGBOOK:") → P (codes ":END:") → AllByRecursion P ls → AllByRecursion P (joined (opened now (split ls)))
 keeps_opened P now ls own first last p =
     let a = all_split P ls p in
     all_joined P (opened now (split ls)) (record { planning = a.planning; drawer = a.drawer; rest = All-logged P (clock_line now) own first last (split ls).rest a.rest })

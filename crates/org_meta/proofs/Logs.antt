@@ -5,7 +5,7 @@ use Rattle.std.specs.List.{list_any}
 use Rattle.std.specs.Option.{option_map, unwrap_or}
 use Rattle.org_splice.specs.Lines.{terminated, print_lines, lines_of, IsLine}
 use Rattle.org_splice.specs.declared.edit.Edit.{Edit}
-use Rattle.org_stamp.specs.Calendar.{CivilMinute}
+use Rattle.org_stamp.specs.Calendar.{Moment}
 use Rattle.org_meta.specs.declared.parts.Sections.{Sections}
 use Rattle.org_meta.specs.declared.lines.Place.{Place}
 use Rattle.org_meta.specs.Lines.{BeginsWith}
@@ -122,7 +122,7 @@ rest_lines section slices are = part_lines (split (lines_of section)).rest slice
 pub rest_terminated : (section : List ℕ) (slices : Sections) → AreSections slices (split (lines_of section)) → terminated slices.rest.now ≡ slices.rest.now
 rest_terminated section slices are = ap terminated are.rest ∙ terminated-print_lines (split (lines_of section)).rest ∙ sym are.rest
 
-pub opened_gives : (e : Edit) (section : List ℕ) (now : CivilMinute) (slices : Sections) (place : Place) → terminated section ≡ section → AreSections slices (split (lines_of section))
+pub opened_gives : (e : Edit) (section : List ℕ) (now : Moment) (slices : Sections) (place : Place) → terminated section ≡ section → AreSections slices (split (lines_of section))
     → IsPlaceFor (λ line. logged line (lines_of slices.rest.now)) slices.rest.now place
     → e.at ≡ length section - length place.left.now → e.removed ≡ place.removed → e.bytes ≡ clock_line now ++ 10 ∷ []
     → Gives e section (joined (opened now (split (lines_of section))))
@@ -149,7 +149,7 @@ opened_gives e section now slices place whole are is at removed bytes =
     ) in
     rest_gives e section a b c (l ++ 10 ∷ []) slices (logged l p.rest) whole are old here (removed ∙ is.removed) bytes new
 
-pub new_log_gives : (e : Edit) (section : List ℕ) (now : CivilMinute) (slices : Sections) → terminated section ≡ section → AreSections slices (split (lines_of section))
+pub new_log_gives : (e : Edit) (section : List ℕ) (now : Moment) (slices : Sections) → terminated section ≡ section → AreSections slices (split (lines_of section))
     → ((line : List ℕ) → in_logbook line (lines_of slices.rest.now) ≡ None)
     → e.at ≡ length section - length slices.rest.now → e.removed ≡ 0 → e.bytes ≡ codes ":LOGBOOK:\n" ++ (clock_line now ++ 10 ∷ []) ++ codes ":END:\n"
     → Gives e section (joined (opened now (split (lines_of section))))

@@ -1,38 +1,36 @@
 -- The lines that a change of a section makes: none has a newline, and none begins with a star.
-use Rattle.std.proofs.Common.{◌≡◌, eqb, ℕ, zero, suc, Bool, true, false, Option, Some, None, Result, Ok, Err, List, [], ◌∷◌, ◌++◌, length, take, drop, refl, sym, ap, subst, ◌∙◌, append_assoc, inl, inr}
+use Rattle.std.proofs.Common.{◌≡◌, eqb, ℕ, zero, suc, Bool, true, false, Option, Some, None, Result, Ok, Err, List, [], ◌∷◌, ◌++◌, length, refl, sym, ap, subst, ◌∙◌, append_assoc, inl, inr}
 use Rattle.std.specs.Prelude.{codes, filter, if◌then◌else◌, ◌==◌, nat_le, not, ◌&&◌, ◌-◌}
 use Rattle.std.specs.List.{AllByRecursion, list_all}
 use Rattle.std.specs.Result.{result_map_both}
 use Rattle.std.proofs.lemmas.Bool.{cases_Bool, false≢true}
 use Rattle.org_splice.specs.Blanks.{is_blank, is_trailing, front, behind}
 use Rattle.org_splice.proofs.Ends.{front_behind, front_passes}
-use Rattle.org_stamp.specs.Calendar.{CivilMinute, weekday_of}
+use Rattle.org_stamp.specs.Calendar.{Moment, weekday_of}
 use Rattle.org_stamp.specs.declared.fault.RepeatFault.{RepeatFault}
 use Rattle.org_stamp.specs.declared.fault.RepeatFault.TheVariants.{BadRepeat, DateRange}
 use Rattle.org_stamp.specs.declared.kind.Times.{Times}
 use Rattle.org_stamp.specs.declared.kind.Unit.{Unit}
-use Rattle.org_stamp.specs.declared.kind.Unit.TheVariants.{Hour, Day, Week, Month, Year}
+use Rattle.org_stamp.specs.declared.kind.Unit.TheVariants.{Hour}
 use Rattle.org_stamp.specs.declared.kind.Mark.{Mark}
 use Rattle.org_stamp.specs.declared.kind.Mark.TheVariants.{Cumulate, CatchUp, Restart}
 use Rattle.org_stamp.specs.declared.kind.Interval.{Interval}
 use Rattle.org_stamp.specs.declared.kind.Repeater.{Repeater}
 use Rattle.org_stamp.specs.Stamp.{Part, StampValue, IsStampText, HasParts, is_cookie, has_one_time, first_repeater, opening, closing, clock_text, date_text, day_name, time_text, end_text, cookies_text, stamp_text}
-use Rattle.org_stamp.specs.Front.{stamp_at}
 use Rattle.org_stamp.specs.Repeat.{is_hour, in_range, moved, restarted, repeated, repeated_as, repeated_by}
-use Rattle.org_stamp.proofs.Exact.{stamp_sound}
 use Rattle.org_meta.specs.declared.entry.Word.{Word}
 use Rattle.org_meta.specs.declared.entry.Word.TheVariants.{Closed, Deadline, Scheduled}
 use Rattle.org_meta.specs.declared.fault.PlanningFault.{PlanningFault}
 use Rattle.org_meta.specs.Moments.{moment_text}
 use Rattle.org_meta.specs.Notes.{quoted, note_line}
-use Rattle.org_meta.specs.Planning.{PlanningEntry, PlanningLine, AreRepeated, replanned, replanned_line, clear_closed, set_closed, has_repeater, word_text, word_at, entry_at, entries_at, planning_of, is_closed, is_repeating, has_others, entry_text, entry_with, kept_text, without_closed, closed_text, with_closed, fault_of, behind_first, repeated_entry, repeated_entries}
+use Rattle.org_meta.specs.Planning.{PlanningEntry, PlanningLine, AreRepeated, replanned, replanned_line, clear_closed, set_closed, has_repeater, word_text, entry_at, entries_at, planning_of, is_closed, is_repeating, has_others, entry_text, entry_with, kept_text, without_closed, closed_text, with_closed, fault_of, behind_first, repeated_entry, repeated_entries}
 use Rattle.org_meta.specs.Replans.{repeated_line}
 use Rattle.org_meta.specs.Sections.{SectionParts, property_line}
 use Rattle.org_meta.proofs.ClosedClocks.{NoStar, begins_plainly, blanks_line, moment_line}
 use Rattle.org_meta.proofs.Computed.{entries_repeat}
 use Rattle.org_meta.proofs.Flat.{Flat, empty_line, both_lines, with_first_byte, tested, day_line, date_line, clock_text_line}
 use Rattle.org_meta.proofs.Keeping.{AllParts}
-use Rattle.org_meta.proofs.PlanningText.{some_is, none_some, bind_some, entry_front, entries_ended, entries_full, entries_next, planning_read}
+use Rattle.org_meta.proofs.PlanningText.{some_is, none_some, bind_some, entry_read, entries_ended, entries_full, entries_next, planning_read}
 use Rattle.org_meta.proofs.Replanned.{BeginsWithWord, others_later, others_repeat, repeated_begins, same_text}
 
 -- a line that may stand in a section
@@ -118,25 +116,19 @@ in_range_is x s e = by_year (nat_le x.day.year 9999) e
 
 moved_cookies : (s : StampValue) (unit : Unit) (n : ℕ) → (moved s unit n).cookies ≡ s.cookies
 moved_cookies s Hour n = refl
-moved_cookies s Day n = refl
-moved_cookies s Week n = refl
-moved_cookies s Month n = refl
-moved_cookies s Year n = refl
+moved_cookies s unit n = refl
 
-restarted_cookies : (s : StampValue) (unit : Unit) (now : CivilMinute) → (restarted s unit now).cookies ≡ s.cookies
+restarted_cookies : (s : StampValue) (unit : Unit) (now : Moment) → (restarted s unit now).cookies ≡ s.cookies
 restarted_cookies s Hour now = refl
-restarted_cookies s Day now = refl
-restarted_cookies s Week now = refl
-restarted_cookies s Month now = refl
-restarted_cookies s Year now = refl
+restarted_cookies s unit now = refl
 
-by_mark_cookies : (mark : Mark) (i : Interval) (s new : StampValue) (now : CivilMinute) → repeated_by mark i s now ≡ Ok new → new.cookies ≡ s.cookies
+by_mark_cookies : (mark : Mark) (i : Interval) (s new : StampValue) (now : Moment) → repeated_by mark i s now ≡ Ok new → new.cookies ≡ s.cookies
 by_mark_cookies Cumulate i s new now e = ap (λ (s : StampValue). s.cookies) (sym (in_range_is _ new e)) ∙ moved_cookies s i.unit _
 by_mark_cookies CatchUp i s new now e = ap (λ (s : StampValue). s.cookies) (sym (in_range_is _ new e)) ∙ moved_cookies s i.unit _
 by_mark_cookies Restart i s new now e =
     ap (λ (s : StampValue). s.cookies) (sym (in_range_is _ new e)) ∙ moved_cookies (restarted s i.unit now) i.unit _ ∙ restarted_cookies s i.unit now
 
-as_cookies : (o : Option Repeater) (s new : StampValue) (now : CivilMinute) → repeated_as o s now ≡ Ok new → new.cookies ≡ s.cookies
+as_cookies : (o : Option Repeater) (s new : StampValue) (now : Moment) → repeated_as o s now ≡ Ok new → new.cookies ≡ s.cookies
 as_cookies None s new now e = let same : s ≡ new = cc in ap (λ (s : StampValue). s.cookies) (sym same)
 as_cookies (Some p) s new now e = by_tests (p.interval.value == 0) (is_hour p.interval.unit && not (has_one_time s.time)) e
   where
@@ -145,7 +137,7 @@ as_cookies (Some p) s new now e = by_tests (p.interval.value == 0) (is_hour p.in
     by_tests false true e = absurd cc
     by_tests false false e = by_mark_cookies p.mark p.interval s new now e
 
-repeated_cookies : (s new : StampValue) (now : CivilMinute) → repeated s now ≡ Ok new → new.cookies ≡ s.cookies
+repeated_cookies : (s new : StampValue) (now : Moment) → repeated s now ≡ Ok new → new.cookies ≡ s.cookies
 repeated_cookies s new now e = as_cookies (first_repeater s.cookies) s new now e
 
 -- ---- planning lines
@@ -157,24 +149,13 @@ record FlatEntry (e : PlanningEntry) : Type 0 where
   after : Flat e.after
   cookies : AllByRecursion FlatPart e.stamp.cookies
 
-entry_stamped : (text rest : List ℕ) (e : PlanningEntry) → entry_at text ≡ Some (e, rest) → IsStampText e.text e.stamp
-entry_stamped text rest e is =
-    let w = bind_some (word_at text) _ (e, rest) is in
-    let inner = drop (length (word_text w.0)) text in
-    let bytes = behind is_blank inner in
-    let s = bind_some (stamp_at bytes) _ (e, rest) w.2 in
-    let tail = drop s.0.1 bytes in
-    let read : PlanningEntry = record { word = w.0; gap = front is_blank inner; stamp = s.0.0; text = take s.0.1 bytes; after = front is_blank tail } in
-    let same : (read, behind is_blank tail) ≡ (e, rest) = some_is (read, behind is_blank tail) (e, rest) s.2 in
-    subst (λ (r : PlanningEntry × List ℕ). IsStampText r.0.text r.0.stamp) same (stamp_sound bytes s.0.0 s.0.1 s.1).is_text
-
 entry_flat : (text rest : List ℕ) (e : PlanningEntry) → entry_at text ≡ Some (e, rest) → Flat text → FlatEntry e × Flat rest
 entry_flat text rest e is p =
-    let all : Flat (entry_text e ++ rest) = subst Flat (entry_front text rest e is) p in
+    let all : Flat (entry_text e ++ rest) = subst Flat (entry_read text rest e is).0 p in
     let inner = back_line (word_text e.word) (e.gap ++ (e.text ++ e.after)) (front_line (entry_text e) rest all) in
     let stamped = back_line e.gap (e.text ++ e.after) inner in
     let text_flat = front_line e.text e.after stamped in (
-      record { gap = front_line e.gap (e.text ++ e.after) inner; text = text_flat; after = back_line e.text e.after stamped; cookies = cookies_flat e.text e.stamp (entry_stamped text rest e is) text_flat },
+      record { gap = front_line e.gap (e.text ++ e.after) inner; text = text_flat; after = back_line e.text e.after stamped; cookies = cookies_flat e.text e.stamp (entry_read text rest e is).1 text_flat },
       back_line (entry_text e) rest all,
     )
 
@@ -275,13 +256,13 @@ without_closed_lines line p is flat =
       | inr none ↦ rw none tt
     ]
 
-pub closed_text_line : (now : CivilMinute) → SectionLine (closed_text now)
+pub closed_text_line : (now : Moment) → SectionLine (closed_text now)
 closed_text_line now = record {
   flat = both_lines (codes "CLOSED: ") (moment_text now) (tested (codes "CLOSED: ") refl) (moment_line now);
   begins = record { first = 67; others = codes "LOSED: " ++ moment_text now; is = refl; other = refl };
 }
 
-pub with_closed_line : (now : CivilMinute) (line : List ℕ) (p : PlanningLine) → planning_of line ≡ Some p → Flat line → SectionLine (with_closed now p)
+pub with_closed_line : (now : Moment) (line : List ℕ) (p : PlanningLine) → planning_of line ≡ Some p → Flat line → SectionLine (with_closed now p)
 with_closed_line now line p is flat =
     let f = planned line p is flat in
     let kept : List ℕ = kept_text p.entries ++ p.tail in
@@ -297,13 +278,13 @@ with_closed_line now line p is flat =
 
 -- ---- repeated
 
-repeated_stamp_line : (now : CivilMinute) (e : PlanningEntry) (text : List ℕ) (r : Result StampValue RepeatFault) → repeated e.stamp now ≡ r → result_map_both (entry_with e) fault_of r ≡ Ok text → FlatEntry e → Flat text
+repeated_stamp_line : (now : Moment) (e : PlanningEntry) (text : List ℕ) (r : Result StampValue RepeatFault) → repeated e.stamp now ≡ r → result_map_both (entry_with e) fault_of r ≡ Ok text → FlatEntry e → Flat text
 repeated_stamp_line now e text (Ok s) same is p =
     let whole : entry_with e s ≡ text = cc in
     subst Flat whole (entry_with_line e s p (subst (AllByRecursion FlatPart) (sym (repeated_cookies e.stamp s now same)) p.cookies))
 repeated_stamp_line now e text (Err fault) same is p = absurd cc
 
-repeated_entry_line : (now : CivilMinute) (e : PlanningEntry) (text : List ℕ) → repeated_entry now e ≡ Ok text → FlatEntry e → Flat text
+repeated_entry_line : (now : Moment) (e : PlanningEntry) (text : List ℕ) → repeated_entry now e ≡ Ok text → FlatEntry e → Flat text
 repeated_entry_line now e text is p = by_tests (is_closed e) (is_repeating e) is
   where
     by_tests : (a b : Bool) → (if a then Ok [] else (if b then result_map_both (entry_with e) fault_of (repeated e.stamp now) else Ok (entry_text e))) ≡ Ok text → Flat text
@@ -316,12 +297,12 @@ both_texts (Ok a) (Ok b) text is front back = let whole : a ++ b ≡ text = cc i
 both_texts (Ok a) (Err fault) text is front back = absurd cc
 both_texts (Err fault) more text is front back = absurd cc
 
-repeated_entries_line : (now : CivilMinute) (es : List PlanningEntry) (text : List ℕ) → repeated_entries now es ≡ Ok text → AllByRecursion FlatEntry es → Flat text
+repeated_entries_line : (now : Moment) (es : List PlanningEntry) (text : List ℕ) → repeated_entries now es ≡ Ok text → AllByRecursion FlatEntry es → Flat text
 repeated_entries_line now [] text is all = let none : [] ≡ text = cc in subst Flat none empty_line
 repeated_entries_line now (e ∷ es) text is all =
     both_texts (repeated_entry now e) (repeated_entries now es) text is (λ t first. repeated_entry_line now e t first all.0) (λ t more. repeated_entries_line now es t more all.1)
 
-pub repeated_is_line : (now : CivilMinute) (line : List ℕ) (p : PlanningLine) (text : List ℕ) → planning_of line ≡ Some p → has_repeater p.entries ≡ true → repeated_entries now p.entries ≡ Ok text
+pub repeated_is_line : (now : Moment) (line : List ℕ) (p : PlanningLine) (text : List ℕ) → planning_of line ≡ Some p → has_repeater p.entries ≡ true → repeated_entries now p.entries ≡ Ok text
     → Flat line → SectionLine (repeated_line p text)
 repeated_is_line now line p text is some made flat =
     let f = planned line p is flat in
@@ -333,7 +314,7 @@ repeated_is_line now line p text is some made flat =
 quoted_line : (state : List ℕ) → Flat state → Flat (quoted state)
 quoted_line state p = with_first_byte 34 _ refl (both_lines state _ p (with_first_byte 34 _ refl (blanks_line (10 - length state))))
 
-pub note_is_line : (new old : List ℕ) (now : CivilMinute) → Flat new → Flat old → SectionLine (note_line new old now)
+pub note_is_line : (new old : List ℕ) (now : Moment) → Flat new → Flat old → SectionLine (note_line new old now)
 note_is_line new old now is was =
     let tail : List ℕ = quoted new ++ (codes " from " ++ (quoted old ++ (32 ∷ moment_text now))) in
     record {
@@ -387,6 +368,6 @@ module _ (P : List ℕ → Type 0) (flat : (l : List ℕ) → P l → Flat l) (o
   pub cleared_parts : (parts new : SectionParts) → AllParts P parts → clear_closed parts ≡ Ok new → AllParts P new
   cleared_parts parts new a e = replanned_parts [] without_closed parts new tt without_closed_lines a e
 
-  pub closed_parts : (now : CivilMinute) (parts new : SectionParts) → AllParts P parts → set_closed now parts ≡ Ok new → AllParts P new
+  pub closed_parts : (now : Moment) (parts new : SectionParts) → AllParts P parts → set_closed now parts ≡ Ok new → AllParts P new
   closed_parts now parts new a e =
       replanned_parts (closed_text now ∷ []) (λ p. with_closed now p ∷ []) parts new (closed_text_line now, tt) (λ line p is flat. (with_closed_line now line p is flat, tt)) a e

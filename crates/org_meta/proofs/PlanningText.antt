@@ -1,5 +1,5 @@
 -- A well formed planning line is its indentation, the texts of its entries and its tail.
-use Rattle.std.proofs.Common.{◌≡◌, ℕ, zero, suc, true, false, Bool, ◌||◌, Option, Some, None, List, [], ◌∷◌, ◌++◌, length, take, drop, refl, sym, ap, ◌∙◌, append_assoc, take-append-drop, inl, inr}
+use Rattle.std.proofs.Common.{◌≡◌, ℕ, zero, suc, true, false, Bool, ◌||◌, Option, Some, None, List, [], ◌∷◌, ◌++◌, length, take, drop, refl, sym, ap, subst, ◌∙◌, append_assoc, take-append-drop, inl, inr}
 use Rattle.std.specs.Prelude.{codes, nat_eq}
 use Rattle.std.specs.List.{starts_with, list_all, list_any}
 use Rattle.std.proofs.lemmas.Bool.{cases_Bool}
@@ -8,6 +8,8 @@ use Rattle.org_splice.specs.Blanks.{is_blank, is_trailing, front, behind}
 use Rattle.org_splice.proofs.Ends.{front_behind}
 use Rattle.org_stamp.specs.Parts.{◌>>=◌}
 use Rattle.org_stamp.specs.Front.{stamp_at}
+use Rattle.org_stamp.specs.Stamp.{IsStampText}
+use Rattle.org_stamp.proofs.Exact.{stamp_sound}
 use Rattle.org_meta.specs.declared.entry.Word.{Word}
 use Rattle.org_meta.specs.declared.entry.Word.TheVariants.{Closed, Deadline, Scheduled}
 use Rattle.org_meta.specs.Sections.{is_planning}
@@ -63,8 +65,9 @@ word_front text w e =
 
 -- ---- entries
 
-pub entry_front : (text rest : List ℕ) (e : PlanningEntry) → entry_at text ≡ Some (e, rest) → text ≡ entry_text e ++ rest
-entry_front text rest e is =
+-- an entry that is read is what is before the rest, and the text of its stamp is a stamp's
+pub entry_read : (text rest : List ℕ) (e : PlanningEntry) → entry_at text ≡ Some (e, rest) → (text ≡ entry_text e ++ rest) × IsStampText e.text e.stamp
+entry_read text rest e is =
     let w = bind_some (word_at text) _ (e, rest) is in
     let inner = drop (length (word_text w.0)) text in
     let bytes = behind is_blank inner in
@@ -78,7 +81,7 @@ entry_front text rest e is =
     (front_behind is_blank inner
     ∙ ap (λ (t : List ℕ). front is_blank inner ++ t) (sym (take-append-drop s.0.1 bytes) ∙ ap (λ (t : List ℕ). take s.0.1 bytes ++ t) (front_behind is_blank tail))) in
     let shape : word_text w.0 ++ (front is_blank inner ++ (take s.0.1 bytes ++ (front is_blank tail ++ behind is_blank tail))) ≡ entry_text read ++ behind is_blank tail = simp append_assoc in
-    parts ∙ shape ∙ ap (λ (r : PlanningEntry × List ℕ). entry_text r.0 ++ r.1) same
+    (parts ∙ shape ∙ ap (λ (r : PlanningEntry × List ℕ). entry_text r.0 ++ r.1) same, subst (λ (r : PlanningEntry × List ℕ). IsStampText r.0.text r.0.stamp) same (stamp_sound bytes s.0.0 s.0.1 s.1).is_text)
 
 pub entries_ended : (n : ℕ) (text : List ℕ) → list_all is_trailing text ≡ true → entries_at n text ≡ Some ([], text)
 entries_ended zero text end = rw end refl
@@ -103,7 +106,7 @@ entries_front (suc n) text r is =
           let e = bind_some (entry_at text) _ r (sym (entries_next n text other) ∙ is) in
           let es = bind_some (entries_at n e.0.1) _ r e.2 in
           let same : (e.0.0 ∷ es.0.0, es.0.1) ≡ r = some_is (e.0.0 ∷ es.0.0, es.0.1) r es.2 in
-          entry_front text e.0.1 e.0.0 e.1
+          (entry_read text e.0.1 e.0.0 e.1).0
           ∙ ap (λ (t : List ℕ). entry_text e.0.0 ++ t) (entries_front n e.0.1 es.0 es.1)
           ∙ sym (append_assoc (entry_text e.0.0) (entries_text es.0.0) es.0.1)
           ∙ ap (λ (q : List PlanningEntry × List ℕ). entries_text q.0 ++ q.1) same

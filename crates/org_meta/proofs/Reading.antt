@@ -13,7 +13,7 @@ use Rattle.std.proofs.lemmas.Slice.Eq.{bytes_eq-Decides}
 use Rattle.org_splice.specs.Blanks.{is_blank, is_trailing, is_solid, front, behind, trimmed_end, trimmed}
 use Rattle.org_splice.proofs.Ends.{both}
 use Rattle.org_meta.specs.Sections.{SectionParts, NodeProperty, is_name_run, is_end, is_drawer_start, property_of, is_property_name, value_if_named, value_named, value_before_end, property, property_line, put_before_end, put_in_drawer, put}
-use Rattle.org_stamp.specs.Calendar.{CivilMinute}
+use Rattle.org_stamp.specs.Calendar.{Moment}
 use Rattle.org_meta.specs.Moments.{moment_text}
 use Rattle.org_meta.specs.Notes.{quoted, note_line}
 use Rattle.org_meta.proofs.Trims.{behind_front, front_front, behind_step, trim_all, trim_more, trim_behind, trim_either}
@@ -173,5 +173,5 @@ line_said (n ∷ ns) value good =
 dash_starts_none : (more : List ℕ) → is_drawer_start (45 ∷ more) ≡ false
 dash_starts_none more = ap (λ t. str_eq_ignore_ascii_case t (codes ":PROPERTIES:")) (trim_behind is_trailing [] 45 more refl)
 
-pub note_starts_none : (new old : List ℕ) (now : CivilMinute) → is_drawer_start (note_line new old now) ≡ false
+pub note_starts_none : (new old : List ℕ) (now : Moment) → is_drawer_start (note_line new old now) ≡ false
 note_starts_none new old now = dash_starts_none (codes " State " ++ (quoted new ++ (codes " from " ++ (quoted old ++ (32 ∷ moment_text now)))))

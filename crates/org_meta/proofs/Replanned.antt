@@ -5,7 +5,7 @@ use Rattle.std.specs.List.{prefix_len, list_all, list_any, starts_with}
 use Rattle.std.proofs.lemmas.Bool.{cases_Bool, false≢true}
 use Rattle.org_splice.specs.Blanks.{is_blank, behind}
 use Rattle.org_splice.proofs.Ends.{front_passes}
-use Rattle.org_stamp.specs.Calendar.{CivilMinute}
+use Rattle.org_stamp.specs.Calendar.{Moment}
 use Rattle.org_stamp.specs.Stamp.{StampValue, stamp_text}
 use Rattle.org_stamp.specs.declared.fault.RepeatFault.{RepeatFault}
 use Rattle.org_meta.specs.declared.entry.Word.{Word}
@@ -75,7 +75,7 @@ by_stamp : (e : PlanningEntry) (text : List ℕ) (q : Result StampValue RepeatFa
 by_stamp e text (Ok s) is = record { word = e.word; more = e.gap ++ (stamp_text s ++ e.after); is = ok_is text (entry_with e s) is }
 by_stamp e text (Err fault) is = absurd (ok_err text (fault_of fault) is)
 
-entry_begins : (e : PlanningEntry) (now : CivilMinute) (text : List ℕ) → is_closed e ≡ false → IsRepeatedEntry e now (Ok text) → BeginsWithWord text
+entry_begins : (e : PlanningEntry) (now : Moment) (text : List ℕ) → is_closed e ≡ false → IsRepeatedEntry e now (Ok text) → BeginsWithWord text
 entry_begins e now text kept is =
     let open_one = if_false (is_closed e) _ _ is kept in
     elim (cases_Bool (is_repeating e)) [
@@ -83,7 +83,7 @@ entry_begins e now text kept is =
       | inr stays ↦ record { word = e.word; more = e.gap ++ (e.text ++ e.after); is = ok_is text (entry_text e) (if_false (is_repeating e) _ _ open_one stays) }
     ]
 
-closed_gone : (e : PlanningEntry) (now : CivilMinute) (text : List ℕ) → is_closed e ≡ true → IsRepeatedEntry e now (Ok text) → text ≡ []
+closed_gone : (e : PlanningEntry) (now : Moment) (text : List ℕ) → is_closed e ≡ true → IsRepeatedEntry e now (Ok text) → text ≡ []
 closed_gone e now text closed is = ok_is text [] (if_true (is_closed e) _ _ is closed)
 
 in_front : (text first more : List ℕ) → text ≡ first ++ more → BeginsWithWord first → BeginsWithWord text
@@ -95,10 +95,10 @@ others_later e es closed some = let t = rw closed at some in t
 pub same_text : (a b : List ℕ) → a ≡ b → BeginsWithWord a → BeginsWithWord b
 same_text a b e w = record { word = w.word; more = w.more; is = sym e ∙ w.is }
 
-pub repeated_begins : (es : List PlanningEntry) (now : CivilMinute) (text : List ℕ) → has_others es ≡ true → AreRepeated es now (Ok text) → BeginsWithWord text
+pub repeated_begins : (es : List PlanningEntry) (now : Moment) (text : List ℕ) → has_others es ≡ true → AreRepeated es now (Ok text) → BeginsWithWord text
 repeated_begins [] now text some are = absurd (false≢true some)
 repeated_begins (e ∷ es) now text some are = by_first e es now text some are.0 are.1 are.2 (λ more others later. repeated_begins es now more others later) where
-  by_more : (e : PlanningEntry) (es : List PlanningEntry) (now : CivilMinute) (text first : List ℕ) → has_others (e ∷ es) ≡ true → IsRepeatedEntry e now (Ok first) → (more : Texts) → AreRepeated es now more → made text ≡ behind_text first more
+  by_more : (e : PlanningEntry) (es : List PlanningEntry) (now : Moment) (text first : List ℕ) → has_others (e ∷ es) ≡ true → IsRepeatedEntry e now (Ok first) → (more : Texts) → AreRepeated es now more → made text ≡ behind_text first more
       → ((more : List ℕ) → has_others es ≡ true → AreRepeated es now (Ok more) → BeginsWithWord more) → BeginsWithWord text
   by_more e es now text first some one (Err fault) later is begins = absurd (ok_err text fault is)
   by_more e es now text first some one (Ok more) later is begins =
@@ -110,7 +110,7 @@ repeated_begins (e ∷ es) now text some are = by_first e es now text some are.0
         | inr kept ↦ in_front text first more all (entry_begins e now first kept one)
       ]
 
-  by_first : (e : PlanningEntry) (es : List PlanningEntry) (now : CivilMinute) (text : List ℕ) → has_others (e ∷ es) ≡ true → (first : Texts) → IsRepeatedEntry e now first
+  by_first : (e : PlanningEntry) (es : List PlanningEntry) (now : Moment) (text : List ℕ) → has_others (e ∷ es) ≡ true → (first : Texts) → IsRepeatedEntry e now first
       → MatchResult first (λ t. (more : Texts) × AreRepeated es now more × (made text ≡ behind_text t more)) (λ fault. made text ≡ failed fault)
       → ((more : List ℕ) → has_others es ≡ true → AreRepeated es now (Ok more) → BeginsWithWord more) → BeginsWithWord text
   by_first e es now text some (Ok first) one m begins = by_more e es now text first some one m.0 m.1 m.2 begins
@@ -132,7 +132,7 @@ others_repeat (e ∷ es) some =
     or_either (is_repeating e) (list_any is_repeating es) (not (is_closed e)) (has_others es) some
     (λ one. repeater_other (is_closed e) e.stamp.active _ one) (λ later. others_repeat es later)
 
-pub repeated_plans : (line : List ℕ) (p : PlanningLine) (now : CivilMinute) (text : List ℕ) → planning_of line ≡ Some p → has_repeater p.entries ≡ true → AreRepeated p.entries now (Ok text) → is_planning (repeated_line p text) ≡ true
+pub repeated_plans : (line : List ℕ) (p : PlanningLine) (now : Moment) (text : List ℕ) → planning_of line ≡ Some p → has_repeater p.entries ≡ true → AreRepeated p.entries now (Ok text) → is_planning (repeated_line p text) ≡ true
 repeated_plans line p now text is some are =
     let b = repeated_begins p.entries now text (others_repeat p.entries some) are in
     let blank : list_all is_blank p.indentation ≡ true = ap (list_all is_blank) (planning_read line p is).indentation ∙ front_passes is_blank line in

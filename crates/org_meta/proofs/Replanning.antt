@@ -6,7 +6,7 @@ use Rattle.std.proofs.lemmas.Bool.{cases_Bool}
 use Rattle.org_splice.specs.Edits.{edited}
 use Rattle.org_splice.specs.Lines.{terminated, print_lines, IsLine, lines_of}
 use Rattle.org_splice.specs.declared.edit.Edit.{Edit}
-use Rattle.org_stamp.specs.Calendar.{CivilMinute}
+use Rattle.org_stamp.specs.Calendar.{Moment}
 use Rattle.org_meta.specs.declared.parts.Sections.{Sections}
 use Rattle.org_meta.specs.declared.fault.PlanningFault.{PlanningFault}
 use Rattle.org_meta.specs.declared.fault.PlanningFault.TheVariants.{OddPlanning, OutOfMemory}
@@ -130,7 +130,7 @@ module _ (section : List ℕ) (slices : Sections) (whole : terminated section �
 line_shape : (i c k t : List ℕ) → i ++ (c ++ 32 ∷ []) ++ (k ++ (t ++ 10 ∷ [])) ≡ (i ++ (c ++ (32 ∷ (k ++ t)))) ++ 10 ∷ []
 line_shape i c k t = simp append_assoc
 
-pub with_closed_bytes : (o0 o1 o2 : List ℕ) (now : CivilMinute) (p : PlanningLine) → o0 ≡ p.indentation → o1 ≡ o0 ++ (closed_text now ++ 32 ∷ []) → o2 ≡ o1 ++ (kept_text p.entries ++ (p.tail ++ 10 ∷ [])) → has_others p.entries ≡ true
+pub with_closed_bytes : (o0 o1 o2 : List ℕ) (now : Moment) (p : PlanningLine) → o0 ≡ p.indentation → o1 ≡ o0 ++ (closed_text now ++ 32 ∷ []) → o2 ≡ o1 ++ (kept_text p.entries ++ (p.tail ++ 10 ∷ [])) → has_others p.entries ≡ true
     → o2 ≡ with_closed now p ++ 10 ∷ []
 with_closed_bytes o0 o1 o2 now p e0 e1 e2 others =
     let more = kept_text p.entries ++ (p.tail ++ 10 ∷ []) in
@@ -148,16 +148,16 @@ without_closed_bytes o0 o1 p e0 e1 others =
 repeated_shape : (i r t : List ℕ) → (i ++ r) ++ (t ++ 10 ∷ []) ≡ (i ++ (r ++ t)) ++ 10 ∷ []
 repeated_shape i r t = simp append_assoc
 
-pub same_fault : (now : CivilMinute) (es fs : List PlanningEntry) (fault : PlanningFault) → es ≡ fs → (fault ≡ OutOfMemory) ⊎ AreRepeated es now (Err fault) → (fault ≡ OutOfMemory) ⊎ AreRepeated fs now (Err fault)
+pub same_fault : (now : Moment) (es fs : List PlanningEntry) (fault : PlanningFault) → es ≡ fs → (fault ≡ OutOfMemory) ⊎ AreRepeated es now (Err fault) → (fault ≡ OutOfMemory) ⊎ AreRepeated fs now (Err fault)
 same_fault now es fs fault same wrong = let P : List PlanningEntry → Type 0 = λ es. (fault ≡ OutOfMemory) ⊎ AreRepeated es now (Err fault) in subst P same wrong
 
-pub repeated_bytes : (now : CivilMinute) (p : PlanningLine) (es : List PlanningEntry) (o0 o1 o2 : List ℕ) → es ≡ p.entries → o0 ≡ p.indentation → PutsAllRepeated es now o0 o1 → o2 ≡ o1 ++ (p.tail ++ 10 ∷ [])
+pub repeated_bytes : (now : Moment) (p : PlanningLine) (es : List PlanningEntry) (o0 o1 o2 : List ℕ) → es ≡ p.entries → o0 ≡ p.indentation → PutsAllRepeated es now o0 o1 → o2 ≡ o1 ++ (p.tail ++ 10 ∷ [])
     → (text : List ℕ) × AreRepeated p.entries now (Ok text) × (o2 ≡ repeated_line p text ++ 10 ∷ [])
 repeated_bytes now p es o0 o1 o2 same e0 puts e2 =
     let Q : List PlanningEntry → Type 0 = λ es. AreRepeated es now (Ok puts.text) in
     (puts.text, subst Q same puts.are, e2 ∙ ap (λ (t : List ℕ). t ++ (p.tail ++ 10 ∷ [])) (puts.bytes ∙ ap (λ (t : List ℕ). t ++ puts.text) e0) ∙ repeated_shape p.indentation puts.text p.tail)
 
-module _ (section : List ℕ) (slices : Sections) (whole : terminated section ≡ section) (are : AreSections slices (split (lines_of section))) (now : CivilMinute) where
+module _ (section : List ℕ) (slices : Sections) (whole : terminated section ≡ section) (are : AreSections slices (split (lines_of section))) (now : Moment) where
   pub repeat_none : slices.planning.now ≡ [] → HasNoRepeater (split (lines_of section)).planning
   repeat_none empty = subst HasNoRepeater (sym (sym (planning_is section slices are) ∙ ap lines_of empty)) tt
 

@@ -5,7 +5,7 @@ use Rattle.std.specs.List.{list_any}
 use Rattle.std.specs.Option.{option_map, unwrap_or}
 use Rattle.org_splice.specs.declared.Span.{Span}
 use Rattle.org_splice.specs.declared.edit.Edit.{Edit}
-use Rattle.org_stamp.specs.Calendar.{CivilMinute}
+use Rattle.org_stamp.specs.Calendar.{Moment}
 use Rattle.org_stamp.specs.Parts.{◌>>=◌}
 use Rattle.org_stamp.specs.Stamp.{duration_text}
 use Rattle.org_meta.specs.declared.clock.Running.{Running}
@@ -18,7 +18,7 @@ use Rattle.org_meta.specs.Clocks.{running_clock, minutes_between, IsOpenAt}
 
 -- ---- in
 
-abbrev pub clock_line : CivilMinute → List ℕ
+abbrev pub clock_line : Moment → List ℕ
 clock_line now = codes "CLOCK: " ++ moment_text now
 
 abbrev pub is_logbook : List ℕ → Bool
@@ -36,37 +36,37 @@ in_logbook line (l ∷ ls) =
 abbrev pub logged : List ℕ → List (List ℕ) → List (List ℕ)
 logged line ls = unwrap_or (in_logbook line ls) (codes ":LOGBOOK:" ∷ line ∷ codes ":END:" ∷ ls)
 
-abbrev pub opened : CivilMinute → SectionParts → SectionParts
+abbrev pub opened : Moment → SectionParts → SectionParts
 opened now parts = record parts { rest = logged (clock_line now) parts.rest }
 
 -- ---- out
 
 -- what takes the place of all that follows the first stamp of an open clock line
-abbrev pub closing_text : CivilMinute → ℕ → List ℕ
+abbrev pub closing_text : Moment → ℕ → List ℕ
 closing_text now minutes =
     codes "--" ++ (moment_text now ++ (codes " => " ++ duration_text minutes 2))
 
 -- an open clock line that runs for so many minutes, closed; none where the moment is before its
 -- start
-abbrev pub closed_after : CivilMinute → List ℕ → Option ℕ → Result (List ℕ) ClockFault
+abbrev pub closed_after : Moment → List ℕ → Option ℕ → Result (List ℕ) ClockFault
 closed_after now head (Some minutes) = Ok (head ++ closing_text now minutes)
 closed_after now head None = Err ClockBackwards
 
-abbrev pub closed_clock : CivilMinute → List ℕ → Option Running → Result (List ℕ) ClockFault
+abbrev pub closed_clock : Moment → List ℕ → Option Running → Result (List ℕ) ClockFault
 closed_clock now line (Some running) =
     closed_after now (take running.head line) (minutes_between running.start now)
 closed_clock now line None = Ok line
 
 -- the line, closed where it is an open clock, unless the moment is before its start
-abbrev pub closed_line : CivilMinute → List ℕ → Result (List ℕ) ClockFault
+abbrev pub closed_line : Moment → List ℕ → Result (List ℕ) ClockFault
 closed_line now line = closed_clock now line (running_clock line)
 
 -- how many minutes an open clock line has run at a moment, where that isn't before its start
-abbrev pub minutes_run : CivilMinute → List ℕ → Option ℕ
+abbrev pub minutes_run : Moment → List ℕ → Option ℕ
 minutes_run now line = running_clock line >>= λ running. minutes_between running.start now
 
 -- The edit closes the open clock line at the span, and all other lines stay.
-abbrev pub Closes : CivilMinute → List ℕ → Span → Edit → Type 0
+abbrev pub Closes : Moment → List ℕ → Span → Edit → Type 0
 Closes now section span edit =
     (before : List (List ℕ)) (line : List ℕ) (after : List (List ℕ))
     → IsOpenAt section span before line after
@@ -80,7 +80,7 @@ IsWhyNot closed ClockBackwards = closed ≡ Err ClockBackwards
 
 -- The open clock line at the span isn't closed: the moment is before its start, or it isn't, and
 -- memory was refused.
-abbrev pub ClosesNot : CivilMinute → List ℕ → Span → ClockFault → Type 0
+abbrev pub ClosesNot : Moment → List ℕ → Span → ClockFault → Type 0
 ClosesNot now section span fault =
     (before : List (List ℕ)) (line : List ℕ) (after : List (List ℕ))
     → IsOpenAt section span before line after → IsWhyNot (closed_line now line) fault

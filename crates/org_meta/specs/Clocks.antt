@@ -6,7 +6,7 @@ use Rattle.std.specs.Option.{option_map, option_map_or}
 use Rattle.std.specs.Char.{is_ascii_digit}
 use Rattle.org_splice.specs.Lines.{print_lines, lines_of}
 use Rattle.org_splice.specs.declared.Span.{Span}
-use Rattle.org_stamp.specs.Calendar.{CivilMinute, minutes_of}
+use Rattle.org_stamp.specs.Calendar.{Moment, minutes_of}
 use Rattle.org_stamp.specs.Parts.{◌>>=◌}
 use Rattle.org_stamp.specs.Stamp.{StampValue, has_one_time, has_cookies, start_of}
 use Rattle.org_stamp.specs.Front.{stamp_at}
@@ -22,7 +22,7 @@ abbrev pub is_clock_stamp : StampValue → Bool
 is_clock_stamp s = not s.active && has_one_time s.time && not (has_cookies s)
 
 -- where the stamp at the front of the bytes starts, and the number of its bytes
-abbrev pub clock_stamp_at : List ℕ → Option (CivilMinute × ℕ)
+abbrev pub clock_stamp_at : List ℕ → Option (Moment × ℕ)
 clock_stamp_at text =
     stamp_at text >>= λ r. if is_clock_stamp r.0 then Some (start_of r.0, r.1) else None
 
@@ -56,7 +56,7 @@ abbrev pub is_duration : List ℕ → Bool
 is_duration text = option_map_or are_minutes (behind_hours text) false
 
 -- the minutes from the first to the second, unless that lies before the first
-abbrev pub minutes_between : CivilMinute → CivilMinute → Option ℕ
+abbrev pub minutes_between : Moment → Moment → Option ℕ
 minutes_between first second = if_not_negative (minutes_of second -ℤ minutes_of first) where
   if_not_negative : ℤ → Option ℕ
   if_not_negative (pos n) = Some n
@@ -64,13 +64,13 @@ minutes_between first second = if_not_negative (minutes_of second -ℤ minutes_o
 
 -- the minutes of a clock that `--`, a second stamp that isn't before the first, and a duration
 -- close
-abbrev pub closed_minutes : CivilMinute → List ℕ → Option ℕ
+abbrev pub closed_minutes : Moment → List ℕ → Option ℕ
 closed_minutes start text =
     behind_mark (codes "--") text >>= λ second. clock_stamp_at second >>= λ end.
     if is_duration (drop end.1 second) then minutes_between start end.0 else None
 
 -- what follows the first stamp of a clock line: nothing, or what closes it
-abbrev pub clock_from : CivilMinute → ℕ → List ℕ → Option Clock
+abbrev pub clock_from : Moment → ℕ → List ℕ → Option Clock
 clock_from start head text =
     if length text == 0 then Some (Open (record { start = start; head = head }))
     else (closed_minutes start text >>= λ minutes. Some (Closed minutes))

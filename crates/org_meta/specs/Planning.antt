@@ -4,7 +4,7 @@ use Rattle.std.specs.Prelude.{◌≡◌, ℕ, zero, suc, nat_le, nat_eq, Bool, t
 use Rattle.std.specs.List.{starts_with, list_all, list_any}
 use Rattle.std.specs.Option.{option_map_or}
 use Rattle.std.specs.Result.{result_map_both}
-use Rattle.org_stamp.specs.Calendar.{CivilMinute}
+use Rattle.org_stamp.specs.Calendar.{Moment}
 use Rattle.org_stamp.specs.Parts.{◌>>=◌}
 use Rattle.org_stamp.specs.Stamp.{StampValue, repeats, stamp_text}
 use Rattle.org_stamp.specs.Front.{stamp_at}
@@ -127,11 +127,11 @@ without_closed p =
     if has_others p.entries then (p.indentation ++ (kept_text p.entries ++ p.tail)) ∷ [] else []
 
 -- `CLOSED:` and the moment's stamp
-abbrev pub closed_text : CivilMinute → List ℕ
+abbrev pub closed_text : Moment → List ℕ
 closed_text now = codes "CLOSED: " ++ moment_text now
 
 -- with that CLOSED entry first, in the place of the one that it has
-abbrev pub with_closed : CivilMinute → PlanningLine → List ℕ
+abbrev pub with_closed : Moment → PlanningLine → List ℕ
 with_closed now p =
     if has_others p.entries
     then p.indentation ++ (closed_text now ++ (32 ∷ (kept_text p.entries ++ p.tail)))
@@ -159,7 +159,7 @@ abbrev pub clear_closed : SectionParts → Result SectionParts PlanningFault
 clear_closed parts = replanned [] without_closed parts parts.planning
 
 -- one that turns done has that of the moment
-abbrev pub set_closed : CivilMinute → SectionParts → Result SectionParts PlanningFault
+abbrev pub set_closed : Moment → SectionParts → Result SectionParts PlanningFault
 set_closed now parts =
     replanned (closed_text now ∷ []) (λ p. with_closed now p ∷ []) parts parts.planning
 
@@ -186,7 +186,7 @@ behind_text text (Err fault) = Err fault
 
 -- the text of one entry at its next repetition, or the fault; what doesn't repeat stays, and CLOSED
 -- goes
-abbrev pub IsRepeatedEntry : PlanningEntry → CivilMinute → Result (List ℕ) PlanningFault → Type 0
+abbrev pub IsRepeatedEntry : PlanningEntry → Moment → Result (List ℕ) PlanningFault → Type 0
 IsRepeatedEntry e now r =
     MatchBool (is_closed e) (r ≡ Ok [])
     (MatchBool (is_repeating e)
@@ -196,7 +196,7 @@ IsRepeatedEntry e now r =
     (r ≡ Ok (entry_text e)))
 
 -- the texts of all, or the first fault
-abbrev pub AreRepeated : List PlanningEntry → CivilMinute → Result (List ℕ) PlanningFault → Type 0
+abbrev pub AreRepeated : List PlanningEntry → Moment → Result (List ℕ) PlanningFault → Type 0
 AreRepeated [] now r = r ≡ Ok []
 AreRepeated (e ∷ es) now r =
     (first : Result (List ℕ) PlanningFault) × IsRepeatedEntry e now first
@@ -208,7 +208,7 @@ AreRepeated (e ∷ es) now r =
 
 -- ---- the same, computed
 
-abbrev pub repeated_entry : CivilMinute → PlanningEntry → Result (List ℕ) PlanningFault
+abbrev pub repeated_entry : Moment → PlanningEntry → Result (List ℕ) PlanningFault
 repeated_entry now e =
     if is_closed e then Ok []
     else (if is_repeating e then result_map_both (entry_with e) fault_of (repeated e.stamp now)
@@ -220,6 +220,6 @@ behind_first (Ok text) more = behind_text text more
 behind_first (Err fault) more = Err fault
 
 -- the texts of all, or the first fault
-abbrev pub repeated_entries : CivilMinute → List PlanningEntry → Result (List ℕ) PlanningFault
+abbrev pub repeated_entries : Moment → List PlanningEntry → Result (List ℕ) PlanningFault
 repeated_entries now [] = Ok []
 repeated_entries now (e ∷ es) = behind_first (repeated_entry now e) (repeated_entries now es)

@@ -5,7 +5,7 @@ use Rattle.org_meta.specs.declared.fault.PlanningFault.{PlanningFault}
 use Rattle.org_meta.specs.declared.fault.PlanningFault.TheVariants.{OddPlanning, OutOfMemory}
 use Rattle.org_meta.specs.Edits.{GivesParts}
 use Rattle.org_meta.specs.Sections.{SectionParts}
-use Rattle.org_stamp.specs.Calendar.{CivilMinute}
+use Rattle.org_stamp.specs.Calendar.{Moment}
 use Rattle.org_meta.specs.Planning.{PlanningEntry, PlanningLine, planning_of, has_repeater, IsRepeatedEntry, AreRepeated}
 
 -- the parts are no fault, and the edit gives their section
@@ -19,13 +19,13 @@ FaultIn parts fault = (fault ≡ OutOfMemory) ⊎ (parts ≡ Err fault)
 -- ---- repetition
 
 -- the text of the entry at its next repetition was put at the end
-pub record PutsRepeated (e : PlanningEntry) (now : CivilMinute) (old new : List ℕ) : Type 0 where
+pub record PutsRepeated (e : PlanningEntry) (now : Moment) (old new : List ℕ) : Type 0 where
   pub text : List ℕ
   pub is : IsRepeatedEntry e now (Ok text)
   pub bytes : new ≡ old ++ text
 
 -- and those of all entries
-pub record PutsAllRepeated (es : List PlanningEntry) (now : CivilMinute) (old new : List ℕ)
+pub record PutsAllRepeated (es : List PlanningEntry) (now : Moment) (old new : List ℕ)
     : Type 0 where
   pub text : List ℕ
   pub are : AreRepeated es now (Ok text)
@@ -42,7 +42,7 @@ HasNoRepeater (l ∷ ls) =
     (p : PlanningLine) × (planning_of l ≡ Some p) × (has_repeater p.entries ≡ false)
 
 -- The edit gives the section with this planning line repeated.
-pub record GivesRepeatedLine (now : CivilMinute) (parts : SectionParts) (section : List ℕ)
+pub record GivesRepeatedLine (now : Moment) (parts : SectionParts) (section : List ℕ)
     (edit : Edit) (line : List ℕ) : Type 0 where
   pub planning : PlanningLine
   pub text : List ℕ
@@ -51,17 +51,17 @@ pub record GivesRepeatedLine (now : CivilMinute) (parts : SectionParts) (section
   pub are : AreRepeated planning.entries now (Ok text)
   pub gives : GivesParts edit section (record parts { planning = repeated_line planning text ∷ [] })
 
-abbrev pub GivesRepeatedIn : CivilMinute → SectionParts → List ℕ → Edit → List (List ℕ) → Type 0
+abbrev pub GivesRepeatedIn : Moment → SectionParts → List ℕ → Edit → List (List ℕ) → Type 0
 GivesRepeatedIn now parts section edit [] = ⊥
 GivesRepeatedIn now parts section edit (l ∷ ls) = GivesRepeatedLine now parts section edit l
 
 -- the edit that repeats, or none where there is no repeater
-abbrev pub GivesRepeated : CivilMinute → SectionParts → List ℕ → Option Edit → Type 0
+abbrev pub GivesRepeated : Moment → SectionParts → List ℕ → Option Edit → Type 0
 GivesRepeated now parts section None = HasNoRepeater parts.planning
 GivesRepeated now parts section (Some edit) = GivesRepeatedIn now parts section edit parts.planning
 
 -- the planning line is odd, or the fault is the first of its repetitions
-abbrev pub FaultRepeated : CivilMinute → List (List ℕ) → PlanningFault → Type 0
+abbrev pub FaultRepeated : Moment → List (List ℕ) → PlanningFault → Type 0
 FaultRepeated now [] fault = ⊥
 FaultRepeated now (l ∷ ls) fault =
     ((fault ≡ OddPlanning) × (planning_of l ≡ None))

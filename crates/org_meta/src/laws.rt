@@ -3,7 +3,7 @@
 //! Each law is the contract of a function with nothing to do.
 ghost use Rattle.std.specs.Prelude.{◌≡◌, ◌<◌, ◌++◌, ◌∷◌, [], ℕ, Bool, List, Result, Some, Ok, true, false, codes, IsTrue};
 ghost use Rattle.org_splice.specs.Blanks.{trimmed};
-ghost use Rattle.org_stamp.specs.Calendar.{CivilMinute, IsDay};
+ghost use Rattle.org_stamp.specs.Calendar.{Moment, IsDay};
 ghost use Rattle.org_meta.specs.Sections.{SectionParts, split, joined, is_planning, is_property_name, property, property_line, put};
 ghost use Rattle.org_meta.specs.Planning.{PlanningEntry, PlanningLine, planning_of, entries_text, has_repeater, AreRepeated, repeated_entries};
 ghost use Rattle.org_meta.specs.declared.fault.PlanningFault.{PlanningFault};
@@ -33,7 +33,7 @@ pub fn planning_is_its_line()
 /// A section with a note, with a property put, or with another planning line, is split as it was
 /// edited.
 pub fn edited_parts()
-    ensures note { (new old : List ℕ) (now : CivilMinute) (lines : List (List ℕ))
+    ensures note { (new old : List ℕ) (now : Moment) (lines : List (List ℕ))
         → split (joined (with_note (note_line new old now) (split lines)))
         ≡ with_note (note_line new old now) (split lines) }
     ensures put { (name value : List ℕ) (lines : List (List ℕ)) → is_property_name name ≡ true
@@ -55,7 +55,7 @@ pub fn fronts_are_split()
 
 /// The next repetition of a planning line's entries can be computed.
 pub fn repeats_compute()
-    ensures { (entries : List PlanningEntry) (now : CivilMinute)
+    ensures { (entries : List PlanningEntry) (now : Moment)
         (r : Result (List ℕ) PlanningFault) → AreRepeated entries now r
         → repeated_entries now entries ≡ r }
 {}
@@ -63,7 +63,7 @@ pub fn repeats_compute()
 /// A planning line whose entries were repeated is a planning line, so by `edited_parts` the section
 /// is split again as it was edited.
 pub fn repeats_stay_planning()
-    ensures { (line text : List ℕ) (p : PlanningLine) (now : CivilMinute)
+    ensures { (line text : List ℕ) (p : PlanningLine) (now : Moment)
         → planning_of line ≡ Some p → has_repeater p.entries ≡ true
         → AreRepeated p.entries now (Ok text) → is_planning (repeated_line p text) ≡ true }
 {}
@@ -80,7 +80,7 @@ pub fn keeps_lines()
     ensures planning { (test : List ℕ → Bool) (planning lines : List (List ℕ))
         → AllPass test planning → AllPass test lines
         → AllPass test (joined (record (split lines) { planning = planning })) }
-    ensures opened { (test : List ℕ → Bool) (now : CivilMinute) (lines : List (List ℕ))
+    ensures opened { (test : List ℕ → Bool) (now : Moment) (lines : List (List ℕ))
         → AllPass test (clock_line now ∷ codes ":LOGBOOK:" ∷ codes ":END:" ∷ [])
         → AllPass test lines → AllPass test (joined (opened now (split lines))) }
 {}
@@ -88,11 +88,11 @@ pub fn keeps_lines()
 /// The clock line of a moment is open. A line that was closed isn't: it says the minutes from its
 /// start to the moment.
 pub fn clocks_open_and_close()
-    ensures opened { (now : CivilMinute) → IsDay now.day → now.minute < 1440
+    ensures opened { (now : Moment) → IsDay now.day → now.minute < 1440
         → is_open (clock_line now) ≡ true }
-    ensures closed { (now : CivilMinute) (line new : List ℕ) → closed_line now line ≡ Ok new
+    ensures closed { (now : Moment) (line new : List ℕ) → closed_line now line ≡ Ok new
         → is_open new ≡ false }
-    ensures minutes { (now : CivilMinute) (line new : List ℕ) (minutes : ℕ) → IsDay now.day
+    ensures minutes { (now : Moment) (line new : List ℕ) (minutes : ℕ) → IsDay now.day
         → now.minute < 1440 → minutes_run now line ≡ Some minutes → closed_line now line ≡ Ok new
         → minutes_in new ≡ minutes }
 {}

@@ -3,7 +3,7 @@ use Rattle.std.proofs.Common.{◌≡◌, ℕ, List, [], ◌∷◌, ◌++◌, Som
 use Rattle.org_outline.specs.States.{Keywords}
 use Rattle.org_outline.specs.Tree.{tree}
 use Rattle.std.specs.Prelude.{Ok, Err, drop}
-use Rattle.org_stamp.specs.Calendar.{CivilMinute}
+use Rattle.org_stamp.specs.Calendar.{Moment}
 use Rattle.org_move.specs.declared.fault.MoveFault.TheVariants.{AlreadyArchive, BadLocation, NotFound}
 use Rattle.org_move.specs.Archive.{archive_properties, category_of, named, target_heading}
 use Rattle.org_move.specs.Location.{value_for, value_of_lines, location, location_of}
@@ -134,7 +134,7 @@ path_first = refl
 -- ---- what is put
 
 -- all but the time
-values : (now : CivilMinute) → drop 1 (archive_properties states (codes "x.org") now (tree work) 2)
+values : (now : Moment) → drop 1 (archive_properties states (codes "x.org") now (tree work) 2)
     ≡ named (codes "ARCHIVE_FILE") (codes "x.org")
     ∷ named (codes "ARCHIVE_OLPATH") (codes "Work/P")
     ∷ named (codes "ARCHIVE_CATEGORY") (codes "x")
@@ -144,7 +144,7 @@ unfolding states work
 values now = refl
 
 -- at the top level there is neither path nor inherited tag
-values_at_top : (now : CivilMinute) → drop 1 (archive_properties states (codes "x.org") now (tree work) 0)
+values_at_top : (now : Moment) → drop 1 (archive_properties states (codes "x.org") now (tree work) 0)
     ≡ named (codes "ARCHIVE_FILE") (codes "x.org") ∷ named (codes "ARCHIVE_CATEGORY") (codes "x") ∷ named (codes "ARCHIVE_TODO") (codes "DONE") ∷ []
 unfolding states work
 values_at_top now = refl

@@ -4,7 +4,7 @@ use Rattle.std.specs.Prelude.{Result, IfOk}
 use Rattle.std.specs.List.{AllByRecursion}
 use Rattle.org_disk.specs.Names.{IsDiskName}
 use Rattle.org_splice.specs.Lines.{IsLine, lines_of}
-use Rattle.org_stamp.specs.Calendar.{CivilMinute}
+use Rattle.org_stamp.specs.Calendar.{Moment}
 use Rattle.org_outline.specs.States.{Keywords}
 use Rattle.org_outline.specs.Tree.{Document, IsPlain, IsValid, node_at, node_count, print_node, tree}
 use Rattle.org_outline.specs.Moves.{IsNode, IsPrinted}
@@ -15,7 +15,7 @@ use Rattle.org_meta.proofs.Puts.{joined_split}
 use Rattle.org_move.specs.Archive.{archive_properties, archived, archived_section}
 use Rattle.org_move.proofs.Values.{all_put, each_plain, name_line}
 
-pub archived_node : (states : Keywords) (name : List ℕ) (now : CivilMinute) (d : Document) (i : ℕ) → IsLine name → IsValid d → i < node_count d → IsNode (archived states name now d i)
+pub archived_node : (states : Keywords) (name : List ℕ) (now : Moment) (d : Document) (i : ℕ) → IsLine name → IsValid d → i < node_count d → IsNode (archived states name now d i)
 archived_node states name now d i line valid lt =
     let own = valid_node d i valid lt in
     let ls : List (List ℕ) = (node_at d i).node.section in
@@ -29,19 +29,19 @@ archived_node states name now d i line valid lt =
     }
 
 -- as the code has its lines
-pub archived_lines : (states : Keywords) (name : List ℕ) (now : CivilMinute) (d : Document) (i : ℕ) (section made : List ℕ)
+pub archived_lines : (states : Keywords) (name : List ℕ) (now : Moment) (d : Document) (i : ℕ) (section made : List ℕ)
     → made ≡ print_node (record (node_at d i).node { section = lines_of section }) → lines_of section ≡ archived_section states name now d i
     → made ≡ print_node (archived states name now d i)
 archived_lines states name now d i section made made_is is =
     made_is ∙ ap (λ (ls : List (List ℕ)). print_node (record (node_at d i).node { section = ls })) is
 
-pub archived_printed : (states : Keywords) (name : List ℕ) (now : CivilMinute) (t : List ℕ) (i : ℕ) (made : List ℕ) → IsDiskName name → i < node_count (tree t)
+pub archived_printed : (states : Keywords) (name : List ℕ) (now : Moment) (t : List ℕ) (i : ℕ) (made : List ℕ) → IsDiskName name → i < node_count (tree t)
     → made ≡ print_node (archived states name now (tree t) i) → IsPrinted made
 archived_printed states name now t i made valid lt is =
     subst IsPrinted (sym is) (node-print (archived states name now (tree t) i) (archived_node states name now (tree t) i (name_line name valid) (tree-is t).valid lt)).1
 
 -- the node that they print
-pub archived_root : (states : Keywords) (name : List ℕ) (now : CivilMinute) (t : List ℕ) (i : ℕ) (made : List ℕ) → IsDiskName name → i < node_count (tree t)
+pub archived_root : (states : Keywords) (name : List ℕ) (now : Moment) (t : List ℕ) (i : ℕ) (made : List ℕ) → IsDiskName name → i < node_count (tree t)
     → made ≡ print_node (archived states name now (tree t) i) → (node_at (tree made) 0).node ≡ archived states name now (tree t) i
 archived_root states name now t i made valid lt is =
     ap (λ b. (node_at (tree b) 0).node) is

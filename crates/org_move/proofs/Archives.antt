@@ -7,7 +7,7 @@ use Rattle.std.specs.Option.{ForSome}
 use Rattle.std.specs.Str.{bytes_eq}
 use Rattle.std.proofs.lemmas.Bool.{cases_Bool}
 use Rattle.org_splice.specs.Lines.{IsLine}
-use Rattle.org_stamp.specs.Calendar.{CivilMinute}
+use Rattle.org_stamp.specs.Calendar.{Moment}
 use Rattle.org_outline.specs.declared.moves.Place.TheVariants.{Last}
 use Rattle.org_outline.specs.declared.paths.PathFault.{PathFault}
 use Rattle.org_outline.specs.States.{Keywords}
@@ -28,7 +28,7 @@ use Rattle.org_move.specs.Counts.{count_in, count_over, made_count, one_of}
 use Rattle.org_move.specs.Location.{Destination}
 use Rattle.org_move.specs.Refile.{Moved, is_inside}
 use Rattle.org_move.proofs.Archived.{archived_node}
-use Rattle.org_move.proofs.Kept.{counts_add, counts_again, other_stays}
+use Rattle.org_move.proofs.Kept.{counts_add, counts_again, counts_both}
 use Rattle.org_move.proofs.Moving.{found_of, number_in}
 use Rattle.org_move.proofs.Within.{left_with}
 
@@ -76,13 +76,13 @@ apart_of d i (Some p) x y is =
     let both = apart_gives (is_inside d i p) (is_inside d p i) x y is in
     (some_holds (λ p. is_inside d i p ≡ false) p both.0, both.1)
 
-pub record Stays (states : Keywords) (name : List ℕ) (now : CivilMinute) (to : Destination) (d new : Document) (i : ℕ) (up : Option ℕ) : Type 0 where
+pub record Stays (states : Keywords) (name : List ℕ) (now : Moment) (to : Destination) (d new : Document) (i : ℕ) (up : Option ℕ) : Type 0 where
   pub node_in : i < node_count d
   pub up_in : ForSome up (λ p. p < node_count d)
   pub outside : ForSome up (λ p. is_inside d i p ≡ false)
   pub is : left_with states name now to d i up ≡ new
 
-stays_of : (states : Keywords) (name : List ℕ) (path : List (List ℕ)) (now : CivilMinute) (to : Destination) (d new : Document) (i : ℕ) (up : Option ℕ)
+stays_of : (states : Keywords) (name : List ℕ) (path : List (List ℕ)) (now : Moment) (to : Destination) (d new : Document) (i : ℕ) (up : Option ℕ)
     → find_path states d path ≡ Ok i → target_heading states to d ≡ Ok up → if_apart d i up (left_with states name now to d i up) ≡ Ok new → Stays states name now to d new i up
 stays_of states name path now to d new i up found found_up made =
     let both = apart_of d i up (left_with states name now to d i up) new made in
@@ -106,7 +106,7 @@ put_last_valid to None node d line good valid =
           (append_heading_valid to.level (32 ∷ to.title) d (above_top to.level e) refl (spaced to.title line) valid))
     ]
 
-pub within_stays_valid : (states : Keywords) (name : List ℕ) (path : List (List ℕ)) (now : CivilMinute) (to : Destination) (d new : Document)
+pub within_stays_valid : (states : Keywords) (name : List ℕ) (path : List (List ℕ)) (now : Moment) (to : Destination) (d new : Document)
     → IsLine name → IsLine to.title → archive_within states name path now to d ≡ Ok new → IsValid d → IsValid new
 within_stays_valid states name path now to d new line title made valid =
     let first = found_of (find_path states d path) _ new made in
@@ -115,7 +115,7 @@ within_stays_valid states name path now to d new line title made valid =
     subst IsValid s.is (put_last_valid to (parent_without first.0 (size_of d first.0) second.0) (archived states name now d first.0) (take first.0 d) title
     (archived_node states name now d first.0 line valid s.node_in) (take_valid first.0 d valid))
 
-pub across_stays_valid : (states there : Keywords) (name : List ℕ) (path : List (List ℕ)) (now : CivilMinute) (to : Destination) (source target : Document) (new : Moved)
+pub across_stays_valid : (states there : Keywords) (name : List ℕ) (path : List (List ℕ)) (now : Moment) (to : Destination) (source target : Document) (new : Moved)
     → IsLine name → IsLine to.title → archive_across states name path now source there to target ≡ Ok new → IsValid source → IsValid target
     → IsValid new.source × IsValid new.target
 across_stays_valid states there name path now to source target new line title made valid valid_target =
@@ -165,7 +165,7 @@ same_made rest section to i size None = refl
 same_made rest section to i size (Some p) = refl
 
 -- a node with another section
-own_count : (rest : List ℕ) (section : List (List ℕ)) (states : Keywords) (name : List ℕ) (now : CivilMinute) (d : Document) (i : ℕ)
+own_count : (rest : List ℕ) (section : List (List ℕ)) (states : Keywords) (name : List ℕ) (now : Moment) (d : Document) (i : ℕ)
     → weigh_node (weight_of rest section) (archived states name now d i) + one_of rest section (node_at d i).node.rest (node_at d i).node.section
     ≡ weigh_node (weight_of rest section) (node_at d i).node + one_of rest section (node_at d i).node.rest (archived_section states name now d i)
 own_count rest section states name now d i =
@@ -175,7 +175,7 @@ own_count rest section states name now d i =
     let old : weigh_node (weight_of rest section) own ≡ one_of rest section own.rest own.section + weigh (weight_of rest section) own.children = refl in
     omega (arith, new, old)
 
-pub within_keeps : (states : Keywords) (name : List ℕ) (path : List (List ℕ)) (now : CivilMinute) (to : Destination) (d new : Document) (i : ℕ) (up : Option ℕ)
+pub within_keeps : (states : Keywords) (name : List ℕ) (path : List (List ℕ)) (now : Moment) (to : Destination) (d new : Document) (i : ℕ) (up : Option ℕ)
     → find_path states d path ≡ Ok i → target_heading states to d ≡ Ok up → archive_within states name path now to d ≡ Ok new → (rest : List ℕ) (section : List (List ℕ))
     → count_in rest section new + one_of rest section (node_at d i).node.rest (node_at d i).node.section
     ≡ count_in rest section d + one_of rest section (node_at d i).node.rest (archived_section states name now d i) + made_count rest section to up
@@ -187,7 +187,7 @@ within_keeps states name path now to d new i up found found_up made rest section
     let same : count_in rest section (left_with states name now to d i up) ≡ count_in rest section new = ap (count_in rest section) s.is in
     omega (arith, put_in, same, take-weight (weight_of rest section) i d s.node_in, own_count rest section states name now d i, same_made rest section to i (size_of d i) up)
 
-pub across_keeps : (states there : Keywords) (name : List ℕ) (path : List (List ℕ)) (now : CivilMinute) (to : Destination) (source target : Document) (new : Moved) (i : ℕ) (up : Option ℕ)
+pub across_keeps : (states there : Keywords) (name : List ℕ) (path : List (List ℕ)) (now : Moment) (to : Destination) (source target : Document) (new : Moved) (i : ℕ) (up : Option ℕ)
     → find_path states source path ≡ Ok i → target_heading there to target ≡ Ok up → archive_across states name path now source there to target ≡ Ok new → (rest : List ℕ) (section : List (List ℕ))
     → count_in rest section new.source + count_in rest section new.target + one_of rest section (node_at source i).node.rest (node_at source i).node.section
     ≡ count_in rest section source + count_in rest section target + one_of rest section (node_at source i).node.rest (archived_section states name now source i) + made_count rest section to up
@@ -203,7 +203,7 @@ across_keeps states there name path now to source target new i up found found_up
 
 -- ---- over all files
 
-pub file_keeps : (states : Keywords) (name : List ℕ) (path : List (List ℕ)) (now : CivilMinute) (to : Destination) (texts : List (List ℕ)) (file : ℕ) (text : List ℕ) (new : Document) (i : ℕ) (up : Option ℕ)
+pub file_keeps : (states : Keywords) (name : List ℕ) (path : List (List ℕ)) (now : Moment) (to : Destination) (texts : List (List ℕ)) (file : ℕ) (text : List ℕ) (new : Document) (i : ℕ) (up : Option ℕ)
     → IsLine name → IsLine to.title → slice_get texts file ≡ Some text → find_path states (tree text) path ≡ Ok i → target_heading states to (tree text) ≡ Ok up
     → archive_within states name path now to (tree text) ≡ Ok new → (rest : List ℕ) (section : List (List ℕ))
     → count_over rest section (slice_set texts file (print new)) + one_of rest section (node_at (tree text) i).node.rest (node_at (tree text) i).node.section
@@ -216,20 +216,15 @@ file_keeps states name path now to texts file text new i up line title here foun
       within_keeps states name path now to (tree text) new i up found found_up made rest section,
     )
 
-pub files_keep : (states there : Keywords) (name : List ℕ) (path : List (List ℕ)) (now : CivilMinute) (to : Destination) (texts : List (List ℕ)) (first second : ℕ) (from into : List ℕ) (new : Moved) (i : ℕ) (up : Option ℕ)
+pub files_keep : (states there : Keywords) (name : List ℕ) (path : List (List ℕ)) (now : Moment) (to : Destination) (texts : List (List ℕ)) (first second : ℕ) (from into : List ℕ) (new : Moved) (i : ℕ) (up : Option ℕ)
     → IsLine name → IsLine to.title → first ≢ second → slice_get texts first ≡ Some from → slice_get texts second ≡ Some into
     → find_path states (tree from) path ≡ Ok i → target_heading there to (tree into) ≡ Ok up
     → archive_across states name path now (tree from) there to (tree into) ≡ Ok new → (rest : List ℕ) (section : List (List ℕ))
     → count_over rest section (slice_set (slice_set texts first (print new.source)) second (print new.target)) + one_of rest section (node_at (tree from) i).node.rest (node_at (tree from) i).node.section
     ≡ count_over rest section texts + one_of rest section (node_at (tree from) i).node.rest (archived_section states name now (tree from) i) + made_count rest section to up
 files_keep states there name path now to texts first second from into new i up line title apart here here_too found found_up made rest section =
-    let valid = across_stays_valid states there name path now to (tree from) (tree into) new line title made (tree-is from).valid (tree-is into).valid in
-    let left : List (List ℕ) = slice_set texts first (print new.source) in
     omega (
       arith,
-      counts_add rest section texts first from (print new.source) here,
-      counts_add rest section left second into (print new.target) (other_stays texts first second (print new.source) apart ∙ here_too),
-      counts_again rest section new.source valid.0,
-      counts_again rest section new.target valid.1,
+      counts_both rest section texts first second from into new.source new.target apart here here_too (across_stays_valid states there name path now to (tree from) (tree into) new line title made (tree-is from).valid (tree-is into).valid),
       across_keeps states there name path now to (tree from) (tree into) new i up found found_up made rest section,
     )

@@ -8,7 +8,7 @@ use Rattle.std.specs.Prelude.{slice_range}
 use Rattle.org_disk.specs.Names.{IsDiskName}
 use Rattle.org_splice.specs.Lines.{lines_of}
 use Rattle.org_splice.specs.declared.Span.{Span}
-use Rattle.org_stamp.specs.Calendar.{CivilMinute}
+use Rattle.org_stamp.specs.Calendar.{Moment}
 use Rattle.org_outline.specs.States.{Keywords}
 use Rattle.org_outline.specs.Tree.{Document, node_at, node_count, tree}
 use Rattle.org_outline.specs.Outline.{IsSection}
@@ -39,7 +39,7 @@ with_keyword n None (b ∷ bs) rest e = absurd cc
 with_keyword n (Some text) [] rest e = absurd cc
 with_keyword n (Some text) (b ∷ bs) rest e = let same : text.now ≡ b ∷ bs = cc in ap (λ (v : List ℕ). named n v ∷ rest) same
 
-pub given_are : (states : Keywords) (name : List ℕ) (now : CivilMinute) (d : Document) (i : ℕ) (time file category : List ℕ) (path keyword tags : Option (Bor (List ℕ)))
+pub given_are : (states : Keywords) (name : List ℕ) (now : Moment) (d : Document) (i : ℕ) (time file category : List ℕ) (path keyword tags : Option (Bor (List ℕ)))
     → time ≡ time_text now → file ≡ name → category ≡ category_of name d i → option_map read path ≡ joined_if_any 47 (titles_above states d i)
     → option_map read keyword ≡ nonempty (parts_of states (node_at d i).node.rest).keyword → option_map read tags ≡ joined_if_any 32 (inherited_tags states d i)
     → named (codes "ARCHIVE_TIME") time
@@ -68,14 +68,14 @@ good_of [] all = tt
 good_of (p ∷ ps) all = ((all.0.0, all.0.1.0), good_of ps all.1)
 
 -- the section that was made
-pub section_made : (states : Keywords) (name : List ℕ) (now : CivilMinute) (t u : List ℕ) (i : ℕ) (s : Span) (start new : List ℕ) (ps : List NodeProperty)
+pub section_made : (states : Keywords) (name : List ℕ) (now : Moment) (t u : List ℕ) (i : ℕ) (s : Span) (start new : List ℕ) (ps : List NodeProperty)
     → u ≡ t → i < node_count (tree t) → IsSection t (node_at (tree t) i) s → start ≡ slice_range u s.start s.end → ps ≡ archive_properties states name now (tree t) i
     → split_of new ≡ put_each ps (split_of start) → lines_of new ≡ archived_section states name now (tree t) i
 section_made states name now t u i s start new ps same lt is start_is ps_is new_is =
     let old : split_of start ≡ split (node_at (tree t) i).node.section = ap split_of start_is ∙ section_parts t u i s same lt is in
     sym (joined_split (lines_of new)) ∙ ap joined (new_is ∙ ap (put_each ps) old) ∙ ap (λ qs. joined (put_each qs (split (node_at (tree t) i).node.section))) ps_is
 
-pub all_good : (states : Keywords) (name : List ℕ) (now : CivilMinute) (t : List ℕ) (i : ℕ) (ps : List NodeProperty) → IsDiskName name → ps ≡ archive_properties states name now (tree t) i → AllByRecursion IsGood ps
+pub all_good : (states : Keywords) (name : List ℕ) (now : Moment) (t : List ℕ) (i : ℕ) (ps : List NodeProperty) → IsDiskName name → ps ≡ archive_properties states name now (tree t) i → AllByRecursion IsGood ps
 all_good states name now t i ps valid is =
     subst (AllByRecursion IsGood) (sym is) (good_of (archive_properties states name now (tree t) i) (all_put states name now (tree t) i (name_line name valid) (tree-is t).valid))
 

@@ -83,6 +83,18 @@ other_stays (y ∷ ys) (suc i) (suc j) x apart = other_stays ys i j x (λ same. 
 pub counts_again : (rest : List ℕ) (section : List (List ℕ)) (d : Document) → IsValid d → count_in rest section (tree (print d)) ≡ count_in rest section d
 counts_again rest section d valid = ap (count_in rest section) (tree-print d valid)
 
+-- two files' new texts do by what the documents have more or less
+pub counts_both : (rest : List ℕ) (section : List (List ℕ)) (texts : List (List ℕ)) (i j : ℕ) (from into : List ℕ) (source target : Document) → i ≢ j → slice_get texts i ≡ Some from → slice_get texts j ≡ Some into → IsValid source × IsValid target
+    → count_over rest section (slice_set (slice_set texts i (print source)) j (print target)) + (count_in rest section (tree from) + count_in rest section (tree into)) ≡ count_over rest section texts + (count_in rest section source + count_in rest section target)
+counts_both rest section texts i j from into source target apart here here_too valid =
+    omega (
+      arith,
+      counts_add rest section texts i from (print source) here,
+      counts_add rest section (slice_set texts i (print source)) j into (print target) (other_stays texts i j (print source) apart ∙ here_too),
+      counts_again rest section source valid.0,
+      counts_again rest section target valid.1,
+    )
+
 pub file_counts : (states : Keywords) (path to : List (List ℕ)) (place : Place) (texts : List (List ℕ)) (i : ℕ) (text : List ℕ) (new : Document)
     → slice_get texts i ≡ Some text → refile_within states path to place (tree text) ≡ Ok new → (rest : List ℕ) (section : List (List ℕ))
     → count_over rest section (slice_set texts i (print new)) ≡ count_over rest section texts
@@ -99,13 +111,8 @@ pub files_counts : (states there : Keywords) (path to : List (List ℕ)) (place 
     → (rest : List ℕ) (section : List (List ℕ))
     → count_over rest section (slice_set (slice_set texts i (print new.source)) j (print new.target)) ≡ count_over rest section texts
 files_counts states there path to place texts i j from into new apart here here_too made rest section =
-    let valid = across_valid states there path to place (tree from) (tree into) new made (tree-is from).valid (tree-is into).valid in
-    let left : List (List ℕ) = slice_set texts i (print new.source) in
     omega (
       arith,
-      counts_add rest section texts i from (print new.source) here,
-      counts_add rest section left j into (print new.target) (other_stays texts i j (print new.source) apart ∙ here_too),
-      counts_again rest section new.source valid.0,
-      counts_again rest section new.target valid.1,
+      counts_both rest section texts i j from into new.source new.target apart here here_too (across_valid states there path to place (tree from) (tree into) new made (tree-is from).valid (tree-is into).valid),
       across_counts states there path to place (tree from) (tree into) new made rest section,
     )

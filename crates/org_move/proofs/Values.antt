@@ -1,6 +1,6 @@
 -- The values of an archived entry's properties hold no newline, nor does the title of its place,
 -- and its section is one still.
-use Rattle.std.proofs.Common.{◌≡◌, ℕ, zero, suc, ◌-◌, ◌/◌, Bool, true, false, eqb, not, ◌&&◌, List, [], ◌∷◌, ◌++◌, length, take, drop, map, get_or, refl, sym, subst, ◌∙◌, arith, inl, inr, Option, None, Some, Ok, Err}
+use Rattle.std.proofs.Common.{◌≡◌, ℕ, zero, suc, ◌-◌, Bool, true, false, eqb, not, ◌&&◌, List, [], ◌∷◌, ◌++◌, length, take, drop, map, get_or, refl, sym, subst, ◌∙◌, inl, inr, Option, None, Some, Ok, Err}
 use Rattle.std.specs.Prelude.{◌≢◌, codes, if◌then◌else◌, ◌==◌, is_some, Result}
 use Rattle.std.specs.List.{AllByRecursion, find, flat_map, join_with_byte, list_all, list_any, onto_first, slice_split}
 use Rattle.std.specs.Option.{IfSome, option_and_then, option_map, option_or, unwrap_or}
@@ -14,8 +14,8 @@ use Rattle.org_splice.specs.Blanks.{is_blank, is_solid, behind, end_of, front, t
 use Rattle.org_splice.specs.Lines.{IsLine, lines_of}
 use Rattle.org_splice.proofs.Ends.{both}
 use Rattle.org_splice.proofs.Lines.{lines_of-lines}
-use Rattle.org_stamp.specs.Calendar.{CivilMinute, weekday_of}
-use Rattle.org_stamp.specs.Stamp.{clock_text, date_text, day_name, two_digits}
+use Rattle.org_stamp.specs.Calendar.{Moment, weekday_of}
+use Rattle.org_stamp.specs.Stamp.{date_text, day_name}
 use Rattle.org_outline.specs.States.{Keywords}
 use Rattle.org_outline.specs.Text.{level_of}
 use Rattle.org_outline.specs.Tree.{Document, IsPlain, IsValid, Placed, no_node, node_at, nodes, tree}
@@ -27,6 +27,7 @@ use Rattle.org_outline.proofs.Sections.{nodes-valid}
 use Rattle.org_outline.proofs.Trees.{tree-is}
 use Rattle.org_meta.specs.Sections.{NodeProperty, drawer_size, is_end, is_name_run, is_property_name, joined, planning_size, property, property_line, property_of, put, split, value_before_end, value_if_named, value_named}
 use Rattle.org_meta.proofs.AllLines.{AllByRecursion-append, AllByRecursion-take, AllByRecursion-drop}
+use Rattle.org_meta.proofs.Flat.{Flat, both_lines, clock_text_line, date_line, day_line, either_line, empty_line, tested, with_first_byte}
 use Rattle.org_meta.proofs.Keeping.{keeps_put}
 use Rattle.org_meta.proofs.Reading.{line_said}
 use Rattle.org_meta.proofs.Resplit.{split_put}
@@ -41,64 +42,21 @@ use Rattle.org_move.proofs.Puts.{tested_line}
 
 -- ---- parts of lines
 
--- a line without a newline, by name
-record Flat (l : List ℕ) : Type 0 where
-  flat : IsLine l
-
--- the test computes
-abbrev NoNewline : List ℕ → Type 0
-NoNewline l = list_all (λ b. not (eqb b 10)) l ≡ true
-
-tested : (l : List ℕ) → NoNewline l → Flat l
-tested l e = record { flat = tested_line l e }
-
-empty_line : Flat []
-empty_line = record { flat = tt }
-
-abbrev Not10 : ℕ → Type 0
-Not10 b = b ≢ 10
-
-both_lines : (a b : List ℕ) → Flat a → Flat b → Flat (a ++ b)
-both_lines a b p q = record { flat = AllByRecursion-append Not10 a b p.flat q.flat }
-
 first_line : (n : ℕ) (l : List ℕ) → Flat l → Flat (take n l)
-first_line n l p = record { flat = AllByRecursion-take Not10 n l p.flat }
+first_line n l p = record { flat = AllByRecursion-take (λ b. b ≢ 10) n l p.flat }
 
 last_line : (n : ℕ) (l : List ℕ) → Flat l → Flat (drop n l)
-last_line n l p = record { flat = AllByRecursion-drop Not10 n l p.flat }
-
-either_line : (b : Bool) (x y : List ℕ) → Flat x → Flat y → Flat (if b then x else y)
-either_line true x y p q = p
-either_line false x y p q = q
+last_line n l p = record { flat = AllByRecursion-drop (λ b. b ≢ 10) n l p.flat }
 
 trimmed_line : (l : List ℕ) → Flat l → Flat (trimmed l)
 trimmed_line l p = first_line _ (behind is_blank l) (last_line _ l p)
 
 -- ---- the time
 
-two_line : (n : ℕ) → Flat (two_digits n)
-two_line n = record { flat = (λ e. omega (arith, e), (λ e. omega (arith, e), tt)) }
-
-day_line : (w : ℕ) → Flat (day_name w)
-day_line w =
-    either_line (w == 0) (codes "Mon") _ (tested (codes "Mon") refl)
-    (either_line (w == 1) (codes "Tue") _ (tested (codes "Tue") refl)
-    (either_line (w == 2) (codes "Wed") _ (tested (codes "Wed") refl)
-    (either_line (w == 3) (codes "Thu") _ (tested (codes "Thu") refl)
-    (either_line (w == 4) (codes "Fri") _ (tested (codes "Fri") refl)
-    (either_line (w == 5) (codes "Sat") (codes "Sun") (tested (codes "Sat") refl) (tested (codes "Sun") refl))))))
-
-with_first_byte : (b : ℕ) (l : List ℕ) → eqb b 10 ≡ false → Flat l → Flat (b ∷ l)
-with_first_byte b l other p = record { flat = (λ e. let same : eqb b 10 ≡ true = rw e refl in absurd (false≢true (sym other ∙ same)), p.flat) }
-
-time_line : (now : CivilMinute) → Flat (time_text now)
+time_line : (now : Moment) → Flat (time_text now)
 time_line now =
-    let d = now.day in
-    let date : Flat (date_text d) =
-    both_lines (two_digits (d.year / 100) ++ two_digits d.year) _ (both_lines (two_digits (d.year / 100)) (two_digits d.year) (two_line _) (two_line _))
-    (with_first_byte 45 _ refl (both_lines (two_digits d.month) _ (two_line _) (with_first_byte 45 _ refl (two_line _)))) in
-    let clock : Flat (clock_text now.minute) = both_lines (two_digits (now.minute / 60)) _ (two_line _) (with_first_byte 58 _ refl (two_line _)) in
-    both_lines (date_text d) _ date (with_first_byte 32 _ refl (both_lines (day_name (weekday_of d)) _ (day_line (weekday_of d)) (with_first_byte 32 _ refl clock)))
+    let day = weekday_of now.day in
+    both_lines (date_text now.day) _ (date_line now.day) (with_first_byte 32 _ refl (both_lines (day_name day) _ (day_line day) (with_first_byte 32 _ refl (clock_text_line now.minute))))
 
 -- ---- the name
 
@@ -294,7 +252,7 @@ unless_put : {X : Type 0} (xs : List X) (p : NodeProperty) → IsPut p → AllBy
 unless_put [] p is = tt
 unless_put (x ∷ xs) p is = (is, tt)
 
-pub all_put : (states : Keywords) (name : List ℕ) (now : CivilMinute) (d : Document) (i : ℕ) → IsLine name → IsValid d → AllByRecursion IsPut (archive_properties states name now d i)
+pub all_put : (states : Keywords) (name : List ℕ) (now : Moment) (d : Document) (i : ℕ) → IsLine name → IsValid d → AllByRecursion IsPut (archive_properties states name now d i)
 all_put states name now d i is valid =
     let line : Flat name = record { flat = is } in
     let titles = titles_above states d i in

@@ -3,7 +3,7 @@
 use Rattle.std.specs.Prelude.{ℕ, ◌==◌, nat_eq, if◌then◌else◌, Option, None, Some, Result, Ok, Err, List, [], ◌∷◌, ◌++◌, codes, filter, length, take, ◌-◌, ◌+◌}
 use Rattle.std.specs.List.{ends_with, join_with_byte}
 use Rattle.std.specs.Option.{unwrap_or}
-use Rattle.org_stamp.specs.Calendar.{CivilMinute, weekday_of}
+use Rattle.org_stamp.specs.Calendar.{Moment, weekday_of}
 use Rattle.org_stamp.specs.Stamp.{date_text, day_name, clock_text}
 use Rattle.org_outline.specs.declared.moves.Place.TheVariants.{Last}
 use Rattle.org_outline.specs.declared.paths.PathFault.{PathFault}
@@ -23,7 +23,7 @@ use Rattle.org_move.specs.Refile.{Moved, fault_of, is_inside, with_found}
 -- ---- the properties of an archived entry
 
 -- the moment as `2026-07-01 Wed 10:00`
-abbrev pub time_text : CivilMinute → List ℕ
+abbrev pub time_text : Moment → List ℕ
 time_text now =
     date_text now.day ++ (32 ∷ day_name (weekday_of now.day)) ++ (32 ∷ clock_text now.minute)
 
@@ -50,7 +50,7 @@ joined_if_any b [] = None
 joined_if_any b (text ∷ texts) = Some (join_with_byte b (text ∷ texts))
 
 -- the properties, in their order, of the heading i in the file of this name
-abbrev pub archive_properties : Keywords → List ℕ → CivilMinute → Document → ℕ → List NodeProperty
+abbrev pub archive_properties : Keywords → List ℕ → Moment → Document → ℕ → List NodeProperty
 archive_properties states name now d i =
     let titles = titles_above states d i in
     let keyword = (parts_of states (node_at d i).node.rest).keyword in
@@ -68,11 +68,11 @@ put_each [] parts = parts
 put_each (p ∷ ps) parts = put_each ps (put p.name p.value parts)
 
 -- the heading i with its properties put
-abbrev pub archived_section : Keywords → List ℕ → CivilMinute → Document → ℕ → List (List ℕ)
+abbrev pub archived_section : Keywords → List ℕ → Moment → Document → ℕ → List (List ℕ)
 archived_section states name now d i =
     joined (put_each (archive_properties states name now d i) (split (node_at d i).node.section))
 
-abbrev pub archived : Keywords → List ℕ → CivilMinute → Document → ℕ → Node
+abbrev pub archived : Keywords → List ℕ → Moment → Document → ℕ → Node
 archived states name now d i =
     record (node_at d i).node { section = archived_section states name now d i }
 
@@ -119,7 +119,7 @@ if_apart d i (Some p) new =
 
 -- archiving within a document, the text of the file of this name: the heading at `path` goes to the
 -- destination
-abbrev pub archive_within : Keywords → List ℕ → List (List ℕ) → CivilMinute → Destination → Document
+abbrev pub archive_within : Keywords → List ℕ → List (List ℕ) → Moment → Destination → Document
     → Result Document MoveFault
 archive_within states name path now to d =
     with_found (find_path states d path) (λ i.
@@ -129,7 +129,7 @@ archive_within states name path now to d =
     (take_out i d))))
 
 -- archiving into another document, the text of the destination's file
-abbrev pub archive_across : Keywords → List ℕ → List (List ℕ) → CivilMinute → Document → Keywords
+abbrev pub archive_across : Keywords → List ℕ → List (List ℕ) → Moment → Document → Keywords
     → Destination → Document → Result Moved MoveFault
 archive_across states name path now source there to target =
     with_found (find_path states source path) (λ i.

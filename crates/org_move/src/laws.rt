@@ -3,7 +3,7 @@
 //! Each is the contract of a function with nothing to do.
 ghost use Rattle.std.specs.Prelude.{◌≡◌, ◌≢◌, ℕ, ◌+◌, List, Ok, Option, Some, slice_get, slice_set};
 ghost use Rattle.org_splice.specs.Lines.{IsLine};
-ghost use Rattle.org_stamp.specs.Calendar.{CivilMinute};
+ghost use Rattle.org_stamp.specs.Calendar.{Moment};
 ghost use Rattle.org_outline.specs.declared.moves.Place.{Place};
 ghost use Rattle.org_outline.specs.States.{Keywords};
 ghost use Rattle.org_outline.specs.Paths.{find_path};
@@ -57,11 +57,11 @@ pub fn refiles_keep_counts()
 /// Archiving keeps documents valid, so that each is the tree of its print, where the file's name
 /// and the title of the place are lines; and so is the title of each place that a text names.
 pub fn archives_are_valid()
-    ensures within { (states : Keywords) (name : List ℕ) (path : List (List ℕ)) (now : CivilMinute)
+    ensures within { (states : Keywords) (name : List ℕ) (path : List (List ℕ)) (now : Moment)
         (to : Destination) (d new : Document) → IsLine name → IsLine to.title
         → archive_within states name path now to d ≡ Ok new → IsValid d → IsValid new }
     ensures across { (states there : Keywords) (name : List ℕ) (path : List (List ℕ))
-        (now : CivilMinute) (to : Destination) (source target : Document) (new : Moved)
+        (now : Moment) (to : Destination) (source target : Document) (new : Moved)
         → IsLine name → IsLine to.title
         → archive_across states name path now source there to target ≡ Ok new
         → IsValid source → IsValid target → IsValid new.source × IsValid new.target }
@@ -75,7 +75,7 @@ pub fn archives_are_valid()
 /// before it and with the entry as it is then, and with the heading made. Here `i` is the entry,
 /// and `up` the heading of the place.
 pub fn archives_keep_counts()
-    ensures within { (states : Keywords) (name : List ℕ) (path : List (List ℕ)) (now : CivilMinute)
+    ensures within { (states : Keywords) (name : List ℕ) (path : List (List ℕ)) (now : Moment)
         (to : Destination) (d new : Document) (i : ℕ) (up : Option ℕ)
         → find_path states d path ≡ Ok i → target_heading states to d ≡ Ok up
         → archive_within states name path now to d ≡ Ok new
@@ -85,7 +85,7 @@ pub fn archives_keep_counts()
         + one_of rest section own.rest (archived_section states name now d i)
         + made_count rest section to up }
     ensures across { (states there : Keywords) (name : List ℕ) (path : List (List ℕ))
-        (now : CivilMinute) (to : Destination) (source target : Document) (new : Moved)
+        (now : Moment) (to : Destination) (source target : Document) (new : Moved)
         (i : ℕ) (up : Option ℕ)
         → find_path states source path ≡ Ok i → target_heading there to target ≡ Ok up
         → archive_across states name path now source there to target ≡ Ok new
@@ -96,7 +96,7 @@ pub fn archives_keep_counts()
         + one_of rest section own.rest (archived_section states name now source i)
         + made_count rest section to up }
     // So over all files, where these are their texts: one that changes, and two.
-    ensures file { (states : Keywords) (name : List ℕ) (path : List (List ℕ)) (now : CivilMinute)
+    ensures file { (states : Keywords) (name : List ℕ) (path : List (List ℕ)) (now : Moment)
         (to : Destination) (texts : List (List ℕ)) (file : ℕ) (text : List ℕ) (new : Document)
         (i : ℕ) (up : Option ℕ) → IsLine name → IsLine to.title
         → slice_get texts file ≡ Some text → find_path states (tree text) path ≡ Ok i
@@ -109,7 +109,7 @@ pub fn archives_keep_counts()
         + one_of rest section own.rest (archived_section states name now (tree text) i)
         + made_count rest section to up }
     ensures files { (states there : Keywords) (name : List ℕ) (path : List (List ℕ))
-        (now : CivilMinute) (to : Destination) (texts : List (List ℕ)) (first second : ℕ)
+        (now : Moment) (to : Destination) (texts : List (List ℕ)) (first second : ℕ)
         (from into : List ℕ) (new : Moved) (i : ℕ) (up : Option ℕ)
         → IsLine name → IsLine to.title → first ≢ second
         → slice_get texts first ≡ Some from → slice_get texts second ≡ Some into

@@ -10,7 +10,7 @@ ghost use Rattle.org_splice.specs.Lines.{terminated, IsLine, lines_of};
 ghost use Rattle.org_outline.specs.Tree.{Document, node_at, node_count, tree};
 ghost use Rattle.org_outline.specs.States.{Keywords};
 ghost use Rattle.org_outline.specs.Parts.{parts_of as heading_parts};
-ghost use Rattle.org_stamp.specs.Calendar.{CivilMinute};
+ghost use Rattle.org_stamp.specs.Calendar.{Moment};
 ghost use Rattle.org_meta.specs.Sections.{is_property_name, parts_of, property_line, put};
 ghost use Rattle.org_move.specs.Archive.{archive_properties, archived_section, category_of, joined_if_any, put_each, time_text, without_org};
 ghost use Rattle.org_move.specs.Inherited.{inherited_tags, titles_above};
@@ -157,7 +157,7 @@ fn properties<'a>(
     keyword: &'a [u8],
     above: &'a FromAbove,
 ) -> [Property<'a>; 6]
-    ensures { (states : Keywords) (d : Document) (node : ℕ) (now : CivilMinute)
+    ensures { (states : Keywords) (d : Document) (node : ℕ) (now : Moment)
         → time.now ≡ time_text now → category.now ≡ category_of file.now d node
         → keyword.now ≡ (heading_parts states (node_at d node).node.rest).keyword
         → option_map (λ text. text.items) above.now.path

@@ -133,7 +133,7 @@ with_rising at None hs low rise = rise
 with_rising at (Some n) hs low rise = rising-cons (record { start = at; level = n }) hs low rise
 
 -- they stand in the order of their starts
-rising : (at : ℕ) (f : Bool) (b : List ℕ) → IsNonDecreasingBy (λ (h : Heading). h.start) (heads_from at f b)
+pub rising : (at : ℕ) (f : Bool) (b : List ℕ) → IsNonDecreasingBy (λ (h : Heading). h.start) (heads_from at f b)
 rising at f [] = λ i j d le lt. absurd (omega (arith, lt))
 rising at f (x ∷ b) =
     with_rising at (cond f (level_of (x ∷ b)) None) (heads_from (suc at) (eqb x 10) b) (begin_after at (suc at) (eqb x 10) b (omega arith)) (rising (suc at) (eqb x 10) b)

@@ -4,7 +4,7 @@ use Rattle.std.specs.Prelude.{IsTrue}
 use Rattle.std.specs.List.{All}
 use Rattle.org_disk.specs.Names.{journal_name, IsOrgFile}
 use Rattle.org_fileset.specs.Names.{with_archives, AreSorted, AreFew}
-use Rattle.org_folder.specs.Apart.{MayTell}
+use Rattle.org_folder.specs.Apart.{MayReport}
 use Rattle.org_folder.specs.declared.apart.AliasFault.{AliasFault}
 use Rattle.org_folder.specs.declared.apart.AliasFault.TheVariants as apart
 use Rattle.org_outline.specs.States.{Keywords, are_states}
@@ -18,7 +18,7 @@ shared new listed states apart.Device good accepted org may = (good, accepted)
 shared new listed states apart.OutOfMemory good accepted org may = tt
 
 -- a name that is told of the files is one of the store's
-pub may_share : (names files : List (List ℕ)) → AreFew names → AreSorted (journal_name ∷ with_archives names) files → (result : Result (Unit {0}) AliasFault) → IfErr result (MayTell files)
+pub may_share : (names files : List (List ℕ)) → AreFew names → AreSorted (journal_name ∷ with_archives names) files → (result : Result (Unit {0}) AliasFault) → IfErr result (MayReport files)
     → IfErr result (MayShare names)
 may_share names files few sorted (Ok done) may = tt
 may_share names files few sorted (Err (apart.SameFile name)) may = record { few = few; files = files; sorted = sorted; behind = may }

@@ -20,17 +20,17 @@ use Rattle.org_serve.specs.declared.end.ServeEnd.TheVariants.{End, Unsettled, De
 use Rattle.org_program.specs.declared.fault.Fault.{Fault}
 use Rattle.org_program.specs.declared.fault.Fault.TheVariants.{Usage, BadName, BadStates, Locked, SameFile, Open, Ended}
 
--- what the program tells of how serving ended: nothing only where the input was served to its end,
+-- what the program reports of how serving ended: nothing only where the input was served to its end,
 -- and all is settled
-abbrev pub told : Result ServeEnd OpenFault → Result (Unit {0}) Fault
-told (Ok End) = Ok tt
-told (Ok Unsettled) = Err (Ended Unsettled)
-told (Ok Device) = Err (Ended Device)
-told (Ok Read) = Err (Ended Read)
-told (Ok Write) = Err (Ended Write)
-told (Err fault) = Err (Open fault)
+abbrev pub reported : Result ServeEnd OpenFault → Result (Unit {0}) Fault
+reported (Ok End) = Ok tt
+reported (Ok Unsettled) = Err (Ended Unsettled)
+reported (Ok Device) = Err (Ended Device)
+reported (Ok Read) = Err (Ended Read)
+reported (Ok Write) = Err (Ended Write)
+reported (Err fault) = Err (Open fault)
 
--- why a folder's files couldn't be told
+-- why a folder's files couldn't be listed
 abbrev pub listing : ListFault → Fault
 listing list.Device = Open refused.Device
 listing list.OutOfMemory = Open refused.OutOfMemory
@@ -40,7 +40,7 @@ abbrev pub locking : LockFault → Fault
 locking lock.Locked = Locked
 locking lock.OutOfMemory = Open refused.OutOfMemory
 
--- why names couldn't be told to lead to files of their own
+-- why names couldn't be shown to lead to files of their own
 abbrev pub sharing : AliasFault → Fault
 sharing (apart.SameFile name) = SameFile name
 sharing apart.Device = Open refused.Device
@@ -61,7 +61,7 @@ IsCauseOfNames new (BadName name) = first_bad new ≡ Some (string_bytes name)
 IsCauseOfNames new (Open refused.OutOfMemory) = Unit {0}
 IsCauseOfNames new fault = ⊥
 
--- A name that may be told to share a file in a store with these names, which are few: behind the
+-- A name that may be reported to share a file in a store with these names, which are few: behind the
 -- first one, in byte order, of theirs, their archive files' and the journal's.
 pub record MayBeShared (names : List (List ℕ)) (name : List ℕ) : Type 0 where
   pub few : AreFew names
@@ -69,14 +69,14 @@ pub record MayBeShared (names : List (List ℕ)) (name : List ℕ) : Type 0 wher
   pub sorted : AreSorted (journal_name ∷ with_archives names) files
   pub behind : Contains (drop 1 files) name
 
--- what may be told of where the names of a store lead; of too many names nothing is
+-- what may be reported of where the names of a store lead; of too many names nothing is
 abbrev pub MayShare : List (List ℕ) → AliasFault → Type 0
 MayShare names (apart.SameFile name) = MayBeShared names name
 MayShare names apart.Device = AreFew names
 MayShare names apart.OutOfMemory = Unit {0}
 
 -- Why new names and states aren't a store's, or its folder can't be had beside them. What comes
--- first in this order is told: the first bad name, bad states, a folder on which another store is
+-- first in this order is reported: the first bad name, bad states, a folder on which another store is
 -- open, the rest of the folder. Want of memory may take the place of each.
 abbrev pub IsCause : List (List ℕ) → Keywords → Fault → Type 0
 IsCause new states (BadName name) = first_bad new ≡ Some (string_bytes name)

@@ -4,13 +4,13 @@ use Rattle.org_program.specs.declared.arguments.Arguments.{Arguments}
 use Rattle.org_program.specs.declared.fault.Fault.{Fault}
 use Rattle.org_program.specs.Causes.{IsCause}
 use Rattle.org_program.specs.Lists.{states_in}
-use Rattle.org_program.specs.Words.{AreTaken, IsFaultBy, Tells}
+use Rattle.org_program.specs.Words.{AreTaken, IsFaultBy, Say}
 
 -- of words that are taken: why their names and states aren't a store's, or its folder can't be had
 -- beside them
 pub record IsFaultOfStart (words : List (List ℕ)) (fault : Fault) : Type 0 where
   pub arguments : Arguments
-  pub told : Tells words arguments
+  pub said : Say words arguments
   pub cause : IsCause (map string_bytes arguments.new.items) (states_in arguments) fault
 
 -- why words aren't taken, or a store isn't set up by them

@@ -70,7 +70,7 @@ abbrev pub AreTaken : List (List ℕ) → Type 0
 AreTaken words = (fault_of command_line words ≡ []) × IsGroupText (group_in words)
 
 -- words that are taken, and what they tell the program to do
-pub record Tells (words : List (List ℕ)) (arguments : Arguments) : Type 0 where
+pub record Say (words : List (List ℕ)) (arguments : Arguments) : Type 0 where
   pub taken : AreTaken words
   pub folder : string_bytes arguments.folder ≡ folder_in words
   pub new : map string_bytes arguments.new.items ≡ new_in words

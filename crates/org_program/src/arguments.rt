@@ -2,7 +2,7 @@
 ghost use Rattle.std.specs.Prelude.{◌≡◌, ◌⊎◌, ℕ, List, [], ◌∷◌, Some, false, map, string_bytes, IfOk, IfErr, SomeIff};
 ghost use Rattle.std.specs.Str.Parse.{digits_value};
 ghost use Rattle.clap.specs.Words.{kind_of, app_of, fault_of, found_of, new_rule, rows_of, rule_of};
-ghost use Rattle.org_program.specs.Words.{command_line, folder_argument as folder_rule, given, new_argument as new_name_rule, AreTaken, Tells, IsGroupText, IsFaultBy, IsFaultOfWords};
+ghost use Rattle.org_program.specs.Words.{command_line, folder_argument as folder_rule, given, new_argument as new_name_rule, AreTaken, Say, IsGroupText, IsFaultBy, IsFaultOfWords};
 
 use crate::fault::Fault;
 use clap::error::ErrorKind;
@@ -19,7 +19,7 @@ const GROUP: &str = "How many commands are settled together, from 1 to 1000";
 
 const NO_GROUP: &str = "the value of '--group <K>' is a number from 1 to 1000";
 
-/// What the program is told to do.
+/// What the words of the command line say.
 #[derive(Drop)]
 pub struct Arguments {
     /// The folder of the store's files.
@@ -56,7 +56,7 @@ pub fn given_words(rt: &HostRuntime) -> Result<Vec<String>, Fault>
 /// - `Usage`: the words aren't taken.
 /// - `Open(OutOfMemory)`.
 pub fn read_words(alloc: Global, words: &[String]) -> Result<Arguments, Fault>
-    ensures told { IfOk result (Tells (map string_bytes words.now)) }
+    ensures said { IfOk result (Say (map string_bytes words.now)) }
     ensures fault { IfErr result (IsFaultBy (AreTaken (map string_bytes words.now) → ⊥)) }
 {
     match parse(alloc, words) {
@@ -66,7 +66,7 @@ pub fn read_words(alloc: Global, words: &[String]) -> Result<Arguments, Fault>
 }
 
 fn parse(alloc: Global, words: &[String]) -> Result<Arguments, Error>
-    ensures told { IfOk result (Tells (map string_bytes words.now)) }
+    ensures said { IfOk result (Say (map string_bytes words.now)) }
     ensures fault { IfErr result (λ error. (kind_of error ≡ ErrorKind.OutOfMemory)
         ⊎ (AreTaken (map string_bytes words.now) → ⊥)) }
 {
@@ -81,9 +81,9 @@ fn arguments_of(
     command: &mut Command<'_>,
     matches: &ArgMatches<'_>,
 ) -> Result<Arguments, Error>
-    ensures told { IfOk result (λ arguments. (words : List (List ℕ))
+    ensures said { IfOk result (λ arguments. (words : List (List ℕ))
         → rows_of (found_of matches.now) ≡ given words → fault_of command_line words ≡ []
-        → Tells words arguments) }
+        → Say words arguments) }
     ensures fault { IfErr result (λ error. (kind_of error ≡ ErrorKind.OutOfMemory)
         ⊎ ((words : List (List ℕ)) → rows_of (found_of matches.now) ≡ given words
         → AreTaken words → ⊥)) }

@@ -1,5 +1,5 @@
 //! The program: its arguments, the names and states that a store is opened with, a whole run over a
-//! folder, and what is told where it doesn't end well.
+//! folder, and what is reported where it doesn't end well.
 //!
 //! It is a library, and `orgstore` calls its `run`: a program is checked with the code of all
 //! libraries that it reaches, so it is to be small.

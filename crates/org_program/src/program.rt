@@ -1,15 +1,15 @@
-//! A run of the program: what it is told to do, the folder of its files, and how it ended.
+//! A run of the program: its arguments, the folder of its files, and how it ended.
 //!
 //! The order is fixed: words, names, states, lock, listing, two names of one file, opening.
 ghost use Rattle.std.specs.Prelude.{◌≡◌, ◌++◌, map, string_bytes, IfOk, IfErr, All};
 ghost use Rattle.org_disk.specs.Names.{IsOrgFile};
 ghost use Rattle.org_serve.specs.Writes.{exchange};
 ghost use Rattle.org_store.specs.Group.{IsGroup};
-ghost use Rattle.org_program.specs.Causes.{told, IsCause, MayShare};
+ghost use Rattle.org_program.specs.Causes.{reported, IsCause, MayShare};
 ghost use Rattle.org_program.specs.Faults.{IsFaultOfRun};
 ghost use Rattle.org_program.specs.Lists.{states_in};
 ghost use Rattle.org_program.specs.Runs.{IsSetUp, RunsFolder, ServesFolder};
-ghost use Rattle.org_program.specs.Words.{Tells};
+ghost use Rattle.org_program.specs.Words.{Say};
 
 use crate::arguments::{self, Arguments};
 use crate::fault::Fault;
@@ -26,13 +26,13 @@ use org_store::OpenFault;
 /// The most reads of an input; one that takes more ends with `Read`.
 const TURNS: u64 = 4_294_967_295;
 
-/// What a run of the program did.
+/// What a run of the program over a disk did.
 #[derive(Drop)]
-pub struct Ran<S: Start> {
-    /// What the words of the command line told it to do.
+pub struct Ran<D> {
+    /// What the words of the command line say.
     pub arguments: Arguments,
     /// The disk of the folder, as the run left it.
-    pub disk: FolderDisk<HostRuntime, S>,
+    pub disk: D,
     /// Ok where the input was served to its end, and all is settled. Else it says why not: the
     /// store wasn't opened, or serving ended otherwise.
     pub end: Result<(), Fault>,
@@ -62,8 +62,8 @@ pub fn run<S: Start, R: Source, W: Sink>(
     words: &[String],
     reader: &mut R,
     writer: &mut W,
-) -> Result<Ran<S>, Fault>
-    ensures words { IfOk result (λ ran. Tells (map string_bytes words.now) ran.arguments) }
+) -> Result<Ran<FolderDisk<HostRuntime, S>>, Fault>
+    ensures words { IfOk result (λ ran. Say (map string_bytes words.now) ran.arguments) }
     ensures runs { IfOk result (λ ran. RunsFolder S.world ran.arguments ran.disk ran.end
         (exchange R.Source W.Sink reader.old reader.new writer.old writer.new)) }
     ensures unserved { IfErr result (λ _. (reader.new ≡ reader.old)
@@ -77,7 +77,7 @@ pub fn run<S: Start, R: Source, W: Sink>(
     Ok(Ran {
         arguments,
         disk,
-        end: told(end),
+        end: reported(end),
     })
 }
 
@@ -102,9 +102,9 @@ fn serve<S: Start, R: Source, W: Sink>(
     Ok(serve_synced(rt.alloc(), disk, setup, reader, writer, TURNS))
 }
 
-// What there is to tell of how serving ended.
-fn told(end: Result<ServeEnd, OpenFault>) -> Result<(), Fault>
-    ensures { result ≡ told end }
+// What is reported of how serving ended.
+fn reported(end: Result<ServeEnd, OpenFault>) -> Result<(), Fault>
+    ensures { result ≡ reported end }
 {
     match end {
         Ok(ServeEnd::End) => Ok(()),
@@ -138,7 +138,7 @@ fn setup<'a>(rt: &HostRuntime, arguments: &'a Arguments) -> Result<(Setup, Locke
     ))
 }
 
-// Whether the files of a store with these names are one each. Too many names are told by the
+// Whether the files of a store with these names are one each. Too many names are reported by the
 // opening.
 fn check_files(
     rt: &HostRuntime,

@@ -172,10 +172,10 @@ module _ {D : Type 0} (g : Ghosts D) where
       ends
 
   -- What a crash leaves since a store of a run that wasn't broken.
-  pub leaves_since : (only_now : (disk : D) (image : Image) → g.honest disk → g.left_since disk (g.moment disk) image → AreImages (g.files disk) image)
+  pub leaves_since : (only_now : (disk : D) (image : Image) → g.honest disk → g.left_since disk (g.instant disk) image → AreImages (g.files disk) image)
       → (first here last : Trace D) → g.honest here.store.disk → IsAtRest (g.files first.store.disk) → IsOnDisk first.store.session (contents (g.files first.store.disk)) → here.store.session.broken ≡ false
       → Lists here.store.session here.texts → Lists last.store.session last.texts → Begin here.texts last.texts → (P : Session → Type 0) → Goes first here P → Goes here last (Counts last here)
-      → LeavesOnly (g.moment here.store.disk) (g.moment last.store.disk) (g.left_since here.store.disk) (g.left_since last.store.disk)
+      → LeavesOnly (g.instant here.store.disk) (g.instant last.store.disk) (g.left_since here.store.disk) (g.left_since last.store.disk)
       (HoldsSince first.store.session (contents (g.files first.store.disk)) here last)
   leaves_since only_now first here last honestly rest disk sound lists listed ends P before behind =
       let rest_here = before.rest sound rest in
@@ -191,6 +191,7 @@ module _ {D : Type 0} (g : Ghosts D) where
       let stood = ends here.store.session.acknowledged here.store.session.settled (lists.settled sound) in
       record {
         count = here.store.session.acknowledged;
+        least = omega (arith);
         whole = inl refl;
         accepted = omega (arith, slice_get_within last.texts here.store.session.acknowledged here.store.session.settled stood, listed.size);
         holds = rw stood (back here.store.session.settled image (inl refl) held);
@@ -207,6 +208,7 @@ module _ {D : Type 0} (g : Ghosts D) where
       let stood = stands reached.0 reached.1.1 reached.1.2 in
       record {
         count = reached.0.accepted;
+        least = omega (arith, lists.order, reached.1.1.no_fewer);
         whole = inr reached.1.1.no_fewer;
         accepted = omega (arith, slice_get_within last.texts reached.0.accepted reached.0.files stood, listed.size);
         holds = rw stood (back reached.0.files image (inr reached.1.0) reached.2);
@@ -216,7 +218,7 @@ module _ {D : Type 0} (g : Ghosts D) where
       (at_rest_recovers (g.files here.store.disk) rest_here image (only_now here.store.disk image honestly left))))
 
   -- What a crash leaves since each intermediate store of a run, and at its end.
-  module _ (only_now : (disk : D) (image : Image) → g.honest disk → g.left_since disk (g.moment disk) image → AreImages (g.files disk) image)
+  module _ (only_now : (disk : D) (image : Image) → g.honest disk → g.left_since disk (g.instant disk) image → AreImages (g.files disk) image)
       {first last : Trace D} {end : ServeEnd} {io : Exchange} (run : Runs Sound first last end io)
       (honest_first : g.honest first.store.disk) (honest_last : g.honest last.store.disk) (rest : IsAtRest (g.files first.store.disk)) (disk : IsOnDisk first.store.session (contents (g.files first.store.disk)))
       (lists : Lists first.store.session first.texts) where
@@ -227,7 +229,7 @@ module _ {D : Type 0} (g : Ghosts D) where
     lists_last = lists_end run.mid last run.ends (lists_lines first run.mid run.ran run.out run.answered lists)
 
     pub since : (here : Trace D) → Reaches Sound first run.ran run.out run.mid here ⊎ (here ≡ last) → here.store.session.broken ≡ false
-        → LeavesOnly (g.moment here.store.disk) (g.moment last.store.disk) (g.left_since here.store.disk) (g.left_since last.store.disk)
+        → LeavesOnly (g.instant here.store.disk) (g.instant last.store.disk) (g.left_since here.store.disk) (g.left_since last.store.disk)
         (HoldsSince first.store.session (contents (g.files first.store.disk)) here last)
     since here (inl reaches) sound =
         leaves_since only_now first here last (honest_lines first here reaches.answered reaches.written reaches.before honest_first) rest disk sound
@@ -238,7 +240,7 @@ module _ {D : Type 0} (g : Ghosts D) where
         (course_past here run.mid last reaches.others reaches.more reaches.behind (course_last run.mid last run.ends) (begin_end run.mid last run.ends)
         (lists_lines first here reaches.answered reaches.written reaches.before lists))
     since here (inr same) sound =
-        subst (λ (h : Trace D). LeavesOnly (g.moment h.store.disk) (g.moment last.store.disk) (g.left_since h.store.disk) (g.left_since last.store.disk)
+        subst (λ (h : Trace D). LeavesOnly (g.instant h.store.disk) (g.instant last.store.disk) (g.left_since h.store.disk) (g.left_since last.store.disk)
         (HoldsSince first.store.session (contents (g.files first.store.disk)) h last)) (sym same)
         (leaves_since only_now first last last honest_last rest disk (ap (λ (h : Trace D). h.store.session.broken) (sym same) ∙ sound) lists_last lists_last (λ k texts is. is) (Counts last first) course_to_last
         (course_none g last.store (Counts last last) (inl refl)))
@@ -275,13 +277,13 @@ at_first first new lines out answered = record {
 
 -- What a crash leaves of a run of a store that has such a list as it begins.
 pub run_leaves : {D : Type 0} (g : Ghosts D)
-    → ((disk : D) (image : Image) → g.honest disk → g.left_since disk (g.moment disk) image → AreImages (g.files disk) image)
+    → ((disk : D) (image : Image) → g.honest disk → g.left_since disk (g.instant disk) image → AreImages (g.files disk) image)
     → (first : Trace D) (new : StoreView D) (end : ServeEnd) (io : Exchange) → g.honest new.disk → IsAtRest (g.files first.store.disk)
     → IsOnDisk first.store.session (contents (g.files first.store.disk)) → first.store.session.broken ≡ false → Lists first.store.session first.texts
     → Runs (honest_stores g) first.store new end io
     → (last : Trace D) × (last.store ≡ new) × Lists last.store.session last.texts
     × Runs (honest_traces g) first last end io
-    × LeavesOnly (g.moment first.store.disk) (g.moment last.store.disk) (g.left_since first.store.disk) (g.left_since last.store.disk)
+    × LeavesOnly (g.instant first.store.disk) (g.instant last.store.disk) (g.left_since first.store.disk) (g.left_since last.store.disk)
     (HoldsSince first.store.session (contents (g.files first.store.disk)) first last)
 run_leaves g only_now first new end io honestly rest disk sound lists run =
     let lifted = lift_run g first run in
@@ -295,7 +297,6 @@ run_leaves g only_now first new end io honestly rest disk sound lists run =
     )
 
 -- .. which is a prefix with at least the commands that were acknowledged
-pub since_prefix : {D : Type 0} (first : Session) (others image : Image) (here later : Trace D) → here.store.session.acknowledged ≤ here.store.session.accepted
+pub since_prefix : {D : Type 0} (first : Session) (others image : Image) (here later : Trace D)
     → HoldsSince first others here later image → HoldsPrefix first others later.texts here.store.session.acknowledged image
-since_prefix first others image here later order holds =
-    (holds.count, elim holds.whole [ inl settled ↦ omega (arith, settled) | inr more ↦ omega (arith, more, order) ], holds.holds)
+since_prefix first others image here later holds = (holds.count, holds.least, holds.holds)

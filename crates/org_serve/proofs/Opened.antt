@@ -112,8 +112,8 @@ recovers_to image texts holds = some (recovered image) holds
 
 -- of a disk that a crash leaves so, each image recovers to files
 pub each_recovers : {D : Type 0} (g : Ghosts D) (disk now : D) (P : Image → Type 0)
-    → ((image : Image) → AreImages (g.files now) image → g.left_since now (g.moment disk) image)
-    → LeavesOnly (g.moment disk) (g.moment now) (g.left_since disk) (g.left_since now) P → ((image : Image) → P image → (texts : Image) × RecoversTo texts image) → EachRecovers (g.files now)
+    → ((image : Image) → AreImages (g.files now) image → g.left_since now (g.instant disk) image)
+    → LeavesOnly (g.instant disk) (g.instant now) (g.left_since disk) (g.left_since now) P → ((image : Image) → P image → (texts : Image) × RecoversTo texts image) → EachRecovers (g.files now)
 each_recovers g disk now P counts leaves each image left = let holds = each image (leaves.each image (counts image left)) in recovers_to image holds.0 holds.1
 
 -- a store that ended well has settled all
@@ -134,8 +134,8 @@ ended false true s out new ends is none = settles ends.0 ends.1 ends.2
 ended false false s out new ends is none = subst (λ (t : Session). (t.broken ≡ false) × (t.accepted ≤ t.acknowledged)) (sym ends.2) (sym is, none refl)
 
 module _ {D : Type 0} {g : Ghosts D}
-    (only_now : (disk : D) (image : Image) → g.honest disk → g.left_since disk (g.moment disk) image → AreImages (g.files disk) image)
-    (counts_now : (disk : D) (t : ℕ) (image : Image) → g.honest disk → t ≤ g.moment disk → AreImages (g.files disk) image → g.left_since disk t image)
+    (only_now : (disk : D) (image : Image) → g.honest disk → g.left_since disk (g.instant disk) image → AreImages (g.files disk) image)
+    (counts_now : (disk : D) (t : ℕ) (image : Image) → g.honest disk → t ≤ g.instant disk → AreImages (g.files disk) image → g.left_since disk t image)
     {setup : Setup} {disk now : D} {end : ServeEnd} {io : Exchange}
     (served : ServesOver g setup disk now end io) where
   session_is : served.first.store.session ≡ record (opened setup.states served.first.store.session.names (texts_of (contents (g.files served.first.store.disk)) served.first.store.session.names)) { group = setup.group }
@@ -153,11 +153,11 @@ module _ {D : Type 0} {g : Ghosts D}
   module _ (later : Trace D) {crashes : ServeEnd} (run : Runs (sound_traces g) served.first later crashes io) (began : g.honest served.first.store.disk) (honestly : g.honest later.store.disk)
       (rest : IsAtRest (g.files served.first.store.disk)) where
     since_in : (here : Trace D) → Reaches (sound_traces g) served.first run.ran run.out run.mid here ⊎ (here ≡ later) → here.store.session.broken ≡ false
-        → LeavesOnly (g.moment here.store.disk) (g.moment later.store.disk) (g.left_since here.store.disk) (g.left_since later.store.disk) (HoldsServed served here later)
+        → LeavesOnly (g.instant here.store.disk) (g.instant later.store.disk) (g.left_since here.store.disk) (g.left_since later.store.disk) (HoldsServed served here later)
     since_in here way sound = since g only_now run began honestly rest on_disk lists here way sound
 
-    moment_in : LeavesOnly (g.moment disk) (g.moment served.first.store.disk) (g.left_since disk) (g.left_since served.first.store.disk) (RecoversAsBefore (g.files disk))
-        → LeavesOnly (g.moment disk) (g.moment later.store.disk) (g.left_since disk) (g.left_since later.store.disk) (λ image. RecoversAsBefore (g.files disk) image ⊎ HoldsServed served served.first later image)
+    moment_in : LeavesOnly (g.instant disk) (g.instant served.first.store.disk) (g.left_since disk) (g.left_since served.first.store.disk) (RecoversAsBefore (g.files disk))
+        → LeavesOnly (g.instant disk) (g.instant later.store.disk) (g.left_since disk) (g.left_since later.store.disk) (λ image. RecoversAsBefore (g.files disk) image ⊎ HoldsServed served served.first later image)
     moment_in opening =
         let first = served.first in
         let sound : first.store.session.broken ≡ false = ap (λ (s : Session). s.broken) session_is in
@@ -168,7 +168,7 @@ module _ {D : Type 0} {g : Ghosts D}
         → Holds served.first.store.session (contents (g.files served.first.store.disk)) later.store.session.files image
     whole_in sound all image images =
         whole_prefix g only_now run began honestly rest on_disk lists image sound all
-        ((since_in later (inr refl) sound).each image (counts_now later.store.disk (g.moment later.store.disk) image honestly (omega arith) images))
+        ((since_in later (inr refl) sound).each image (counts_now later.store.disk (g.instant later.store.disk) image honestly (omega arith) images))
 
   apart_read : End ≡ Read → ⊥
   apart_read same = cc
@@ -188,24 +188,24 @@ module _ {D : Type 0} {g : Ghosts D}
 
   -- What a crash leaves of the whole run.
   module _ (rest : g.honest served.first.store.disk → IsAtRest (g.files served.first.store.disk))
-      (opening : g.honest served.first.store.disk → LeavesOnly (g.moment disk) (g.moment served.first.store.disk) (g.left_since disk) (g.left_since served.first.store.disk) (RecoversAsBefore (g.files disk))) where
+      (opening : g.honest served.first.store.disk → LeavesOnly (g.instant disk) (g.instant served.first.store.disk) (g.left_since disk) (g.left_since served.first.store.disk) (RecoversAsBefore (g.files disk))) where
     moment_at_last : g.honest served.last.store.disk
-        → LeavesOnly (g.moment disk) (g.moment served.last.store.disk) (g.left_since disk) (g.left_since served.last.store.disk) (λ image. RecoversAsBefore (g.files disk) image ⊎ HoldsServed served served.first served.last image)
+        → LeavesOnly (g.instant disk) (g.instant served.last.store.disk) (g.left_since disk) (g.left_since served.last.store.disk) (λ image. RecoversAsBefore (g.files disk) image ⊎ HoldsServed served served.first served.last image)
     moment_at_last honestly =
         let whole = sound_traced g served.run honestly in
         moment_in served.last whole.0 whole.1 honestly (rest whole.1) (opening whole.1)
 
     moment_at : (later : Trace D) → IsIntermediate served later → g.honest later.store.disk
-        → LeavesOnly (g.moment disk) (g.moment later.store.disk) (g.left_since disk) (g.left_since later.store.disk) (λ image. RecoversAsBefore (g.files disk) image ⊎ HoldsServed served served.first later image)
+        → LeavesOnly (g.instant disk) (g.instant later.store.disk) (g.left_since disk) (g.left_since later.store.disk) (λ image. RecoversAsBefore (g.files disk) image ⊎ HoldsServed served served.first later image)
     moment_at later (inl way) honestly =
         let whole = sound_traced g (up_to served.run later way) honestly in
         moment_in later whole.0 whole.1 honestly (rest whole.1) (opening whole.1)
     moment_at later (inr same) honestly =
-        subst (λ (p : Trace D). LeavesOnly (g.moment disk) (g.moment p.store.disk) (g.left_since disk) (g.left_since p.store.disk) (λ image. RecoversAsBefore (g.files disk) image ⊎ HoldsServed served served.first p image)) (sym same)
+        subst (λ (p : Trace D). LeavesOnly (g.instant disk) (g.instant p.store.disk) (g.left_since disk) (g.left_since p.store.disk) (λ image. RecoversAsBefore (g.files disk) image ⊎ HoldsServed served served.first p image)) (sym same)
         (moment_at_last (subst (λ (p : Trace D). g.honest p.store.disk) same honestly))
 
     since_at_last : (here : Trace D) → IsIntermediate served here → g.honest served.last.store.disk → here.store.session.broken ≡ false
-        → LeavesOnly (g.moment here.store.disk) (g.moment served.last.store.disk) (g.left_since here.store.disk) (g.left_since served.last.store.disk) (HoldsServed served here served.last)
+        → LeavesOnly (g.instant here.store.disk) (g.instant served.last.store.disk) (g.left_since here.store.disk) (g.left_since served.last.store.disk) (HoldsServed served here served.last)
     since_at_last here way honestly sound =
         let whole = sound_traced g served.run honestly in
         since_in served.last whole.0 whole.1 honestly (rest whole.1) here
@@ -217,13 +217,13 @@ module _ {D : Type 0} {g : Ghosts D}
         sound
 
     since_at : (here later : Trace D) → IsIntermediateTo served here later → g.honest later.store.disk → here.store.session.broken ≡ false
-        → LeavesOnly (g.moment here.store.disk) (g.moment later.store.disk) (g.left_since here.store.disk) (g.left_since later.store.disk) (HoldsServed served here later)
+        → LeavesOnly (g.instant here.store.disk) (g.instant later.store.disk) (g.left_since here.store.disk) (g.left_since later.store.disk) (HoldsServed served here later)
     since_at here later (inl to) honestly sound =
         let whole = sound_traced g (up_to served.run later to.0) honestly in
         since_in later whole.0 whole.1 honestly (rest whole.1) here
         (inl (sound_reaches g served.first to.0.answered to.0.written later here to.1 honestly)) sound
     since_at here later (inr to) honestly sound =
-        subst (λ (p : Trace D). LeavesOnly (g.moment here.store.disk) (g.moment p.store.disk) (g.left_since here.store.disk) (g.left_since p.store.disk) (HoldsServed served here p)) (sym to.0)
+        subst (λ (p : Trace D). LeavesOnly (g.instant here.store.disk) (g.instant p.store.disk) (g.left_since here.store.disk) (g.left_since p.store.disk) (HoldsServed served here p)) (sym to.0)
         (since_at_last here to.1 (subst (λ (p : Trace D). g.honest p.store.disk) to.0 honestly) sound)
 
     pub lasts : IsDurable served
@@ -238,9 +238,9 @@ module _ {D : Type 0} {g : Ghosts D}
     }
 
   -- what a crash leaves of it at the end
-  at_end : g.honest now → IsDurable served → LeavesOnly (g.moment disk) (g.moment now) (g.left_since disk) (g.left_since now) (λ image. RecoversAsBefore (g.files disk) image ⊎ HoldsServed served served.first served.last image)
+  at_end : g.honest now → IsDurable served → LeavesOnly (g.instant disk) (g.instant now) (g.left_since disk) (g.left_since now) (λ image. RecoversAsBefore (g.files disk) image ⊎ HoldsServed served served.first served.last image)
   at_end honest_now lasts =
-      subst (λ d. LeavesOnly (g.moment disk) (g.moment d) (g.left_since disk) (g.left_since d) (λ image. RecoversAsBefore (g.files disk) image ⊎ HoldsServed served served.first served.last image)) (sym served.given_up)
+      subst (λ d. LeavesOnly (g.instant disk) (g.instant d) (g.left_since disk) (g.left_since d) (λ image. RecoversAsBefore (g.files disk) image ⊎ HoldsServed served served.first served.last image)) (sym served.given_up)
       (lasts.any_moment served.last (inr refl) (subst g.honest served.given_up honest_now))
 
   -- each image of the disk that is left recovers to files
@@ -248,7 +248,7 @@ module _ {D : Type 0} {g : Ghosts D}
   left_recovers honest_now lasts =
       let leaves = at_end honest_now lasts in
       each_recovers g disk now (λ image. RecoversAsBefore (g.files disk) image ⊎ HoldsServed served served.first served.last image)
-      (λ image left. counts_now now (g.moment disk) image honest_now leaves.passes.later left) leaves (λ image left. elim left [
+      (λ image left. counts_now now (g.instant disk) image honest_now leaves.passes.later left) leaves (λ image left. elim left [
         | inl before ↦ (before.texts, before.recovers_now)
         | inr holds ↦ some image (slice_get served.last.texts holds.count) holds.holds
       ])
@@ -259,8 +259,8 @@ module _ {D : Type 0} {g : Ghosts D}
 
 -- a store that was opened, and in which the group was set: what it serves, and what a crash leaves
 module _ {D : Type 0} (g : Ghosts D)
-    (only_now : (disk : D) (image : Image) → g.honest disk → g.left_since disk (g.moment disk) image → AreImages (g.files disk) image)
-    (counts_now : (disk : D) (t : ℕ) (image : Image) → g.honest disk → t ≤ g.moment disk → AreImages (g.files disk) image → g.left_since disk t image)
+    (only_now : (disk : D) (image : Image) → g.honest disk → g.left_since disk (g.instant disk) image → AreImages (g.files disk) image)
+    (counts_now : (disk : D) (t : ℕ) (image : Image) → g.honest disk → t ≤ g.instant disk → AreImages (g.files disk) image → g.left_since disk t image)
     (setup : Setup) (disk : D) (store begun : StoreView D)
     (is : begun ≡ record store { session = record store.session { group = setup.group } })
     (opens : store.session ≡ opened setup.states store.session.names (texts_of (contents (g.files store.disk)) store.session.names)) where
@@ -270,7 +270,7 @@ module _ {D : Type 0} (g : Ghosts D)
       → {end : ServeEnd} {io : Exchange} (after : StoreView D) (now : D) → now ≡ after.disk
       → (ran : RunsAndWrites (honest_stores g) begun after end io)
       → (g.honest now → Serves begun.session end after.session io)
-      → (IsRecoverable (g.files disk) → EachRecovers (g.files disk) → g.honest begun.disk → LeavesOnly (g.moment disk) (g.moment begun.disk) (g.left_since disk) (g.left_since begun.disk) (RecoversAsBefore (g.files disk)))
+      → (IsRecoverable (g.files disk) → EachRecovers (g.files disk) → g.honest begun.disk → LeavesOnly (g.instant disk) (g.instant begun.disk) (g.left_since disk) (g.left_since begun.disk) (RecoversAsBefore (g.files disk)))
       → (IsTrue after.session.broken → HasRisen (g.failures disk) (g.failures now)) × (IsFalse after.session.broken → g.failures now ≡ g.failures disk)
       → ServesDisk g setup disk now end io
   unfolding serves

@@ -20,7 +20,7 @@ use Rattle.org_serve.specs.Pipes.{Exchange}
 use Rattle.org_serve.specs.declared.end.ServeEnd.{ServeEnd}
 use Rattle.org_store.specs.History.{Trace}
 use Rattle.org_serve.specs.Syncing.{AreSynced, IsNotStored, OutsideStable, IsAsFound, IsSyncFault, stored}
-use Rattle.org_serve.specs.Whole.{ServesOver, BreaksByCount, IsForeign, IsIntermediate, IsIntermediateTo, IsDurable, DurableFrom, GivesBack, GivesBackSynced}
+use Rattle.org_serve.specs.Whole.{ServesOver, BreaksByCount, IsForeign, IsIntermediate, IsIntermediateTo, IsDurable, DurableFrom, LeavesDiskAtEnd, LeavesSyncedDisk}
 use Rattle.org_serve.proofs.Foreign.{synced_alone}
 use Rattle.org_serve.proofs.Honest.{sound_traced, up_to}
 use Rattle.org_serve.proofs.Syncs.{all_images, each_image, some_or_none, still_recoverable, still_recovers, still_outside, as_at_first, as_read, now_recoverable, now_recovers, some_recovers}
@@ -63,12 +63,12 @@ reason_before given Honest before mid now same open_fault.Device why = why
 reason_before given Honest before mid now same open_fault.OutOfMemory why = tt
 
 -- a sync that failed
-pub unsynced_gives_back : {D : Type 0} (g : Ghosts D) (setup : Setup) (disk now : D) {fault : OpenFault}
+pub unsynced_leaves_disk : {D : Type 0} (g : Ghosts D) (setup : Setup) (disk now : D) {fault : OpenFault}
     → ((name : List ℕ) → IsImage (g.files now name) (g.files now name).content) → ((name bytes : List ℕ) → IsImage (g.files now name) bytes → IsImage (g.files disk name) bytes)
     → ((name : List ℕ) → IsNotStored setup.names.items name → g.files now name ≡ g.files disk name)
-    → LeavesOver g disk now (AreImages (g.files disk)) → GivesBackSynced g setup disk now (Err fault)
-unsynced_gives_back g setup disk now own images others time = record {
-  gives_back = record {
+    → LeavesOver g disk now (AreImages (g.files disk)) → LeavesSyncedDisk g setup disk now (Err fault)
+unsynced_leaves_disk g setup disk now own images others time = record {
+  leaves_disk = record {
     unopened = λ fit each. leaves_as time (as_before (g.files disk) each);
     unopened_bad = λ none. (refl, time);
     unopened_closed = λ closed. time;
@@ -182,9 +182,9 @@ module _ {D : Type 0} (g : Ghosts D)
         (λ h image before. let m = served.began h in inr (as_read (g.files disk) (g.files mid) (own m) (images m) setup.names.items (synced m) outside image before))
 
   -- what is setup.names.items back of a run behind the syncs
-  module _ {now : D} {end : Result ServeEnd OpenFault} (h : g.honest mid) (later : GivesBack g setup mid now end) where
-    still_gives_back : GivesBack g setup disk now end
-    still_gives_back = record {
+  module _ {now : D} {end : Result ServeEnd OpenFault} (h : g.honest mid) (later : LeavesDiskAtEnd g setup mid now end) where
+    still_leaves_disk : LeavesDiskAtEnd g setup disk now end
+    still_leaves_disk = record {
       unopened = λ fit each. if_err end (λ fault left. leaves_behind (time h) left (as_before (g.files disk) each) (as_at_first (g.files disk) (g.files mid) (own h) (images h)))
           (later.unopened (still_recoverable (g.files disk) (g.files mid) (own h) (images h) fit) (still_recovers (g.files disk) (g.files mid) (own h) (images h) each));
       unopened_bad = λ none.
@@ -196,22 +196,22 @@ module _ {D : Type 0} (g : Ghosts D)
       alone = alone_behind now h later.alone;
     }
 
-    pub synced_gives_back : ((name : List ℕ) → IsImage (g.files now name) (g.files now name).content)
-        → ((t : ℕ) (image : Image) → t ≤ g.moment now → AreImages (g.files now) image → g.left_since now t image) → GivesBackSynced g setup disk now end
-    synced_gives_back own_now counts_now = record {
-      gives_back = still_gives_back;
+    pub synced_leaves_disk : ((name : List ℕ) → IsImage (g.files now name) (g.files now name).content)
+        → ((t : ℕ) (image : Image) → t ≤ g.instant now → AreImages (g.files now) image → g.left_since now t image) → LeavesSyncedDisk g setup disk now end
+    synced_leaves_disk own_now counts_now = record {
+      leaves_disk = still_leaves_disk;
       unopened_as_found = λ outside. elim (some_or_none (contents (g.files disk))) [
         | inl good ↦ if_err end
             (λ fault left. leaves_behind (time h) left (λ image found. inl found) (λ image before. inr (as_read (g.files disk) (g.files mid) (own h) (images h) setup.names.items (synced h) outside image before)))
             (later.unopened (now_recoverable (g.files disk) (g.files mid) (own h) (images h) setup.names.items (synced h) outside) (now_recovers (g.files disk) (g.files mid) (own h) (images h) setup.names.items (synced h) outside good))
-        | inr none ↦ if_err_always end (leaves_as (still_gives_back.unopened_bad none).1 (λ image left. inl left))
+        | inr none ↦ if_err_always end (leaves_as (still_leaves_disk.unopened_bad none).1 (λ image left. inl left))
       ];
       recoverable_once_synced = λ outside. elim (some_or_none (contents (g.files disk))) [
         | inl good ↦ inl (later.recoverable (now_recoverable (g.files disk) (g.files mid) (own h) (images h) setup.names.items (synced h) outside)
             (now_recovers (g.files disk) (g.files mid) (own h) (images h) setup.names.items (synced h) outside good))
         | inr none ↦
             let bad = later.unopened_bad (ap recovered (synced h).same ∙ none) in
-            let kept = each_image own_now (λ image left. bad.1.each image (counts_now (g.moment mid) image bad.1.passes.later left)) in
+            let kept = each_image own_now (λ image left. bad.1.each image (counts_now (g.instant mid) image bad.1.passes.later left)) in
             inr (bad.0, still_outside (g.files mid) (g.files now) own_now kept setup.names.items (still_outside (g.files disk) (g.files mid) (own h) (images h) setup.names.items outside))
       ];
     }

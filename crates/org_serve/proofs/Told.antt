@@ -8,7 +8,7 @@ use Rattle.org_commands.specs.declared.command.Reply.TheVariants.{Done, Safe, Te
 use Rattle.org_commands.specs.declared.command.RunFault.{RunFault}
 use Rattle.org_commands.specs.Session.{Session}
 use Rattle.org_commands.specs.Step.{Step}
-use Rattle.org_serve.specs.Replies.{answer_text, safe_line, told_safe}
+use Rattle.org_serve.specs.Replies.{answer_text, safe_line, reported_safe}
 use Rattle.org_store.proofs.History.{done_broken}
 
 same_some : (one other : ℕ) → Some one ≡ Some other → one ≡ other
@@ -21,14 +21,14 @@ written_done : (n new a : ℕ) (risen : Bool) → (if risen then Some new else N
 written_done n new a true told = (codes "ok " ++ decimal n ++ codes "\n", ap (λ m. codes "ok " ++ decimal n ++ codes "\n" ++ safe_line m) (same_some new a told))
 written_done n new a false told = none_some a told
 
-pub safe_written : (answer : Result Reply RunFault) (old new a : ℕ) → told_safe answer old new ≡ Some a → (front : List ℕ) × (answer_text answer old new ≡ front ++ safe_line a)
+pub safe_written : (answer : Result Reply RunFault) (old new a : ℕ) → reported_safe answer old new ≡ Some a → (front : List ℕ) × (answer_text answer old new ≡ front ++ safe_line a)
 safe_written (Ok (Done n)) old new a told = written_done n new a (nat_lt old new) told
 safe_written (Ok (Safe n)) old new a told = ([], ap safe_line (same_some n a told))
 safe_written (Ok (Text bytes)) old new a told = none_some a told
 safe_written (Ok (Time minutes)) old new a told = none_some a told
 safe_written (Err fault) old new a told = none_some a told
 
-pub safe_known : (old new : Session) (command : Command) (answer : Result Reply RunFault) (a : ℕ) → Step old command answer new → told_safe answer old.acknowledged new.acknowledged ≡ Some a
+pub safe_known : (old new : Session) (command : Command) (answer : Result Reply RunFault) (a : ℕ) → Step old command answer new → reported_safe answer old.acknowledged new.acknowledged ≡ Some a
     → (new.acknowledged ≡ a) × (new.broken ≡ false)
 safe_known old new command (Ok (Done n)) a step told = elim (cases_Bool (nat_lt old.acknowledged new.acknowledged)) [
   | inl t ↦ (same_some new.acknowledged a (rw t at told), ap (λ (s : Session). s.broken) step.1.3 ∙ done_broken old step.1.0 ∙ step.0)

@@ -1,14 +1,11 @@
 -- Which bytes are UTF-8.
-use Rattle.std.proofs.Common.{◌≡◌, ℕ, List, Bool, true, false, refl}
+use Rattle.std.proofs.Common.{◌≡◌, ℕ, List, true, false, ⊎_elim}
 use Rattle.std.specs.Str.{IsUtf8, is_utf8}
+use Rattle.std.proofs.lemmas.Bool.{cases_Bool}
 use Rattle.std.proofs.lemmas.Str.{IsUtf8-from_is_utf8, is_utf8-from_IsUtf8}
 
-told : (bs : List ℕ) (b : Bool) → is_utf8 bs ≡ b → (IsUtf8 bs → ⊥) → b ≡ false
-told bs true e isnt = absurd (isnt (IsUtf8-from_is_utf8 bs e))
-told bs false e isnt = refl
-
 pub is_no_utf8 : (bs : List ℕ) → (IsUtf8 bs → ⊥) → is_utf8 bs ≡ false
-is_no_utf8 bs isnt = told bs (is_utf8 bs) refl isnt
+is_no_utf8 bs isnt = ⊎_elim (λ is. absurd (isnt (IsUtf8-from_is_utf8 bs is))) (λ no. no) (cases_Bool (is_utf8 bs))
 
 pub is_some_utf8 : (bs : List ℕ) → IsUtf8 bs → is_utf8 bs ≡ true
 is_some_utf8 = is_utf8-from_IsUtf8

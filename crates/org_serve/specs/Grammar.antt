@@ -10,7 +10,7 @@ use Rattle.org_outline.specs.declared.moves.Place.{Place}
 use Rattle.org_outline.specs.declared.moves.Place.TheVariants.{First, Last}
 use Rattle.org_capture.specs.declared.target.Target.{Target}
 use Rattle.org_capture.specs.declared.target.Target.TheVariants.{Top, Head, Path, Date}
-use Rattle.org_stamp.specs.Calendar.{CivilMinute, at_minute, civil_day}
+use Rattle.org_stamp.specs.Calendar.{Moment, at_minute, civil_day}
 use Rattle.org_commands.specs.declared.command.Command.{Command}
 use Rattle.org_commands.specs.declared.command.Command.TheVariants.{Capture, Refile, Todo, ClockIn, ClockOut, Time, Archive, Show, Settle}
 use Rattle.org_serve.specs.declared.fault.LineFault.{LineFault}
@@ -130,14 +130,14 @@ is_day y m d =
     && nat_le d (days_in_month (pos y) m)
 
 -- a moment, where there is such a one
-abbrev pub moment_at : ℕ × ℕ × ℕ → ℕ × ℕ → Option CivilMinute
+abbrev pub moment_at : ℕ × ℕ × ℕ → ℕ × ℕ → Option Moment
 moment_at (y, m, d) (h, n) =
     if is_day y m d && nat_lt h 24 && nat_lt n 60
     then Some (at_minute (civil_day y m d) (h * 60 + n))
     else None
 
 -- MOMENT: `YYYY-MM-DD HH:MM`
-unfoldable pub moment_of : List ℕ → Option CivilMinute
+unfoldable pub moment_of : List ℕ → Option Moment
 moment_of field =
     option_and_then (λ date. option_and_then (λ time. moment_at date time)
     (time_of (drop 10 field)))

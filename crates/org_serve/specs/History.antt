@@ -25,12 +25,13 @@ pub record Reaches {S : Type 0} (m : Machine S) (old : S) (lines : List (List �
 
 -- The image recovers to the files after the first `count` of the commands that were accepted at
 -- `later`: those are the commands that were acknowledged at `here`, or they have all that were
--- accepted there. So where `later` is `here`, it recovers to the files after the acknowledged
--- commands or after all accepted ones, and to nothing between. `first` is the session as it began,
--- and `others` are the files that aren't the store's.
+-- accepted there. So they have all that were acknowledged there; and where `later` is `here`, it
+-- recovers to the files after the acknowledged commands or after all accepted ones, and to nothing
+-- between. `first` is the session as it began, and `others` are the files that aren't the store's.
 pub record HoldsSince {D : Type 0} (first : Session) (others : Image) (here later : Trace D)
     (image : Image) : Type 0 where
   pub count : ℕ
+  pub least : here.store.session.acknowledged ≤ count
   pub whole : (count ≡ here.store.session.acknowledged) ⊎ (here.store.session.accepted ≤ count)
   pub accepted : count ≤ later.store.session.accepted
   pub holds : IsSomeAnd (slice_get later.texts count) (λ texts. Holds first others texts image)

@@ -51,9 +51,9 @@ settled_text (Ok done) safe = safe_line safe
 settled_text (Err fault) safe = fault_line fault
 
 -- how many commands the answer tells to be on the disk, where it tells that
-abbrev pub told_safe : Result Reply RunFault → ℕ → ℕ → Option ℕ
-told_safe (Ok (Done n)) old new = if nat_lt old new then Some new else None
-told_safe (Ok (Safe n)) old new = Some n
-told_safe (Ok (Text bytes)) old new = None
-told_safe (Ok (Time minutes)) old new = None
-told_safe (Err fault) old new = None
+abbrev pub reported_safe : Result Reply RunFault → ℕ → ℕ → Option ℕ
+reported_safe (Ok (Done n)) old new = if nat_lt old new then Some new else None
+reported_safe (Ok (Safe n)) old new = Some n
+reported_safe (Ok (Text bytes)) old new = None
+reported_safe (Ok (Time minutes)) old new = None
+reported_safe (Err fault) old new = None

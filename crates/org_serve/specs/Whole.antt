@@ -159,7 +159,7 @@ pub record ServesSynced {D : Type 0} (g : Ghosts D) (setup : Setup) (disk now : 
 
 -- What a run makes of a disk that is honest at the end: `disk` is what it was given, and `now` what
 -- it gives back.
-pub record GivesBack {D : Type 0} (g : Ghosts D) (setup : Setup) (disk now : D)
+pub record LeavesDiskAtEnd {D : Type 0} (g : Ghosts D) (setup : Setup) (disk now : D)
     (end : Result ServeEnd OpenFault) : Type 0 where
   -- where the opening is refused, on a recoverable disk of which each image recovers to files, a
   -- crash leaves what recovers to these
@@ -181,10 +181,10 @@ pub record GivesBack {D : Type 0} (g : Ghosts D) (setup : Setup) (disk now : D)
 
 -- The same of a run that syncs the store's files before it opens the store, and more where all
 -- other files are on the disk at first.
-pub record GivesBackSynced {D : Type 0} (g : Ghosts D) (setup : Setup) (disk now : D)
+pub record LeavesSyncedDisk {D : Type 0} (g : Ghosts D) (setup : Setup) (disk now : D)
     (end : Result ServeEnd OpenFault) : Type 0 where
   -- whatever is on the disk at first
-  pub gives_back : GivesBack g setup disk now end
+  pub leaves_disk : LeavesDiskAtEnd g setup disk now end
   -- where the opening is refused, a crash leaves the files as they were found, or what recovers to
   -- what they read as
   pub unopened_as_found : OutsideStable setup.names.items (g.files disk)
@@ -209,7 +209,7 @@ HasFailed (Ok end) before now = ⊥
 pub record RunsSynced {D : Type 0} (g : Ghosts D) (setup : Setup) (turns : ℕ) (disk now : D)
     (end : Result ServeEnd OpenFault) (io : Exchange) : Type 0 where
   pub served : IfOk end (λ end. ServesSynced g setup disk now end io)
-  pub gives_back : g.honest now → GivesBackSynced g setup disk now end
+  pub leaves_disk : g.honest now → LeavesSyncedDisk g setup disk now end
   pub refused : IfErr end (IsRefusedFor g setup.names.items disk now)
   pub unserved : IfErr end (λ _. io.after ≡ io.before)
   pub causes : EndsForCause turns end io

@@ -1,7 +1,7 @@
 //! Laws of the definitions of lines, replies and runs, for all values.
 //!
 //! Each is the contract of a function with nothing to do.
-ghost use Rattle.std.specs.Prelude.{ℕ, List, [], ◌≡◌, ◌≤◌, ◌∷◌, ◌++◌};
+ghost use Rattle.std.specs.Prelude.{ℕ, List, [], ◌≡◌, ◌∷◌, ◌++◌};
 ghost use Rattle.std.specs.Prelude.{All, Some, Result, IsFalse};
 ghost use Rattle.org_disk.specs.Accounts.{LeavesOver};
 ghost use Rattle.org_journal.specs.Recovered.{Image};
@@ -29,7 +29,7 @@ ghost use Rattle.org_serve.specs.Whole.{IsIntermediate, ServesOver};
 ghost use Rattle.org_serve.specs.declared.whole.Setup.{Setup};
 ghost use Rattle.org_serve.specs.Grammar.{escaped, unescaped, path_of, path_field};
 ghost use Rattle.org_serve.specs.Lines.{cut, joined, HasNoNewline};
-ghost use Rattle.org_serve.specs.Replies.{answer_text, safe_line, told_safe};
+ghost use Rattle.org_serve.specs.Replies.{answer_text, safe_line, reported_safe};
 
 use org_disk::Disk;
 
@@ -52,21 +52,21 @@ pub fn written_path_reads_back()
         → path_of (path_field (title ∷ titles)) ≡ Some (title ∷ titles) }
 {}
 
-/// A reply that tells `safe a` ends with that line, and a commands are acknowledged as it is
+/// A reply that says `safe a` ends with that line, and a commands are acknowledged as it is
 /// written, by a store that isn't broken. What a crash leaves from then on is said of such a store:
 /// `serve_disk`.
-pub fn safe_tells_acknowledged()
+pub fn safe_is_acknowledged()
     ensures written { (answer : Result Reply RunFault) (old new a : ℕ)
-        → told_safe answer old new ≡ Some a
+        → reported_safe answer old new ≡ Some a
         → (front : List ℕ) × (answer_text answer old new ≡ front ++ safe_line a) }
     ensures acknowledged { (old new : Session) (command : Command)
         (answer : Result Reply RunFault) (a : ℕ) → Step old command answer new
-        → told_safe answer old.acknowledged new.acknowledged ≡ Some a
+        → reported_safe answer old.acknowledged new.acknowledged ≡ Some a
         → (new.acknowledged ≡ a) × IsFalse new.broken }
 {}
 
-/// What a crash leaves while lines are served, told by `calls` of `serve`. Where the list of a
-/// store has the texts of all files as its session tells them, it goes on with those after each
+/// What a crash leaves while lines are served, by `calls` of `serve`. Where the list of a
+/// store has the texts of all files as its session has them, it goes on with those after each
 /// command that `serve` accepts. Where the disk is honest at the end, and was at rest with the
 /// settled texts of a store that wasn't broken, as it is between calls (`settled_is_on_disk`, a law
 /// of org_store), at every moment since then what a crash leaves recovers to the files after the
@@ -89,15 +89,14 @@ pub fn crashes_leave_a_prefix<D: Disk>()
         (HoldsSince first.store.session (files_on D.Disk first.store.disk) first last) }
     // such an image recovers to a prefix that has all commands that were acknowledged then
     ensures prefix { (first : Session) (others image : Image) (here later : Trace D)
-        → here.store.session.acknowledged ≤ here.store.session.accepted
         → HoldsSince first others here later image
         → HoldsPrefix first others later.texts here.store.session.acknowledged image }
 {}
 
 /// Every image of a store's disk opens again while lines are served, with the names that the store
-/// was opened with: what that says is told by `every_image_opens` of org_store's laws.
+/// was opened with: what that says stands at `every_image_opens` of org_store's laws.
 pub fn every_image_opens<D: Disk>()
-    // what `crashes_leave_a_prefix` tells of `serve`, where no text of the list was past the limit
+    // what `crashes_leave_a_prefix` says of `serve`, where no text of the list was past the limit
     ensures served { (given : List (List ℕ)) (first last : Trace D) (end : ServeEnd)
         (io : Exchange) (others image : Image) (least : ℕ)
         → AreFew given → IsSessionOf given first.store.session

@@ -10,6 +10,10 @@ use std::alloc::{AllocError, Global};
 /// The names of all files of a store that is opened with these names: theirs, their archive files'
 /// and the journal's, in byte order, each once. None where more names are given than a store may
 /// have.
+///
+/// # Errors
+///
+/// `AllocError`.
 pub fn file_names(alloc: Global, given: &[FileName]) -> Result<Option<Vec<FileName>>, AllocError>
     requires { All IsOrgFile given.now }
     ensures few { IfOk result (λ found. IfSome found (λ names. AreFew given.now

@@ -39,7 +39,7 @@ const PIECE: usize = 4096;
 /// written at the end. One failure is counted in either case, so neither reader nor writer is
 /// called once it has failed. There are no more reads than turns.
 ///
-/// The store is changed by calls of `run` and `settle` alone. What each of them did is told where
+/// The store is changed by calls of `run` and `settle` alone. What each of them did is said where
 /// the disk is honest after it (`calls`): a wrong answer takes nothing from what was done before
 /// it. What a crash leaves at any moment since the call began follows from that:
 /// `crashes_leave_a_prefix`, a law. A store that was broken is left as it is; one that wasn't is

@@ -5,7 +5,7 @@ ghost use Rattle.org_disk.specs.Names.{IsOrgFile};
 ghost use Rattle.org_fileset.specs.Opening.{IsRefusedFor};
 ghost use Rattle.org_serve.specs.Pipes.{EndsForCause};
 ghost use Rattle.org_store.specs.Group.{IsGroup};
-ghost use Rattle.org_serve.specs.Whole.{GivesBack, HasFailed, RunsSynced, ServesDisk};
+ghost use Rattle.org_serve.specs.Whole.{LeavesDiskAtEnd, HasFailed, RunsSynced, ServesDisk};
 ghost use Rattle.org_serve.specs.Writes.{exchange};
 
 use crate::end::ServeEnd;
@@ -53,7 +53,7 @@ pub struct Served<D> {
 /// earlier intermediate store that wasn't broken, that prefix is the commands that were
 /// acknowledged there, or it has all that were accepted there (`HoldsSince`): so at one moment
 /// nothing between the two is on the disk, and since a reply `safe a` was answered, the first a
-/// commands are (`laws::safe_tells_acknowledged`). Where it ends with `End`, each image at the end
+/// commands are (`laws::safe_is_acknowledged`). Where it ends with `End`, each image at the end
 /// recovers to the files after all of them. The disk is as recoverable at the end, so that all this
 /// may be done again.
 ///
@@ -65,7 +65,7 @@ pub struct Served<D> {
 /// comes, and what is written then, those of `serve`. The store at the end is broken where the disk
 /// counted a failure, and isn't where it counted none. Too many names leave the disk unused. Where
 /// the journal is bad, as it reads, a crash leaves what it might have left before, whatever fault
-/// is told. With `Device`, or an opening that is refused so, it ends only where the disk counted a
+/// is reported. With `Device`, or an opening that is refused so, it ends only where the disk counted a
 /// failure, and with `End` or `Unsettled` only where it counted none.
 pub fn serve_disk<D: Disk, R: Source, W: Sink>(
     alloc: Global,
@@ -80,7 +80,7 @@ pub fn serve_disk<D: Disk, R: Source, W: Sink>(
     ensures served { IfOk result.end (λ end. ServesDisk D.Disk setup disk result.disk end
         (exchange R.Source W.Sink reader.old reader.new writer.old writer.new)) }
     ensures disk { D.honest result.disk →
-        GivesBack D.Disk setup disk result.disk result.end }
+        LeavesDiskAtEnd D.Disk setup disk result.disk result.end }
     ensures refused { IfErr result.end
         (IsRefusedFor D.Disk setup.names.items disk result.disk) }
     ensures unserved { IfErr result.end (λ _. (reader.new ≡ reader.old)

@@ -1,4 +1,4 @@
-//! Lines served over a disk in memory.
+//! Lines served over a disk: one in memory, where nothing else is said.
 //!
 //! What owns a disk or a store drops it by name: left to the end of a function, each of its parts
 //! is dropped there, which the function's proof would have to follow.
@@ -8,6 +8,7 @@ ghost use Rattle.org_store.specs.Group.{IsGroup};
 
 pub mod crashes;
 mod failures;
+mod fuses;
 mod gates;
 mod groups;
 mod pipes;
@@ -15,7 +16,7 @@ pub mod steps;
 mod syncs;
 
 use crate::shared::must;
-use org_disk::MemoryDisk;
+use org_disk::{Disk, MemoryDisk};
 use org_fixtures::org_names;
 use org_outline::States;
 use org_serve::{Counted, ServeEnd, Served, Setup, Sink, Source, serve_disk, serve_synced};
@@ -24,10 +25,10 @@ use std::process::Abort;
 
 // What was written, how it ended, and the disk then.
 #[derive(Drop)]
-struct Ended {
+struct Ended<D> {
     written: Vec<u8>,
     end: Result<ServeEnd, OpenFault>,
-    disk: MemoryDisk,
+    disk: D,
 }
 
 // A store of a.org, of b.org and of inbox.org, which is absent, in groups of this size.
@@ -44,19 +45,19 @@ fn setup(rt: &(impl Abort + AllocGlobal), group: u32) -> Setup
 }
 
 // Serves what comes from a reader over a disk, in groups of this size.
-fn serve_over<R: Source, W: Sink>(
+fn serve_over<D: Disk, R: Source, W: Sink>(
     rt: &(impl Abort + AllocGlobal),
-    disk: MemoryDisk,
+    disk: D,
     group: u32,
     reader: &mut R,
     writer: &mut W,
     turns: u64,
-) -> Served<MemoryDisk> {
+) -> Served<D> {
     serve_disk(rt.alloc(), disk, setup(rt, group), reader, writer, turns)
 }
 
 // Serves this input over a disk, in groups of this size.
-fn run(rt: &(impl Abort + AllocGlobal), disk: MemoryDisk, group: u32, input: &[u8]) -> Ended {
+fn run<D: Disk>(rt: &(impl Abort + AllocGlobal), disk: D, group: u32, input: &[u8]) -> Ended<D> {
     let mut reader = Counted::new(input);
     let mut writer = Counted::new(Vec::new(rt.alloc()));
     let Served { disk, end } = serve_over(rt, disk, group, &mut reader, &mut writer, 10_000_000);
@@ -67,7 +68,7 @@ fn run(rt: &(impl Abort + AllocGlobal), disk: MemoryDisk, group: u32, input: &[u
     }
 }
 
-fn disk_of(ended: Ended) -> MemoryDisk {
+fn disk_of<D>(ended: Ended<D>) -> D {
     let Ended {
         written: _,
         end: _,
@@ -85,12 +86,12 @@ fn calls(rt: &(impl Abort + AllocGlobal), disk: MemoryDisk, group: u32, input: &
 }
 
 // Whether the opening was refused, since the disk failed.
-fn is_refused(ended: &Ended) -> bool {
+fn is_refused<D>(ended: &Ended<D>) -> bool {
     matches!(&ended.end, Err(OpenFault::Device)) && ended.written.is_empty()
 }
 
 // What is written for an input that is served to its end.
-fn served(rt: &(impl Abort + AllocGlobal), disk: MemoryDisk, input: &[u8]) -> Vec<u8> {
+fn served<D: Disk + Drop>(rt: &(impl Abort + AllocGlobal), disk: D, input: &[u8]) -> Vec<u8> {
     let Ended { written, end, disk } = run(rt, disk, 1, input);
     drop(disk);
     assert!(rt; matches!(end, Ok(ServeEnd::End)), "another end");

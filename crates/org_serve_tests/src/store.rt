@@ -1,4 +1,4 @@
-//! A store over a disk in memory.
+//! A store over a disk: one in memory, where nothing else is said.
 //!
 //! What owns a store or a command drops it by name: left to the end of a function, each of its
 //! parts is dropped there, which the function's proof would have to follow.
@@ -6,20 +6,21 @@ mod asking;
 mod asks;
 mod crashes;
 mod failures;
+mod fuses;
 
 use crate::shared::{must, two};
-use org_disk::MemoryDisk;
+use org_disk::{Disk, MemoryDisk};
 use org_fixtures::org_names;
 use org_outline::States;
 use org_store::{OpenRefused, Store};
 use std::process::Abort;
 
 // A store over the files of these names on a disk, or why it wasn't opened.
-fn opened(
+fn opened<D: Disk>(
     rt: &(impl Abort + AllocGlobal),
-    disk: MemoryDisk,
+    disk: D,
     names: &[&str],
-) -> Result<Store<MemoryDisk>, OpenRefused<MemoryDisk>> {
+) -> Result<Store<D>, OpenRefused<D>> {
     let names = must(rt, org_names(rt.alloc(), names));
     let states = States::new(rt.alloc(), &["TODO"], &["DONE"]).expect(rt, "states");
     Store::open(rt.alloc(), disk, names, states)

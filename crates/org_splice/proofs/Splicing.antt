@@ -1,10 +1,8 @@
--- What a splice makes of a text, by its parts.
-use Rattle.std.proofs.Common.{◌≡◌, ℕ, ◌+◌, ◌-◌, ◌++◌, List, length, take, drop, Bool, true, if◌then◌else◌, eq-eqb, sym, ap, ◌∙◌}
+-- The range that a splice changes, by its parts.
+use Rattle.std.proofs.Common.{◌≡◌, ℕ, ◌+◌, Bool, true, if◌then◌else◌, eq-eqb, sym, ap, ◌∙◌}
 use Rattle.std.proofs.lemmas.Bool.{ne_eqb}
 use Rattle.org_splice.specs.declared.Span.{Span}
-use Rattle.org_splice.specs.Ranges.{own_range, changed_by}
-use Rattle.org_splice.specs.Texts.{spliced}
-use Rattle.org_splice.specs.Versions.{text_of_parts}
+use Rattle.org_splice.specs.Ranges.{own_range}
 
 pub as_long : (at removed added size end : ℕ) → removed ≡ added → end ≡ at + added → record { start = at; end = end } ≡ own_range at removed added size
 as_long at removed added size end same is =
@@ -17,11 +15,6 @@ not_as_long at removed added size end other is =
     ap (λ (n : ℕ). own_to at n) (is ∙ sym (ap (λ t. if t then at + added else size) (ne_eqb removed added other))) where
       own_to : ℕ → ℕ → Span
       own_to start end = record { start = start; end = end }
-
-pub spliced_parts : (at removed : ℕ) (bytes text new : List ℕ) (ranges changed : List Span) → new ≡ take at text ++ bytes ++ drop (at + removed) text →
-    changed ≡ changed_by at removed (length bytes) (length text - removed + length bytes) ranges → text_of_parts new changed ≡ spliced at removed bytes (text_of_parts text ranges)
-spliced_parts at removed bytes text new ranges changed made with =
-    ap (λ b. text_of_parts b changed) made ∙ ap (text_of_parts (take at text ++ bytes ++ drop (at + removed) text)) with
 
 pub where_true : {A : Type 0} (n a b : A) (t : Bool) → n ≡ (if t then a else b) → t ≡ true → n ≡ a
 where_true n a b t is h = is ∙ ap (λ u. if u then a else b) h

@@ -4,11 +4,12 @@ use Rattle.std.specs.Prelude.{slice_range}
 use Rattle.std.proofs.lemmas.List.{take_at, drop_at, take-append-drop, length-take-le}
 use Rattle.std.proofs.Math.Seq.{drop-drop}
 use Rattle.org_splice.specs.Ranges.{AreChanged}
-use Rattle.org_splice.specs.Texts.{EditedText, spliced}
+use Rattle.org_splice.specs.Edits.{edited}
+use Rattle.org_splice.specs.Texts.{EditedText}
 use Rattle.org_splice.specs.declared.Span.{Span}
 use Rattle.org_splice.proofs.Edited.{length-spliced}
 use Rattle.org_splice.specs.declared.undo.Undo.{Undo}
-use Rattle.org_splice.specs.Versions.{AreUndos, IsUndo, undone, undone_all}
+use Rattle.org_splice.specs.Versions.{AreUndos, IsUndo, text_of_parts, undone, undone_all}
 
 -- one more edit is taken back first
 pub undone_all-push : (undos : List Undo) (undo : Undo) (text : EditedText) → undone_all (undos ++ undo ∷ []) text ≡ undone_all undos (undone undo text)
@@ -58,11 +59,11 @@ pub record IsBack (undo : Undo) (at removed : ℕ) (added : List ℕ) (text : Ed
   pub removed_is : undo.removed ≡ slice_range text.bytes at (at + removed)
   pub changed_is : undo.changed.items ≡ text.changed
 
--- taking a splice back makes what was
-pub undone-spliced : (undo : Undo) (at removed : ℕ) (added : List ℕ) (text : EditedText) → at + removed ≤ length text.bytes
-    → IsBack undo at removed added text → undone undo (spliced at removed added text) ≡ text
-undone-spliced undo at removed added text within is =
-    let with : ℕ → ℕ → List ℕ → List Span → EditedText = λ a n b changed. record { bytes = take a (spliced at removed added text).bytes ++ b ++ drop (a + n) (spliced at removed added text).bytes; changed = changed } in
+-- taking back what was put in makes what was
+pub undone-put : (undo : Undo) (at removed : ℕ) (added : List ℕ) (new : List Span) (text : EditedText) → at + removed ≤ length text.bytes
+    → IsBack undo at removed added text → undone undo (text_of_parts (edited at removed added text.bytes) new) ≡ text
+undone-put undo at removed added new text within is =
+    let with : ℕ → ℕ → List ℕ → List Span → EditedText = λ a n b changed. record { bytes = take a (edited at removed added text.bytes) ++ b ++ drop (a + n) (edited at removed added text.bytes); changed = changed } in
     let bytes : List ℕ → EditedText = λ b. record { bytes = b; changed = text.changed } in
     ap (λ (a : ℕ). with a undo.added undo.removed undo.changed.items) is.at_is
     ∙ ap (λ (n : ℕ). with at n undo.removed undo.changed.items) is.added_is
@@ -70,27 +71,28 @@ undone-spliced undo at removed added text within is =
     ∙ ap (λ (c : List Span). with at (length added) (slice_range text.bytes at (at + removed)) c) is.changed_is
     ∙ ap bytes (back at removed added text.bytes within)
 
--- after a splice it can be taken back, where there is room for the text that was
-pub IsUndo-spliced : (room : ℕ) (undo : Undo) (at removed : ℕ) (added : List ℕ) (text : EditedText) → at + removed ≤ length text.bytes → length text.bytes ≤ room
-    → AreChanged (length text.bytes) text.changed → IsBack undo at removed added text → IsUndo room undo (spliced at removed added text)
-IsUndo-spliced room undo at removed added text within fits are is =
-    let long : length (spliced at removed added text).bytes ≡ length text.bytes - removed + length added = length-spliced at removed added text.bytes within in
+-- it can be taken back, where there is room for the text that was
+pub IsUndo-put : (room : ℕ) (undo : Undo) (at removed : ℕ) (added : List ℕ) (new : List Span) (text : EditedText) → at + removed ≤ length text.bytes → length text.bytes ≤ room
+    → AreChanged (length text.bytes) text.changed → IsBack undo at removed added text → IsUndo room undo (text_of_parts (edited at removed added text.bytes) new)
+IsUndo-put room undo at removed added new text within fits are is =
+    let long : length (edited at removed added text.bytes) ≡ length text.bytes - removed + length added = length-spliced at removed added text.bytes within in
     let slice : length (take (at + removed - at) (drop at text.bytes)) ≡ removed = omega (arith, within, length-take (at + removed - at) (drop at text.bytes), length-drop at text.bytes) in
     let old : length undo.removed ≡ removed = ap length is.removed_is ∙ slice in
-    let size : length (spliced at removed added text).bytes - undo.added + length undo.removed ≡ length text.bytes = omega (arith, long, old, is.added_is, within) in
+    let size : length (edited at removed added text.bytes) - undo.added + length undo.removed ≡ length text.bytes = omega (arith, long, old, is.added_is, within) in
     record {
       within = omega (arith, long, is.at_is, is.added_is, within);
       fits = omega (arith, size, fits);
       changed = subst (λ (n : ℕ). AreChanged n undo.changed.items) (sym size) (subst (AreChanged (length text.bytes)) (sym is.changed_is) are);
     }
 
--- one more splice, with what takes it back
-pub AreUndos-spliced : (room wider : ℕ) (undos : List Undo) (undo : Undo) (at removed : ℕ) (added : List ℕ) (text : EditedText) → at + removed ≤ length text.bytes → length text.bytes ≤ wider → room ≤ wider
+-- one more, with what takes it back
+pub AreUndos-put : (room wider : ℕ) (undos : List Undo) (undo : Undo) (at removed : ℕ) (added : List ℕ) (new : List Span) (text : EditedText) → at + removed ≤ length text.bytes → length text.bytes ≤ wider → room ≤ wider
     → AreChanged (length text.bytes) text.changed → IsBack undo at removed added text → AreUndos room undos text
-    → AreUndos wider (undos ++ undo ∷ []) (spliced at removed added text) × (undone_all (undos ++ undo ∷ []) (spliced at removed added text) ≡ undone_all undos text)
-AreUndos-spliced room wider undos undo at removed added text within fits more changed is are =
-    let same = undone-spliced undo at removed added text within is in (
-      AreUndos-push wider undos undo (spliced at removed added text) (IsUndo-spliced wider undo at removed added text within fits changed is)
+    → AreUndos wider (undos ++ undo ∷ []) (text_of_parts (edited at removed added text.bytes) new) × (undone_all (undos ++ undo ∷ []) (text_of_parts (edited at removed added text.bytes) new) ≡ undone_all undos text)
+AreUndos-put room wider undos undo at removed added new text within fits more changed is are =
+    let put = text_of_parts (edited at removed added text.bytes) new in
+    let same = undone-put undo at removed added new text within is in (
+      AreUndos-push wider undos undo put (IsUndo-put wider undo at removed added new text within fits changed is)
           (subst (AreUndos wider undos) (sym same) (AreUndos-wider room wider undos text more are)),
-      undone_all-push undos undo (spliced at removed added text) ∙ ap (undone_all undos) same,
+      undone_all-push undos undo put ∙ ap (undone_all undos) same,
     )

@@ -1,4 +1,4 @@
-//! What a commit is told of changed texts: names, and edited texts beside them.
+//! What a commit is given of changed texts: names, and edited texts beside them.
 //!
 //! No name stands twice, and the order is that in which files are written. Nothing is said of
 //! disks.

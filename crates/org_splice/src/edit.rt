@@ -14,6 +14,15 @@ pub struct Edit {
     pub bytes: Bytes,
 }
 
+/// A part of a text that edits changed: `removed` bytes from the byte position `at` on gave way to
+/// `added` others.
+#[derive(Clone, Copy)]
+pub struct Replaced {
+    pub at: usize,
+    pub removed: usize,
+    pub added: usize,
+}
+
 /// How many bytes a text of this size has after edits, which can be made of it one after another.
 /// None comes only where it would have 2^64 bytes or more after one of them. Takes no memory.
 pub fn size_after(size: usize, edits: &[Edit]) -> Option<usize>

@@ -3,19 +3,22 @@
 //! The bytes are those of the text now. `changed` rises, and covers each byte that may differ from
 //! the settled text; `undos` lead back to what was kept last. Nothing here knows of lines or
 //! headings, but for the last newline.
-ghost use Rattle.std.specs.Prelude.{◌≡◌, ◌+◌, ◌-◌, ◌<◌, ◌≤◌, length, map, slice_range, vec_capacity, vec_len, IsFalse, IfOk, OnOk, OnErr, List, ℕ};
+ghost use Rattle.std.specs.Prelude.{◌≡◌, ◌+◌, ◌-◌, ◌<◌, ◌≤◌, ◌∷◌, length, map, slice_range, vec_capacity, vec_len, IsFalse, IfOk, IfSome, OnOk, OnErr, List, None, ℕ};
+ghost use Rattle.org_splice.specs.Edits.{edited, IsReplaced};
 ghost use Rattle.org_splice.specs.Lines.{terminated};
 ghost use Rattle.org_splice.specs.Patches.{AreWellFormed, PatchedTo};
-ghost use Rattle.org_splice.specs.Ranges.{AreChanged, changed_by};
-ghost use Rattle.org_splice.specs.Texts.{IsEditOf, terminated_text, settled, spliced, patches_of, pairs_of};
+ghost use Rattle.org_splice.specs.Ranges.{AreChanged};
+ghost use Rattle.org_splice.specs.Texts.{IsEditOf, terminated_text, settled, spliced, spliced_each, patches_of, pairs_of};
 ghost use Rattle.org_splice.specs.Versions.{AreUndos, revised, text_of_parts, unedited, undone_all};
 
+use crate::Span;
 use crate::bytes::Bytes;
-use crate::edit::Edit;
+use crate::edit::{Edit, Replaced};
 use crate::patch::{Patch, patches_of};
+use crate::ranges::changed_by;
 use crate::replacing::replace;
 use crate::undo::{Undo, undo_all};
-use crate::{Span, ranges};
+use crate::window::{MAX_PART, edited_part, touched};
 use std::alloc::AllocError;
 use std::marker::Model;
 use std::mem;
@@ -123,6 +126,36 @@ impl Editing {
         self.splice(edit.at, edit.removed, edit.bytes.as_slice())
     }
 
+    /// Makes edits that lie near one another, one after another: what stands behind them moves once.
+    /// None, with nothing changed, where they lie far apart. The part that was replaced holds all
+    /// that they touch.
+    ///
+    /// # Errors
+    ///
+    /// `AllocError`: the text stays as it is.
+    pub fn apply_near(
+        &mut self,
+        first: &Edit,
+        rest: &[Edit],
+    ) -> Result<Option<Replaced>, AllocError>
+        ensures made { IfOk result (λ part. IfSome part (λ part. self.new
+            ≡ revised self.old (spliced_each (first.now ∷ rest.now) self.old.text))) }
+        ensures part { IfOk result (λ part. IfSome part
+            (λ part. IsReplaced part.at part.removed part.added self.old.text.bytes
+            self.new.text.bytes)) }
+        ensures far { IfOk result (λ part. part ≡ None → self.new ≡ self.old) }
+        ensures err { OnErr result (self.new ≡ self.old) }
+    {
+        apply_near(
+            &mut self.bytes,
+            &mut self.changed,
+            &mut self.undos,
+            &mut self.room,
+            first,
+            rest,
+        )
+    }
+
     /// Puts a newline at the end of a text that has bytes and doesn't end in one.
     ///
     /// # Errors
@@ -189,38 +222,62 @@ impl Editing {
     }
 }
 
-/// The bytes that a splice removes, and the changed ranges after it, with room for what takes it
-/// back.
+/// The bytes that are removed, with room for what takes that back.
 fn prepared(
     text: &[u8],
-    changed: &[Span],
     undos: &mut Vec<Undo>,
-    room: &mut Vec<Span>,
     at: usize,
     removed: usize,
-    bytes: &[u8],
-) -> Result<(Vec<u8>, Vec<Span>), AllocError>
-    requires within { at + removed ≤ length text.now }
-    requires changed { AreChanged (length text.now) changed.now }
-    ensures bytes { IfOk result
-        (λ made. made.0.items ≡ slice_range text.now at (at + removed)) }
-    ensures changed { IfOk result (λ made. made.1.items ≡ changed_by at removed
-        (length bytes.now) (length text.now - removed + length bytes.now) changed.now) }
+) -> Result<Vec<u8>, AllocError>
+    requires { at + removed ≤ length text.now }
+    ensures bytes { IfOk result (λ bytes. bytes.items ≡ slice_range text.now at (at + removed)) }
     ensures undos { undos.new.items ≡ undos.old.items }
     ensures room { OnOk result (vec_len undos.new < vec_capacity undos.new) }
 {
-    let alloc = *undos.allocator();
-    let size = text.len() - removed + bytes.len();
-    let end = if removed == bytes.len() {
-        at + bytes.len()
-    } else {
-        size
-    };
     undos.reserve(1)?;
-    let room = mem::replace(room, Vec::new(alloc));
-    let new_changed = ranges::with_range(room, Span { start: at, end }, size, changed)?;
-    let old_bytes = Vec::from_slice(alloc, &text[at..at + removed])?;
-    Ok((old_bytes, new_changed))
+    Vec::from_slice(*undos.allocator(), &text[at..at + removed])
+}
+
+/// Puts bytes in the place of others, beside the changed ranges of the text that this makes.
+fn put(
+    text: &mut Vec<u8>,
+    changed: &mut Vec<Span>,
+    undos: &mut Vec<Undo>,
+    at: usize,
+    removed: usize,
+    bytes: &[u8],
+    new_changed: Vec<Span>,
+) -> Result<(), AllocError>
+    requires within { at + removed ≤ length text.old.items }
+    requires changed { AreChanged (length text.old.items) changed.old.items }
+    requires new { AreChanged (length text.old.items - removed + length bytes.now)
+        new_changed.items }
+    requires can { AreUndos (vec_capacity text.old) undos.old.items
+        (text_of_parts text.old.items changed.old.items) }
+    ensures ok { OnOk result (text_of_parts text.new.items changed.new.items
+        ≡ text_of_parts (edited at removed bytes.now text.old.items) new_changed.items) }
+    ensures err { OnErr result (text_of_parts text.new.items changed.new.items
+        ≡ text_of_parts text.old.items changed.old.items) }
+    ensures before { undone_all undos.new.items (text_of_parts text.new.items changed.new.items)
+        ≡ undone_all undos.old.items (text_of_parts text.old.items changed.old.items) }
+    ensures changed { AreChanged (length text.new.items) changed.new.items }
+    ensures can { AreUndos (vec_capacity text.new) undos.new.items
+        (text_of_parts text.new.items changed.new.items) }
+{
+    // All memory is taken before anything changes.
+    let old_bytes = prepared(text, undos, at, removed)?;
+    replace(text, at, removed, bytes)?;
+    let old_changed = mem::replace(changed, new_changed);
+    let undo = Undo {
+        at,
+        added: bytes.len(),
+        removed: Bytes::new(old_bytes),
+        changed: old_changed,
+    };
+    if undos.push(undo).is_err() {
+        unreachable!();
+    }
+    Ok(())
 }
 
 /// `Editing::splice`, on its parts.
@@ -249,18 +306,51 @@ fn splice(
     ensures can { AreUndos (vec_capacity text.new) undos.new.items
         (text_of_parts text.new.items changed.new.items) }
 {
-    // All memory is taken before anything changes.
-    let (old_bytes, new_changed) = prepared(text, changed, undos, room, at, removed, bytes)?;
-    replace(text, at, removed, bytes)?;
-    let old_changed = mem::replace(changed, new_changed);
-    let undo = Undo {
-        at,
-        added: bytes.len(),
-        removed: Bytes::new(old_bytes),
-        changed: old_changed,
-    };
-    if undos.push(undo).is_err() {
-        unreachable!();
+    let size = text.len() - removed + bytes.len();
+    let spare = mem::replace(room, Vec::new(*text.allocator()));
+    let new_changed = changed_by(spare, at, removed, bytes.len(), size, changed)?;
+    put(text, changed, undos, at, removed, bytes, new_changed)
+}
+
+/// `Editing::apply_near`, on its parts.
+fn apply_near(
+    text: &mut Vec<u8>,
+    changed: &mut Vec<Span>,
+    undos: &mut Vec<Undo>,
+    room: &mut Vec<Span>,
+    first: &Edit,
+    rest: &[Edit],
+) -> Result<Option<Replaced>, AllocError>
+    requires changed { AreChanged (length text.old.items) changed.old.items }
+    requires can { AreUndos (vec_capacity text.old) undos.old.items
+        (text_of_parts text.old.items changed.old.items) }
+    ensures made { IfOk result (λ part. IfSome part
+        (λ part. text_of_parts text.new.items changed.new.items
+        ≡ spliced_each (first.now ∷ rest.now) (text_of_parts text.old.items changed.old.items))) }
+    ensures part { IfOk result (λ part. IfSome part
+        (λ part. IsReplaced part.at part.removed part.added text.old.items text.new.items)) }
+    ensures far { IfOk result (λ part. part ≡ None
+        → text_of_parts text.new.items changed.new.items
+        ≡ text_of_parts text.old.items changed.old.items) }
+    ensures err { OnErr result (text_of_parts text.new.items changed.new.items
+        ≡ text_of_parts text.old.items changed.old.items) }
+    ensures before { undone_all undos.new.items (text_of_parts text.new.items changed.new.items)
+        ≡ undone_all undos.old.items (text_of_parts text.old.items changed.old.items) }
+    ensures changed { AreChanged (length text.new.items) changed.new.items }
+    ensures can { AreUndos (vec_capacity text.new) undos.new.items
+        (text_of_parts text.new.items changed.new.items) }
+{
+    let part = touched(text.len(), first, rest);
+    let at = part.start;
+    let removed = part.end - at;
+    if removed > MAX_PART {
+        return Ok(None);
     }
-    Ok(())
+    let spare = mem::replace(room, Vec::new(*text.allocator()));
+    let Some((bytes, new_changed)) = edited_part(text, changed, spare, part, first, rest)? else {
+        return Ok(None);
+    };
+    put(text, changed, undos, at, removed, &bytes, new_changed)?;
+    let added = bytes.len();
+    Ok(Some(Replaced { at, removed, added }))
 }

@@ -2,8 +2,8 @@
 //!
 //! No two ranges touch, none is empty, and there are at most a thousand: past that the last two
 //! become one. So a record has few patches, however many edits a command makes.
-ghost use Rattle.std.specs.Prelude.{◌≡◌, ◌<◌, ◌≤◌, IfOk};
-ghost use Rattle.org_splice.specs.Ranges.{AreChanged, cut_at, joined, a_thousand_of, with_range};
+ghost use Rattle.std.specs.Prelude.{◌≡◌, ◌+◌, ◌<◌, ◌≤◌, length, IfOk};
+ghost use Rattle.org_splice.specs.Ranges.{AreChanged, changed_by, cut_at, joined, a_thousand_of, with_range};
 
 use crate::Span;
 use std::alloc::AllocError;
@@ -78,7 +78,7 @@ fn keep_a_thousand(ranges: &mut Vec<Span>)
 
 /// The ranges, cut at the end of a text of this size, with one more, if it isn't empty. They are
 /// put into a list that isn't needed any more, so that no memory is taken where it has room.
-pub fn with_range(
+fn with_range(
     room: Vec<Span>,
     own: Span,
     size: usize,
@@ -94,4 +94,26 @@ pub fn with_range(
     let mut all = joined(room, own, size, ranges)?;
     keep_a_thousand(&mut all);
     Ok(all)
+}
+
+/// The changed ranges behind an edit that leaves a text of this size: `removed` bytes from `at` on
+/// gave way to `added` others. They are put into a list that isn't needed any more.
+///
+/// # Errors
+///
+/// `AllocError`.
+pub fn changed_by(
+    room: Vec<Span>,
+    at: usize,
+    removed: usize,
+    added: usize,
+    size: usize,
+    ranges: &[Span],
+) -> Result<Vec<Span>, AllocError>
+    requires within { at + added ≤ size }
+    requires changed { AreChanged usize.MAX ranges.now }
+    ensures { IfOk result (λ all. all.items ≡ changed_by at removed added size ranges.now) }
+{
+    let end = if removed == added { at + added } else { size };
+    with_range(room, Span { start: at, end }, size, ranges)
 }

@@ -3,6 +3,7 @@ use Rattle.std.proofs.Common.{◌≡◌, ℕ, ◌<◌, ◌≤◌, inl, inr, Bool
 use Rattle.std.proofs.lemmas.Bool.{cases_lt}
 use Rattle.jiff_core.specs.declared.civil.date.Date.{Date}
 use Rattle.jiff_core.specs.declared.span.Span.{Span}
+use Rattle.jiff_core.specs.declared.unit.Unit.{Unit as TimeUnit}
 use Rattle.jiff_core.specs.declared.unit.Unit.TheVariants.{Nanosecond, Microsecond, Millisecond, Second, Minute, Hour, Day, Week, Month, Year}
 use Rattle.jiff_core.specs.Calendar.{days_from_civil}
 use Rattle.jiff_core.specs.Date.{epoch_day}
@@ -45,46 +46,37 @@ signed_zero false n none = omega (arith, signed_arith)
 unsigned_old : (old : Span) → total_magnitude old ≡ 0 → IsTrue old.negative → ⊥
 unsigned_old old none negative = omega (arith, old.zero_has_no_sign negative, none)
 
+-- one unit of a span without any was set to n
+set_forward : (unit : TimeUnit) (n : ℕ) (z : ℤ) (old s : Span) → total_magnitude old ≡ 0 → SetsUnit unit z old s → z ≡ pos n → s.negative ≡ false
+set_forward unit n z old s none sets is = not_negative s.negative (λ negative. elim (sets.sign.0 negative) [
+  | inl less ↦ omega (arith, signed_arith, less, is)
+  | inr old_too ↦ unsigned_old old none old_too.0
+])
+
+no_clock : (old s : Span) → total_magnitude old ≡ 0 → s.hours ≡ old.hours → s.minutes ≡ old.minutes → s.seconds ≡ old.seconds → s.milliseconds ≡ old.milliseconds → s.microseconds ≡ old.microseconds → s.nanoseconds ≡ old.nanoseconds
+    → clock_days s ≡ pos 0
+no_clock old s none hours minutes seconds milli micro nano = signed_zero s.negative _ (omega (arith, none, hours, minutes, seconds, milli, micro, nano))
+
 pub by_days : (n : ℕ) (z : ℤ) (old s : Span) → total_magnitude old ≡ 0 → SetsUnit Day z old s → z ≡ pos n → GoesOn 0 n s
 by_days n z old s none sets is =
-    let forward : s.negative ≡ false = not_negative s.negative (λ negative. elim (sets.sign.0 negative) [
-      | inl less ↦ omega (arith, signed_arith, less, is)
-      | inr old_too ↦ unsigned_old old none old_too.0
-    ]) in
     let years : s.years ≡ 0 = omega (arith, sets.others Year (omega arith), none) in
     let months : s.months ≡ 0 = omega (arith, sets.others Month (omega arith), none) in
     let weeks : s.weeks ≡ 0 = omega (arith, sets.others Week (omega arith), none) in
-    let hours : s.hours ≡ 0 = omega (arith, sets.others Hour (omega arith), none) in
-    let minutes : s.minutes ≡ 0 = omega (arith, sets.others Minute (omega arith), none) in
-    let seconds : s.seconds ≡ 0 = omega (arith, sets.others Second (omega arith), none) in
-    let milli : s.milliseconds ≡ 0 = omega (arith, sets.others Millisecond (omega arith), none) in
-    let micro : s.microseconds ≡ 0 = omega (arith, sets.others Microsecond (omega arith), none) in
-    let nano : s.nanoseconds ≡ 0 = omega (arith, sets.others Nanosecond (omega arith), none) in
     record {
       months_are = signed_zero s.negative _ (omega (arith, years, months));
-      days_are = signed_forward s.negative _ n forward (omega (arith, signed_arith, weeks, sets.value, is));
-      clock = signed_zero s.negative _ (omega (arith, hours, minutes, seconds, milli, micro, nano));
+      days_are = signed_forward s.negative _ n (set_forward Day n z old s none sets is) (omega (arith, signed_arith, weeks, sets.value, is));
+      clock = no_clock old s none (sets.others Hour (omega arith)) (sets.others Minute (omega arith)) (sets.others Second (omega arith)) (sets.others Millisecond (omega arith)) (sets.others Microsecond (omega arith)) (sets.others Nanosecond (omega arith));
     }
 
 pub by_months : (n : ℕ) (z : ℤ) (old s : Span) → total_magnitude old ≡ 0 → SetsUnit Month z old s → z ≡ pos n → GoesOn n 0 s
 by_months n z old s none sets is =
-    let forward : s.negative ≡ false = not_negative s.negative (λ negative. elim (sets.sign.0 negative) [
-      | inl less ↦ omega (arith, signed_arith, less, is)
-      | inr old_too ↦ unsigned_old old none old_too.0
-    ]) in
     let years : s.years ≡ 0 = omega (arith, sets.others Year (omega arith), none) in
     let weeks : s.weeks ≡ 0 = omega (arith, sets.others Week (omega arith), none) in
     let days : s.days ≡ 0 = omega (arith, sets.others Day (omega arith), none) in
-    let hours : s.hours ≡ 0 = omega (arith, sets.others Hour (omega arith), none) in
-    let minutes : s.minutes ≡ 0 = omega (arith, sets.others Minute (omega arith), none) in
-    let seconds : s.seconds ≡ 0 = omega (arith, sets.others Second (omega arith), none) in
-    let milli : s.milliseconds ≡ 0 = omega (arith, sets.others Millisecond (omega arith), none) in
-    let micro : s.microseconds ≡ 0 = omega (arith, sets.others Microsecond (omega arith), none) in
-    let nano : s.nanoseconds ≡ 0 = omega (arith, sets.others Nanosecond (omega arith), none) in
     record {
-      months_are = signed_forward s.negative _ n forward (omega (arith, signed_arith, years, sets.value, is));
+      months_are = signed_forward s.negative _ n (set_forward Month n z old s none sets is) (omega (arith, signed_arith, years, sets.value, is));
       days_are = signed_zero s.negative _ (omega (arith, weeks, days));
-      clock = signed_zero s.negative _ (omega (arith, hours, minutes, seconds, milli, micro, nano));
+      clock = no_clock old s none (sets.others Hour (omega arith)) (sets.others Minute (omega arith)) (sets.others Second (omega arith)) (sets.others Millisecond (omega arith)) (sets.others Microsecond (omega arith)) (sets.others Nanosecond (omega arith));
     }
 
 -- ---- days

@@ -13,7 +13,7 @@ use Rattle.org_stamp.specs.declared.kind.Interval.{Interval}
 use Rattle.org_stamp.specs.declared.kind.Repeater.{Repeater}
 use Rattle.org_stamp.specs.declared.fault.RepeatFault.{RepeatFault}
 use Rattle.org_stamp.specs.declared.fault.RepeatFault.TheVariants.{BadRepeat}
-use Rattle.org_stamp.specs.Calendar.{CivilDay, CivilMinute, IsDay, day_number, minutes_of, days_after, months_after, month_number}
+use Rattle.org_stamp.specs.Calendar.{CivilDay, Moment, IsDay, day_number, minutes_of, days_after, months_after, month_number}
 use Rattle.org_stamp.specs.Stamp.{StampValue, IsStamp, has_one_time, first_repeater, start_of}
 use Rattle.org_stamp.specs.Repeat.{is_hour, shifted, moved, in_range, IsLater, IsLaterBy, is_later, is_later_by, first_from, most_times, target_of, RepeatsBy, RepeatsAs, IsNext, repeated_by, repeated_as, repeated}
 use Rattle.org_stamp.proofs.Later.{after_number, civil_of, last_number, reach, IsTarget}
@@ -40,11 +40,11 @@ int_tested a b lt = grind (arith, signed_arith)
 int_failed : (a b : ℤ) → (a <ℤ b → ⊥) → int_lt a b ≡ false
 int_failed a b not = grind (arith, signed_arith)
 
-later_test : (t : Option Times) (s : StampValue) (now : CivilMinute) → IsLaterBy t s now → is_later_by t s now ≡ true
+later_test : (t : Option Times) (s : StampValue) (now : Moment) → IsLaterBy t s now → is_later_by t s now ≡ true
 later_test None s now later = int_tested (day_number now.day) (day_number s.day) later
 later_test (Some t) s now later = int_tested (minutes_of now) (minutes_of (start_of s)) later
 
-not_later_test : (t : Option Times) (s : StampValue) (now : CivilMinute) → (IsLaterBy t s now → ⊥) → is_later_by t s now ≡ false
+not_later_test : (t : Option Times) (s : StampValue) (now : Moment) → (IsLaterBy t s now → ⊥) → is_later_by t s now ≡ false
 not_later_test None s now not = int_failed (day_number now.day) (day_number s.day) not
 not_later_test (Some t) s now not = int_failed (minutes_of now) (minutes_of (start_of s)) not
 
@@ -53,7 +53,7 @@ not_later_test (Some t) s now not = int_failed (minutes_of now) (minutes_of (sta
 times_over : (j v : ℕ) → 1 ≤ v → j ≤ j * v
 times_over j v some = omega (arith, mul-le-mul_left j some)
 
-target_is : (t : Option Times) (now : CivilMinute) → IsTarget (target_of t now) now.day
+target_is : (t : Option Times) (now : Moment) → IsTarget (target_of t now) now.day
 target_is None now = inr refl
 target_is (Some t) now =
     elim (cases_lt now.minute t.start) [
@@ -61,7 +61,7 @@ target_is (Some t) now =
       | inr le ↦ let test : nat_lt now.minute t.start ≡ false = grind (arith, nat_tests) in inr (rw test refl)
     ]
 
-module _ (s : StampValue) (now : CivilMinute) (valid : IsStamp s) (today : IsDay now.day) (minute : now.minute < 1440) where
+module _ (s : StampValue) (now : Moment) (valid : IsStamp s) (today : IsDay now.day) (minute : now.minute < 1440) where
   -- a day so far ahead is later
   far_day : (d : CivilDay) → target_of s.time now ≤ℤ day_number d → IsLater (record s { day = d }) now
   far_day d past = later_day s.active s.time s.cookies d now valid.behind.time minute past
@@ -125,5 +125,5 @@ module _ (s : StampValue) (now : CivilMinute) (valid : IsStamp s) (today : IsDay
       (λ some rest. matched hour (Err BadRepeat) (repeated_by p.mark p.interval s now) r (RepeatsBy p.mark p.interval s now r)
       (λ _ by. by_computed p.mark p.interval r (grind (arith, nat_tests, some)) by) rest) is
 
-pub repeats_computed : (s : StampValue) (now : CivilMinute) (r : Result StampValue RepeatFault) → IsStamp s → IsDay now.day → now.minute < 1440 → IsNext s now r → repeated s now ≡ r
+pub repeats_computed : (s : StampValue) (now : Moment) (r : Result StampValue RepeatFault) → IsStamp s → IsDay now.day → now.minute < 1440 → IsNext s now r → repeated s now ≡ r
 repeats_computed s now r valid today minute is = as_computed s now valid today minute (first_repeater s.cookies) r is

@@ -105,11 +105,14 @@ open_append (x ∷ xs) ys h k =
 blank_open : (b : ℕ) → is_blank b ≡ true → is_closing b ≡ false
 blank_open b e = grind (arith, nat_tests)
 
+all_open : (test : ℕ → Bool) → ((b : ℕ) → test b ≡ true → is_closing b ≡ false) → (bytes : List ℕ) → IsTrue (list_all test bytes) → IsOpen bytes
+all_open test open_is [] h = refl
+all_open test open_is (b ∷ bs) h =
+    let parts = both (test b) (list_all test bs) h in
+    rw (open_is b parts.0) (all_open test open_is bs parts.1)
+
 blanks_open : (bytes : List ℕ) → IsTrue (list_all is_blank bytes) → IsOpen bytes
-blanks_open [] h = refl
-blanks_open (b ∷ bs) h =
-    let parts = both (is_blank b) (list_all is_blank bs) h in
-    rw (blank_open b parts.0) (blanks_open bs parts.1)
+blanks_open bytes h = all_open is_blank blank_open bytes h
 
 pub parts_open : (bytes : List ℕ) (ps : List Part) → HasParts bytes ps → IsOpen bytes
 parts_open bytes [] h = subst IsOpen (sym h) refl
@@ -122,10 +125,7 @@ digit_open : (b : ℕ) → is_ascii_digit b ≡ true → is_closing b ≡ false
 digit_open b e = grind (arith, nat_tests)
 
 digits_open : (bytes : List ℕ) → IsTrue (list_all is_ascii_digit bytes) → IsOpen bytes
-digits_open [] h = refl
-digits_open (b ∷ bs) h =
-    let parts = both (is_ascii_digit b) (list_all is_ascii_digit bs) h in
-    rw (digit_open b parts.0) (digits_open bs parts.1)
+digits_open bytes h = all_open is_ascii_digit digit_open bytes h
 
 number_open : (text : List ℕ) (n : ℕ) → number_of text ≡ Some n → IsOpen text
 number_open text n e =

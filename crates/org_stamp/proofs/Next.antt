@@ -2,7 +2,7 @@
 use Rattle.std.proofs.Common.{◌≡◌, ◌≢◌, ℕ, ◌*◌, ◌^◌, ◌<◌, ◌≤◌, ◌==◌, Bool, true, false, not, ◌&&◌, IsTrue, MatchBool, None, Some, Result, Ok, Err, eq-eqb, refl, sym, ap, ◌∙◌, subst, arith}
 use Rattle.std.proofs.lemmas.Bool.{ne_eqb}
 use Rattle.std.proofs.Math.Nat.{one-mul}
-use Rattle.org_stamp.specs.Calendar.{CivilMinute}
+use Rattle.org_stamp.specs.Calendar.{Moment}
 use Rattle.org_stamp.specs.declared.kind.Mark.{Mark}
 use Rattle.org_stamp.specs.declared.kind.Interval.{Interval}
 use Rattle.org_stamp.specs.declared.kind.Repeater.{Repeater}
@@ -34,23 +34,23 @@ time_of_hours true true e hours = refl
 time_of_hours false o e hours = absurd (cc)
 time_of_hours true false e hours = absurd (cc)
 
-pub next_of_none : (s : StampValue) (now : CivilMinute) (same : StampValue) → None ≡ first_repeater s.cookies → same ≡ s → IsNext s now (Ok same)
+pub next_of_none : (s : StampValue) (now : Moment) (same : StampValue) → None ≡ first_repeater s.cookies → same ≡ s → IsNext s now (Ok same)
 next_of_none s now same none is = subst (λ o. RepeatsAs o s now (Ok same)) none (ap Ok is)
 
-pub next_of_zero : (s : StampValue) (now : CivilMinute) (p : Repeater) (same : StampValue) → Some p ≡ first_repeater s.cookies → p.interval.value ≡ 0 → same ≡ s → IsNext s now (Ok same)
+pub next_of_zero : (s : StampValue) (now : Moment) (p : Repeater) (same : StampValue) → Some p ≡ first_repeater s.cookies → p.interval.value ≡ 0 → same ≡ s → IsNext s now (Ok same)
 next_of_zero s now p same some zero is =
     let r : Result StampValue RepeatFault = Ok same in
     let none : (p.interval.value == 0) ≡ true = eq-eqb p.interval.value 0 zero in
     subst (λ o. RepeatsAs o s now r) some (subst (λ t. MatchBool t (r ≡ Ok s) (MatchBool (is_barred p s) (r ≡ Err BadRepeat) (RepeatsBy p.mark p.interval s now r))) (sym none) (ap Ok is))
 
-pub next_of_barred : (s : StampValue) (now : CivilMinute) (p : Repeater) → Some p ≡ first_repeater s.cookies → p.interval.value ≢ 0 → is_barred p s ≡ true → IsNext s now (Err BadRepeat)
+pub next_of_barred : (s : StampValue) (now : Moment) (p : Repeater) → Some p ≡ first_repeater s.cookies → p.interval.value ≢ 0 → is_barred p s ≡ true → IsNext s now (Err BadRepeat)
 next_of_barred s now p some value barred =
     let r : Result StampValue RepeatFault = Err BadRepeat in
     let none : (p.interval.value == 0) ≡ false = ne_eqb p.interval.value 0 value in
     let refused : MatchBool (is_barred p s) (r ≡ Err BadRepeat) (RepeatsBy p.mark p.interval s now r) = subst (λ t. MatchBool t (r ≡ Err BadRepeat) (RepeatsBy p.mark p.interval s now r)) (sym barred) refl in
     subst (λ o. RepeatsAs o s now r) some (subst (λ t. MatchBool t (r ≡ Ok s) (MatchBool (is_barred p s) (r ≡ Err BadRepeat) (RepeatsBy p.mark p.interval s now r))) (sym none) refused)
 
-pub next_by_mark : (s : StampValue) (now : CivilMinute) (p : Repeater) (mark : Mark) (r : Result StampValue RepeatFault) → Some p ≡ first_repeater s.cookies → p.interval.value ≢ 0 → is_barred p s ≡ false → p.mark ≡ mark → RepeatsBy mark p.interval s now r → IsNext s now r
+pub next_by_mark : (s : StampValue) (now : Moment) (p : Repeater) (mark : Mark) (r : Result StampValue RepeatFault) → Some p ≡ first_repeater s.cookies → p.interval.value ≢ 0 → is_barred p s ≡ false → p.mark ≡ mark → RepeatsBy mark p.interval s now r → IsNext s now r
 next_by_mark s now p mark r some value free is repeats =
     let none : (p.interval.value == 0) ≡ false = ne_eqb p.interval.value 0 value in
     let marked : RepeatsBy p.mark p.interval s now r = subst (λ m. RepeatsBy m p.interval s now r) (sym is) repeats in

@@ -15,12 +15,12 @@ abbrev pub civil_day : ℕ → ℕ → ℕ → CivilDay
 civil_day y m d = record { year = y; month = m; day = d }
 
 -- a day, and the minute of it from 0:00
-pub record CivilMinute : Type 0 where
+pub record Moment : Type 0 where
   pub day : CivilDay
   pub minute : ℕ
 
 -- that minute of the day
-abbrev pub at_minute : CivilDay → ℕ → CivilMinute
+abbrev pub at_minute : CivilDay → ℕ → Moment
 at_minute d n = record { day = d; minute = n }
 
 -- the calendar has the day, in a year from 0001 to 9999
@@ -39,7 +39,7 @@ weekday_of d = weekday_number (day_number d)
 
 -- minutes since 1970-01-01 0:00, negative before it: by them moments are ordered and their distance
 -- is taken
-abbrev pub minutes_of : CivilMinute → ℤ
+abbrev pub minutes_of : Moment → ℤ
 minutes_of m = day_number m.day *ℤ pos 1440 +ℤ pos m.minute
 
 -- the day after

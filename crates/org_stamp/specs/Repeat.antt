@@ -1,6 +1,6 @@
 -- Repeated timestamps (Org manual, "Repeated tasks").
 use Rattle.std.specs.Prelude.{◌≡◌, ℕ, ◌+◌, ◌*◌, ◌/◌, ◌%◌, ◌^◌, ◌<◌, ◌≤◌, ◌==◌, zero, suc, nat_le, nat_lt, int_lt, ℤ, pos, ◌+ℤ◌, Bool, true, false, not, ◌&&◌, if◌then◌else◌, MatchBool, ◌<ℤ◌, Option, None, Some, Result, Ok, Err}
-use Rattle.org_stamp.specs.Calendar.{CivilDay, CivilMinute, day_number, minutes_of, days_after, months_after}
+use Rattle.org_stamp.specs.Calendar.{CivilDay, Moment, day_number, minutes_of, days_after, months_after}
 use Rattle.org_stamp.specs.declared.kind.Times.{Times}
 use Rattle.org_stamp.specs.declared.kind.Unit.{Unit}
 use Rattle.org_stamp.specs.declared.kind.Unit.TheVariants.{Hour, Day, Week, Month, Year}
@@ -37,15 +37,15 @@ abbrev pub shifted : StampValue → Interval → ℕ → StampValue
 shifted s i k = moved s i.unit (k * i.value)
 
 -- it starts after that moment, or on a later day where it has no time
-abbrev pub IsLaterBy : Option Times → StampValue → CivilMinute → Type 0
+abbrev pub IsLaterBy : Option Times → StampValue → Moment → Type 0
 IsLaterBy None s now = day_number now.day <ℤ day_number s.day
 IsLaterBy (Some t) s now = minutes_of now <ℤ minutes_of (start_of s)
 
-abbrev pub IsLater : StampValue → CivilMinute → Type 0
+abbrev pub IsLater : StampValue → Moment → Type 0
 IsLater s now = IsLaterBy s.time s now
 
 -- the day of now with the time kept, or now where hours repeat
-abbrev pub restarted : StampValue → Unit → CivilMinute → StampValue
+abbrev pub restarted : StampValue → Unit → Moment → StampValue
 restarted s Hour now =
     record s { day = now.day; time = Some (record { start = now.minute; end = None }) }
 restarted s _ now = record s { day = now.day }
@@ -55,7 +55,7 @@ abbrev pub in_range : StampValue → Result StampValue RepeatFault
 in_range s = if nat_le s.day.year 9999 then Ok s else Err DateRange
 
 -- `+` once, `++` the least number of times from 1 on that leads past now, `.+` once from now
-abbrev pub RepeatsBy : Mark → Interval → StampValue → CivilMinute → Result StampValue RepeatFault
+abbrev pub RepeatsBy : Mark → Interval → StampValue → Moment → Result StampValue RepeatFault
     → Type 0
 RepeatsBy Cumulate i s now r = r ≡ in_range (shifted s i 1)
 RepeatsBy CatchUp i s now r =
@@ -67,7 +67,7 @@ RepeatsBy CatchUp i s now r =
 RepeatsBy Restart i s now r = r ≡ in_range (shifted (restarted s i.unit now) i 1)
 
 -- the value 0 repeats nothing; hours repeat one time alone
-abbrev pub RepeatsAs : Option Repeater → StampValue → CivilMinute → Result StampValue RepeatFault
+abbrev pub RepeatsAs : Option Repeater → StampValue → Moment → Result StampValue RepeatFault
     → Type 0
 RepeatsAs None s now r = r ≡ Ok s
 RepeatsAs (Some p) s now r =
@@ -76,16 +76,16 @@ RepeatsAs (Some p) s now r =
     (RepeatsBy p.mark p.interval s now r))
 
 -- the timestamp at the next repetition, or the fault
-abbrev pub IsNext : StampValue → CivilMinute → Result StampValue RepeatFault → Type 0
+abbrev pub IsNext : StampValue → Moment → Result StampValue RepeatFault → Type 0
 IsNext s now r = RepeatsAs (first_repeater s.cookies) s now r
 
 -- ---- the same, computed
 
-abbrev pub is_later_by : Option Times → StampValue → CivilMinute → Bool
+abbrev pub is_later_by : Option Times → StampValue → Moment → Bool
 is_later_by None s now = int_lt (day_number now.day) (day_number s.day)
 is_later_by (Some t) s now = int_lt (minutes_of now) (minutes_of (start_of s))
 
-abbrev pub is_later : StampValue → CivilMinute → Bool
+abbrev pub is_later : StampValue → Moment → Bool
 is_later s now = is_later_by s.time s now
 
 -- the first number from k on of which f is true; the one behind the n that are tried, where it is
@@ -98,13 +98,13 @@ first_from f (suc n) k = if f k then k else first_from f n (k + 1)
 abbrev pub most_times : ℕ
 most_times = 2 ^ 32
 
-abbrev pub repeated_by : Mark → Interval → StampValue → CivilMinute → Result StampValue RepeatFault
+abbrev pub repeated_by : Mark → Interval → StampValue → Moment → Result StampValue RepeatFault
 repeated_by Cumulate i s now = in_range (shifted s i 1)
 repeated_by CatchUp i s now =
     in_range (shifted s i (first_from (λ k. is_later (shifted s i k) now) most_times 1))
 repeated_by Restart i s now = in_range (shifted (restarted s i.unit now) i 1)
 
-abbrev pub repeated_as : Option Repeater → StampValue → CivilMinute → Result StampValue RepeatFault
+abbrev pub repeated_as : Option Repeater → StampValue → Moment → Result StampValue RepeatFault
 repeated_as None s now = Ok s
 repeated_as (Some p) s now =
     if p.interval.value == 0 then Ok s
@@ -112,10 +112,10 @@ repeated_as (Some p) s now =
     else repeated_by p.mark p.interval s now)
 
 -- the timestamp at the next repetition, or the fault
-abbrev pub repeated : StampValue → CivilMinute → Result StampValue RepeatFault
+abbrev pub repeated : StampValue → Moment → Result StampValue RepeatFault
 repeated s now = repeated_as (first_repeater s.cookies) s now
 
-abbrev pub IsRepeated : StampValue → CivilMinute → Result StampValue RepeatFault → Type 0
+abbrev pub IsRepeated : StampValue → Moment → Result StampValue RepeatFault → Type 0
 IsRepeated s now r = r ≡ repeated s now
 
 -- ---- days and times apart
@@ -126,7 +126,7 @@ dated s None t = Err DateRange
 dated s (Some d) t = Ok (record s { day = d; time = t })
 
 -- the number of the first day on which a timestamp of that time starts after now
-abbrev pub target_of : Option Times → CivilMinute → ℤ
+abbrev pub target_of : Option Times → Moment → ℤ
 target_of None now = day_number now.day +ℤ pos 1
 target_of (Some t) now =
     if nat_lt now.minute t.start then day_number now.day else day_number now.day +ℤ pos 1

@@ -3,7 +3,7 @@ use Rattle.std.specs.Prelude.{◌≡◌, ◌≢◌, ℕ, ◌+◌, ◌/◌, ◌%�
 use Rattle.std.specs.List.{list_all, filter_map, AllByRecursion}
 use Rattle.std.specs.Fmt.{decimal}
 use Rattle.std.specs.Option.{option_to_list, option_map_or}
-use Rattle.org_stamp.specs.Calendar.{CivilDay, CivilMinute, IsDay, at_minute, weekday_of}
+use Rattle.org_stamp.specs.Calendar.{CivilDay, Moment, IsDay, at_minute, weekday_of}
 use Rattle.org_stamp.specs.declared.kind.Times.{Times}
 use Rattle.org_stamp.specs.declared.kind.Repeater.{Repeater}
 use Rattle.org_stamp.specs.declared.kind.Kind.{Kind}
@@ -124,7 +124,7 @@ pub record IsStamp (s : StampValue) : Type 0 where
   pub behind : IsWritable s.time s.cookies
 
 -- the timestamp of a moment, without cookies
-abbrev pub stamp_of : CivilMinute → Bool → Bool → StampValue
+abbrev pub stamp_of : Moment → Bool → Bool → StampValue
 stamp_of m active timed = record {
   active = active;
   day = m.day;
@@ -133,7 +133,7 @@ stamp_of m active timed = record {
 }
 
 -- where it starts, at 0:00 where it has no time
-abbrev pub start_of : StampValue → CivilMinute
+abbrev pub start_of : StampValue → Moment
 start_of s = at_minute s.day (start_in s.time) where
   start_in : Option Times → ℕ
   start_in None = 0

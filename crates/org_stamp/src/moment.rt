@@ -11,7 +11,7 @@ use std::marker::Model;
 
 /// A minute of the civil calendar, in no time zone, from 0001-01-01 0:00 to 9999-12-31 23:59.
 ///
-/// A clause sees a `CivilMinute`: its day and the minute of the day.
+/// A clause sees its day and the minute of the day (specs/Calendar.antt).
 #[derive(Clone, Copy)]
 pub struct Moment {
     day: Day,
@@ -20,9 +20,9 @@ pub struct Moment {
 
 impl Model for Moment {
     ghost use Rattle.std.specs.Prelude.{◌<◌};
-    ghost use Rattle.org_stamp.specs.Calendar.{CivilMinute, IsDay};
+    ghost use Rattle.org_stamp.specs.Calendar.{Moment, IsDay};
 
-    ghost Value = { CivilMinute };
+    ghost Value = { Moment };
 
     ghost view = { λ m. record { day = m.day; minute = m.minute } };
 

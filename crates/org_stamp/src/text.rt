@@ -39,6 +39,10 @@ fn push_date(out: &mut Vec<u8>, day: Day) -> Result<(), AllocError>
 }
 
 /// Appends `YYYY-MM-DD`, a space and the day's name.
+///
+/// # Errors
+///
+/// `AllocError`.
 pub fn push_day(out: &mut Vec<u8>, day: Day) -> Result<(), AllocError>
     ensures { OnOk result (out.new.items
         ≡ out.old.items ++ (date_text day ++ (32 ∷ day_name (weekday_of day)))) }
@@ -78,6 +82,10 @@ fn push_clock(out: &mut Vec<u8>, byte: u8, minute: u16) -> Result<(), AllocError
 }
 
 /// Appends ` HH:MM` or ` HH:MM-HH:MM` where there is a time.
+///
+/// # Errors
+///
+/// `AllocError`.
 pub fn push_time(out: &mut Vec<u8>, time: Option<Times>) -> Result<(), AllocError>
     ensures { OnOk result (out.new.items ≡ out.old.items ++ time_text time) }
 {

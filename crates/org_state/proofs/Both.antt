@@ -8,7 +8,7 @@ use Rattle.org_splice.specs.Lines.{terminated, print_lines}
 use Rattle.org_splice.specs.declared.edit.Edit.{Edit}
 use Rattle.org_splice.specs.Edits.{AreEdits}
 use Rattle.org_splice.proofs.Places.{AreEdits-join}
-use Rattle.org_stamp.specs.Calendar.{CivilMinute}
+use Rattle.org_stamp.specs.Calendar.{Moment}
 use Rattle.org_outline.specs.Text.{heading_line}
 use Rattle.org_outline.specs.Tree.{Forest, Empty, Tree, Document, print, tree, lines, total, node_at, node_count}
 use Rattle.org_outline.specs.Moves.{from_node, with_own, with_own_lines}
@@ -119,14 +119,14 @@ module _ (d : Document) (m : ℕ) (r : List ℕ) (s : List (List ℕ)) where
 not_same : (i from : ℕ) → i ≢ from → eqb i from ≡ false
 not_same i from other = elim (cases_Bool (eqb i from)) [ inl e ↦ absurd (other (eqb-true i from e)) | inr e ↦ e ]
 
-pub switched_none : (now : CivilMinute) (from : ℕ) (d : Document) (i : ℕ) → i ≡ from → switched now from d i ≡ Ok None
+pub switched_none : (now : Moment) (from : ℕ) (d : Document) (i : ℕ) → i ≡ from → switched now from d i ≡ Ok None
 switched_none now from d i same = let yes : eqb i from ≡ true = grind (arith, nat_tests) in rw yes refl
 
-switched_by : (now : CivilMinute) (from : ℕ) (d : Document) (i : ℕ) (r : Result Document StateFault) → i ≢ from → with_closed now from d ≡ r
+switched_by : (now : Moment) (from : ℕ) (d : Document) (i : ℕ) (r : Result Document StateFault) → i ≢ from → with_closed now from d ≡ r
     → switched now from d i ≡ result_map_both (λ terminated. Some (with_opened now i terminated)) (λ fault. fault) r
 switched_by now from d i r other is = rw (not_same i from other) (ap (result_map_both (λ terminated. Some (with_opened now i terminated)) (λ fault. fault)) is)
 
-pub switch_refused : (now : CivilMinute) (t u : List ℕ) (from i : ℕ) (fault : StateFault) → u ≡ t → i ≢ from → ClosesSection now (tree u) from (Err fault) → AnswersSwitch now t from (Ok i) (Err fault)
+pub switch_refused : (now : Moment) (t u : List ℕ) (from i : ℕ) (fault : StateFault) → u ≡ t → i ≢ from → ClosesSection now (tree u) from (Err fault) → AnswersSwitch now t from (Ok i) (Err fault)
 switch_refused now t u from i fault text other a = by_fault fault (subst (λ (u : List ℕ). ClosesSection now (tree u) from (Err fault)) text a)
   where
     by_fault : (fault : StateFault) → ClosesSection now (tree t) from (Err fault) → AnswersSwitch now t from (Ok i) (Err fault)
@@ -141,12 +141,12 @@ switch_refused now t u from i fault text other a = by_fault fault (subst (λ (u 
         (with_opened now i (with_section_at from (tree t) a.0), switched_by now from (tree t) i (Ok (with_section_at from (tree t) a.0)) other (ap (result_map_both (with_section_at from (tree t)) fault_of_clock) a.1))
 
 -- memory was refused once the clock that runs can be closed
-pub switch_starved : (now : CivilMinute) (t u : List ℕ) (from i : ℕ) (closing : Edit) (fault : StateFault) → u ≡ t → i ≢ from → ClosesSection now (tree u) from (Ok closing) → fault ≡ OutOfMemory → AnswersSwitch now t from (Ok i) (Err fault)
+pub switch_starved : (now : Moment) (t u : List ℕ) (from i : ℕ) (closing : Edit) (fault : StateFault) → u ≡ t → i ≢ from → ClosesSection now (tree u) from (Ok closing) → fault ≡ OutOfMemory → AnswersSwitch now t from (Ok i) (Err fault)
 switch_starved now t u from i closing fault text other closes memory =
     let can = subst (λ (u : List ℕ). ClosesSection now (tree u) from (Ok closing)) text closes in
     rw memory (switch_refused now t t from i OutOfMemory refl other (can.0, can.1))
 
-module _ (t : List ℕ) (i from : ℕ) (now : CivilMinute) (opening closing : Edit) (new : List (List ℕ)) (stays_terminated : terminated t ≡ t) (lt : i < node_count (tree t)) (there : from < node_count (tree t))
+module _ (t : List ℕ) (i from : ℕ) (now : Moment) (opening closing : Edit) (new : List (List ℕ)) (stays_terminated : terminated t ≡ t) (lt : i < node_count (tree t)) (there : from < node_count (tree t))
     (opens : EditsSection opening (tree t) i (opened_section now (tree t) i)) (closes : EditsSection closing (tree t) from new) where
   -- what both make
   both_is : i ≢ from → with_own_lines i (node_at (tree t) i).node.rest (opened_section now (tree t) i) (with_section_at from (tree t) new) ≡ with_opened now i (with_section_at from (tree t) new)
@@ -191,7 +191,7 @@ module _ (t : List ℕ) (i from : ℕ) (now : CivilMinute) (opening closing : Ed
       (AreEdits-join (opening ∷ []) (closing ∷ []) (print d) (print middle) (print final) first
       (subst (λ (n : Document). AreEdits (closing ∷ []) (print middle) (print n)) last second))
 
-pub switch_made : (t u : List ℕ) (i from : ℕ) (now : CivilMinute) (opening closing : Edit) (items : List Edit) → u ≡ t → terminated t ≡ t → i < node_count (tree t) → from < node_count (tree t) → i ≢ from
+pub switch_made : (t u : List ℕ) (i from : ℕ) (now : Moment) (opening closing : Edit) (items : List Edit) → u ≡ t → terminated t ≡ t → i < node_count (tree t) → from < node_count (tree t) → i ≢ from
     → EditsSection opening (tree t) i (opened_section now (tree t) i) → ClosesSection now (tree u) from (Ok closing)
     → ((from < i) × (items ≡ opening ∷ closing ∷ [])) ⊎ ((i ≤ from) × (items ≡ closing ∷ opening ∷ []))
     → (new : Option Document) × (switched now from (tree t) i ≡ Ok new) × Makes new t items

@@ -5,7 +5,7 @@ use Rattle.std.specs.Option.{option_map}
 use Rattle.std.specs.Result.{result_map_both}
 use Rattle.std.specs.Fmt.{digits}
 use Rattle.jiff_core.specs.Calendar.{days_of_years, days_of_months, day_count, days_from_civil, weekday_number}
-use Rattle.org_stamp.specs.Calendar.{CivilMinute, civil_day, day_number, at_minute, weekday_of}
+use Rattle.org_stamp.specs.Calendar.{Moment, civil_day, day_number, at_minute, weekday_of}
 use Rattle.org_outline.specs.declared.paths.PathFault.TheVariants as path
 use Rattle.org_outline.specs.States.{Keywords}
 use Rattle.org_outline.specs.Tree.{print, tree}
@@ -46,20 +46,20 @@ unfolding weekday_number
 wednesday = rw july refl
 
 -- minutes of it
-ten : CivilMinute
+ten : Moment
 ten = at_minute (civil_day 2026 7 1) 600
 
-half_past_eleven : CivilMinute
+half_past_eleven : Moment
 half_past_eleven = at_minute (civil_day 2026 7 1) 690
 
-abbrev opened_text : CivilMinute → ℕ → List ℕ → List ℕ
+abbrev opened_text : Moment → ℕ → List ℕ → List ℕ
 opened_text now i text = print (with_opened now i (tree text))
 
-abbrev closed_text : CivilMinute → ℕ → List ℕ → Result (List ℕ) StateFault
+abbrev closed_text : Moment → ℕ → List ℕ → Result (List ℕ) StateFault
 closed_text now i text = result_map_both print (λ fault. fault) (with_closed now i (tree text))
 
 -- clocked in at heading i where a clock runs at heading `from`
-abbrev switched_text : CivilMinute → ℕ → ℕ → List ℕ → Result (Option (List ℕ)) StateFault
+abbrev switched_text : Moment → ℕ → ℕ → List ℕ → Result (Option (List ℕ)) StateFault
 switched_text now from i text = result_map_both (option_map print) (λ fault. fault) (switched now from (tree text) i)
 
 -- ---- in, and out

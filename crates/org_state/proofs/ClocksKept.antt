@@ -6,7 +6,7 @@ use Rattle.std.proofs.lemmas.Bool.{cases_Bool}
 use Rattle.std.proofs.lemmas.List.Quantifiers.{position-Some}
 use Rattle.std.proofs.lemmas.List.Sums.{sum_by-cons}
 use Rattle.org_splice.specs.Lines.{IsLine}
-use Rattle.org_stamp.specs.Calendar.{CivilMinute, IsDay}
+use Rattle.org_stamp.specs.Calendar.{Moment, IsDay}
 use Rattle.org_outline.specs.Text.{level_of}
 use Rattle.org_outline.specs.Tree.{Document, IsPlain, IsValid, Node, node_at, node_count, nodes, no_node, print, tree}
 use Rattle.org_outline.specs.Moves.{IsNode}
@@ -34,14 +34,14 @@ no_star l s = ap level_of s.is ∙ rw s.other refl
 mark_plain : (l : List ℕ) → IsLine l → level_of l ≡ None → IsPlain l
 mark_plain l line none = (line, none)
 
-closed_plain : (now : CivilMinute) (l new : List ℕ) → closed_line now l ≡ Ok new → IsPlain l → IsPlain new
+closed_plain : (now : Moment) (l new : List ℕ) → closed_line now l ≡ Ok new → IsPlain l → IsPlain new
 closed_plain now l new e plain =
     elim (cases_Bool (is_open l)) [
       | inl runs ↦ (closed_is_line now l new e plain.0, no_star new (closed_begins now l new runs e))
       | inr other ↦ subst IsPlain (not_run now l new other e) plain
     ]
 
-first_plain : (now : CivilMinute) (ls new : List (List ℕ)) → closed_first now ls ≡ Ok new → AllByRecursion IsPlain ls → AllByRecursion IsPlain new
+first_plain : (now : Moment) (ls new : List (List ℕ)) → closed_first now ls ≡ Ok new → AllByRecursion IsPlain ls → AllByRecursion IsPlain new
 first_plain now [] new e all = let same : [] ≡ new = cc in subst (AllByRecursion IsPlain) same all
 first_plain now (l ∷ ls) new e all =
     elim (cases_Bool (is_open l)) [
@@ -58,17 +58,17 @@ section_valid i d section lt valid plain =
     let own : IsNode (node_at d i).node = valid_node d i valid lt in
     own_lines_valid i (node_at d i).node.rest section d own.heading.space own.heading.rest (plain own.heading.section) valid
 
-pub opened_valid : (now : CivilMinute) (i : ℕ) (d : Document) → i < node_count d → IsValid d → IsValid (with_opened now i d)
+pub opened_valid : (now : Moment) (i : ℕ) (d : Document) → i < node_count d → IsValid d → IsValid (with_opened now i d)
 opened_valid now i d lt valid =
     section_valid i d (opened_section now d i) lt valid (λ plain. keeps_opened IsPlain now (node_at d i).node.section
     (mark_plain (clock_line now) (opened_is_line now) refl) (mark_plain (codes ":LOGBOOK:") (tested (codes ":LOGBOOK:") refl).flat refl) (mark_plain (codes ":END:") (tested (codes ":END:") refl).flat refl) plain)
 
-pub closed_valid : (now : CivilMinute) (i : ℕ) (d new : Document) → i < node_count d → with_closed now i d ≡ Ok new → IsValid d → IsValid new
+pub closed_valid : (now : Moment) (i : ℕ) (d new : Document) → i < node_count d → with_closed now i d ≡ Ok new → IsValid d → IsValid new
 closed_valid now i d new lt e valid =
     let c = map_ok (with_section_at i d) fault_of_clock (closed_first now (node_at d i).node.section) new e in
     subst IsValid c.2 (section_valid i d c.0 lt valid (first_plain now (node_at d i).node.section c.0 c.1))
 
-pub switched_valid : (now : CivilMinute) (from i : ℕ) (d new : Document) → from < node_count d → i < node_count d → switched now from d i ≡ Ok (Some new) → IsValid d → IsValid new
+pub switched_valid : (now : Moment) (from i : ℕ) (d new : Document) → from < node_count d → i < node_count d → switched now from d i ≡ Ok (Some new) → IsValid d → IsValid new
 switched_valid now from i d new there lt e valid =
     let s = switched_by now from i d new e in
     let count : i < node_count s.middle = omega (arith, lt, closed_count now from d s.middle s.closed) in
@@ -76,13 +76,13 @@ switched_valid now from i d new there lt e valid =
 
 -- ---- so the tree of the new text is what was made
 
-pub opened_reads_back : (now : CivilMinute) (i : ℕ) (t : List ℕ) → i < node_count (tree t) → tree (print (with_opened now i (tree t))) ≡ with_opened now i (tree t)
+pub opened_reads_back : (now : Moment) (i : ℕ) (t : List ℕ) → i < node_count (tree t) → tree (print (with_opened now i (tree t))) ≡ with_opened now i (tree t)
 opened_reads_back now i t lt = tree-print _ (opened_valid now i (tree t) lt (tree-is t).valid)
 
-pub closed_reads_back : (now : CivilMinute) (i : ℕ) (t : List ℕ) (new : Document) → i < node_count (tree t) → with_closed now i (tree t) ≡ Ok new → tree (print new) ≡ new
+pub closed_reads_back : (now : Moment) (i : ℕ) (t : List ℕ) (new : Document) → i < node_count (tree t) → with_closed now i (tree t) ≡ Ok new → tree (print new) ≡ new
 closed_reads_back now i t new lt e = tree-print new (closed_valid now i (tree t) new lt e (tree-is t).valid)
 
-pub switched_reads_back : (now : CivilMinute) (from i : ℕ) (t : List ℕ) (new : Document) → from < node_count (tree t) → i < node_count (tree t) → switched now from (tree t) i ≡ Ok (Some new) → tree (print new) ≡ new
+pub switched_reads_back : (now : Moment) (from i : ℕ) (t : List ℕ) (new : Document) → from < node_count (tree t) → i < node_count (tree t) → switched now from (tree t) i ≡ Ok (Some new) → tree (print new) ≡ new
 switched_reads_back now from i t new there lt e = tree-print new (switched_valid now from i (tree t) new there lt e (tree-is t).valid)
 
 -- ---- the minutes
@@ -93,7 +93,7 @@ line_opens line ls runs = rw runs refl
 line_closes : (l : List ℕ) (ls : List (List ℕ)) → is_open l ≡ false → filter is_open (l ∷ ls) ≡ filter is_open ls
 line_closes l ls other = rw other refl
 
-first_counts : (now : CivilMinute) (ls new : List (List ℕ)) (line : List ℕ) (more : List (List ℕ)) (minutes : ℕ) → IsDay now.day → now.minute < 1440 → filter is_open ls ≡ line ∷ more → minutes_run now line ≡ Some minutes
+first_counts : (now : Moment) (ls new : List (List ℕ)) (line : List ℕ) (more : List (List ℕ)) (minutes : ℕ) → IsDay now.day → now.minute < 1440 → filter is_open ls ≡ line ∷ more → minutes_run now line ≡ Some minutes
     → closed_first now ls ≡ Ok new → sum_by minutes_in new ≡ sum_by minutes_in ls + minutes
 first_counts now [] new line more minutes day minute opens run e = absurd cc
 first_counts now (l ∷ ls) new line more minutes day minute opens run e =
@@ -109,7 +109,7 @@ first_counts now (l ∷ ls) new line more minutes day minute opens run e =
           ap (sum_by minutes_in) (sym later.2) ∙ sum_by-cons minutes_in l later.0 ∙ omega (arith, rest, sum_by-cons minutes_in l ls)
     ]
 
-pub closing_adds : (now : CivilMinute) (i : ℕ) (line : List ℕ) (more : List (ℕ × List ℕ)) (minutes : ℕ) (d new : Document) → IsDay now.day → now.minute < 1440
+pub closing_adds : (now : Moment) (i : ℕ) (line : List ℕ) (more : List (ℕ × List ℕ)) (minutes : ℕ) (d new : Document) → IsDay now.day → now.minute < 1440
     → open_clocks d ≡ (i, line) ∷ more → minutes_run now line ≡ Some minutes → with_closed now i d ≡ Ok new
     → clocked_minutes new i ≡ min (clocked_minutes d i + minutes) 18_446_744_073_709_551_615
 closing_adds now i line more minutes d new day minute opens run e =

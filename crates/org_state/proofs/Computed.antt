@@ -1,7 +1,7 @@
 -- A change of a state, computed.
 use Rattle.std.proofs.Common.{◌≡◌, ℕ, Bool, true, false, Option, Some, None, Result, Ok, Err, List, sym, ap, ◌∙◌}
 use Rattle.std.specs.Result.{result_map_both}
-use Rattle.org_stamp.specs.Calendar.{CivilMinute}
+use Rattle.org_stamp.specs.Calendar.{Moment}
 use Rattle.org_outline.specs.States.{Keywords}
 use Rattle.org_outline.specs.Tree.{Document}
 use Rattle.org_meta.specs.Planning.{PlanningLine}
@@ -11,7 +11,7 @@ use Rattle.org_state.specs.declared.fault.StateFault.{StateFault}
 use Rattle.org_state.specs.Keyword.{keyword_in}
 use Rattle.org_state.specs.Todo.{Own, changed, first_active, repeating, repeated_parts, TurnsDone, Turns, is_done, own_at, with_own_at, heading_to_change, IsTodoAt, IsTodo, turned_done, turned, todo_at, todo}
 
-module _ (states : Keywords) (state : List ℕ) (now : CivilMinute) where
+module _ (states : Keywords) (state : List ℕ) (now : Moment) where
   done_computed : (own : Own) (o : Option PlanningLine) (r : Result Own StateFault) → TurnsDone states state now own o r → turned_done states state now own o ≡ r
   done_computed own None r is = sym is
   done_computed own (Some p) r (text, are, is) =
@@ -31,6 +31,6 @@ module _ (states : Keywords) (state : List ℕ) (now : CivilMinute) where
       ap (result_map_both (λ own. Some (with_own_at i d own)) (λ fault. fault))
       (turn_computed (is_done states (keyword_in states (own_at d i).rest)) (is_done states state) (own_at d i) own changes) ∙ sym is
 
-pub todo_computed : (states : Keywords) (path : List (List ℕ)) (state : List ℕ) (now : CivilMinute) (d : Document) (r : Result (Option Document) StateFault) → IsTodo states path state now d r
+pub todo_computed : (states : Keywords) (path : List (List ℕ)) (state : List ℕ) (now : Moment) (d : Document) (r : Result (Option Document) StateFault) → IsTodo states path state now d r
     → todo states path state now d ≡ r
 todo_computed states path state now d r is = at_computed states state now d (heading_to_change states path state d) r is

@@ -3,6 +3,7 @@ pub mod Words
 pub mod Fronts
 pub mod Turning
 pub mod Searches
+pub mod Known
 pub mod Switching
 pub mod Both
 pub mod One

@@ -2,7 +2,7 @@
 use Rattle.std.proofs.Common.{◌≡◌, ℕ, Bool, true, false, Option, Some, None, Ok, Err, List, [], ◌∷◌, sym, ap, subst, ◌∙◌}
 use Rattle.std.specs.Prelude.{Result, MatchBool, MatchResult}
 use Rattle.std.specs.Result.{result_map_both}
-use Rattle.org_stamp.specs.Calendar.{CivilMinute}
+use Rattle.org_stamp.specs.Calendar.{Moment}
 use Rattle.org_stamp.specs.Stamp.{StampValue}
 use Rattle.org_stamp.specs.Repeat.{IsRepeated}
 use Rattle.org_stamp.specs.declared.fault.RepeatFault.{RepeatFault}
@@ -25,7 +25,7 @@ unfolding ByStamp
 by_stamp e (Ok x) r s a b = a ∙ sym b
 by_stamp e (Err fault) r s a b = a ∙ sym b
 
-module _ (e : PlanningEntry) (now : CivilMinute) where
+module _ (e : PlanningEntry) (now : Moment) where
   ByTests : Bool → Bool → Result (List ℕ) PlanningFault → Type 0
   ByTests closed again r =
       MatchBool closed (r ≡ Ok [])
@@ -44,23 +44,23 @@ module _ (e : PlanningEntry) (now : CivilMinute) where
   one_entry r s a b = by_tests (is_closed e) (is_repeating e) r s a b
 
 -- what all become, the first of them known
-Behind : List PlanningEntry → CivilMinute → Result (List ℕ) PlanningFault → Result (List ℕ) PlanningFault → Type 0
+Behind : List PlanningEntry → Moment → Result (List ℕ) PlanningFault → Result (List ℕ) PlanningFault → Type 0
 Behind es now first r = MatchResult first (λ text. (more : Result (List ℕ) PlanningFault) × AreRepeated es now more × (r ≡ behind_text text more)) (λ fault. r ≡ Err fault)
 
-mutual_text : (es : List PlanningEntry) (now : CivilMinute) (first r s : Result (List ℕ) PlanningFault)
+mutual_text : (es : List PlanningEntry) (now : Moment) (first r s : Result (List ℕ) PlanningFault)
     → ((x y : Result (List ℕ) PlanningFault) → AreRepeated es now x → AreRepeated es now y → x ≡ y) → Behind es now first r → Behind es now first s → r ≡ s
 unfolding Behind
 mutual_text es now (Ok text) r s same a b = a.2 ∙ ap (behind_text text) (same a.0 b.0 a.1 b.1) ∙ sym b.2
 mutual_text es now (Err fault) r s same a b = a ∙ sym b
 
-pub one_text : (es : List PlanningEntry) (now : CivilMinute) (r s : Result (List ℕ) PlanningFault) → AreRepeated es now r → AreRepeated es now s → r ≡ s
+pub one_text : (es : List PlanningEntry) (now : Moment) (r s : Result (List ℕ) PlanningFault) → AreRepeated es now r → AreRepeated es now s → r ≡ s
 unfolding Behind
 one_text [] now r s a b = a ∙ sym b
 one_text (e ∷ es) now r s a b =
     let same : b.0 ≡ a.0 = one_entry e now b.0 a.0 b.1 a.1 in
     mutual_text es now a.0 r s (one_text es now) a.2 (subst (λ (first : Result (List ℕ) PlanningFault). Behind es now first s) same b.2)
 
-module _ (states : Keywords) (state : List ℕ) (now : CivilMinute) where
+module _ (states : Keywords) (state : List ℕ) (now : Moment) where
   one_done : (own : Own) (o : Option PlanningLine) (r s : Result Own StateFault) → TurnsDone states state now own o r → TurnsDone states state now own o s → r ≡ s
   one_done own None r s a b = a ∙ sym b
   one_done own (Some p) r s a b =
@@ -83,6 +83,6 @@ module _ (states : Keywords) (state : List ℕ) (now : CivilMinute) where
       let same : a.0 ≡ b.0 = one_turn (is_done states (keyword_in states own.rest)) (is_done states state) own a.0 b.0 a.1 b.1 in
       a.2 ∙ ap (result_map_both (λ own. Some (with_own_at i d own)) (λ fault. fault)) same ∙ sym b.2
 
-pub one_outcome : (states : Keywords) (path : List (List ℕ)) (state : List ℕ) (now : CivilMinute) (d : Document) (r q : Result (Option Document) StateFault)
+pub one_outcome : (states : Keywords) (path : List (List ℕ)) (state : List ℕ) (now : Moment) (d : Document) (r q : Result (Option Document) StateFault)
     → IsTodo states path state now d r → IsTodo states path state now d q → r ≡ q
 one_outcome states path state now d r q a b = one_at states state now d (heading_to_change states path state d) r q a b

@@ -8,7 +8,7 @@ use Rattle.std.proofs.lemmas.Bool.{cases_Bool, false≢true}
 use Rattle.std.proofs.lemmas.List.{map-append}
 use Rattle.std.proofs.lemmas.List.Elements.{filter-append}
 use Rattle.std.proofs.lemmas.List.Quantifiers.{position-Some}
-use Rattle.org_stamp.specs.Calendar.{CivilMinute, IsDay}
+use Rattle.org_stamp.specs.Calendar.{Moment, IsDay}
 use Rattle.org_outline.specs.Tree.{Document, Placed, nodes, node_at, node_count, no_node}
 use Rattle.org_outline.proofs.Rewriting.{count-rewritten, node-rewritten}
 use Rattle.org_meta.specs.declared.fault.ClockFault.{ClockFault}
@@ -255,7 +255,7 @@ logged_adds line ls runs = by_log (in_logbook line ls) (in_log line ls runs)
     by_log None a = record { before = []; after = filter is_open ls; was = refl; is = line_opens line (codes ":END:" ∷ ls) runs }
     by_log (Some new) a = a
 
-section_adds : (now : CivilMinute) (ls : List (List ℕ)) → is_open (clock_line now) ≡ true → Adds (clock_line now) (filter is_open ls) (filter is_open (joined (opened now (split ls))))
+section_adds : (now : Moment) (ls : List (List ℕ)) → is_open (clock_line now) ≡ true → Adds (clock_line now) (filter is_open ls) (filter is_open (joined (opened now (split ls))))
 section_adds now ls runs =
     let line : List ℕ = clock_line now in
     let a : List (List ℕ) = (split ls).planning in
@@ -272,7 +272,7 @@ section_adds now ls runs =
 line_closes : (l : List ℕ) (ls : List (List ℕ)) → is_open l ≡ false → filter is_open (l ∷ ls) ≡ filter is_open ls
 line_closes l ls other = rw other refl
 
-pub section_loses : (now : CivilMinute) (ls new : List (List ℕ)) → closed_first now ls ≡ Ok new → filter is_open new ≡ drop 1 (filter is_open ls)
+pub section_loses : (now : Moment) (ls new : List (List ℕ)) → closed_first now ls ≡ Ok new → filter is_open new ≡ drop 1 (filter is_open ls)
 section_loses now [] new e = let same : [] ≡ new = cc in ap (λ (ls : List (List ℕ)). filter is_open ls) (sym same)
 section_loses now (l ∷ ls) new e =
     elim (cases_Bool (is_open l)) [
@@ -291,7 +291,7 @@ section_loses now (l ∷ ls) new e =
 section_there : (i : ℕ) (d : Document) (section : List (List ℕ)) → i < node_count d → (node_at (with_section_at i d section) i).node.section ≡ section
 section_there i d section lt = ap (λ n. n.section) (node-rewritten i (node_at d i).node.rest section d lt).1
 
-pub opened_adds : (now : CivilMinute) (i : ℕ) (d : Document) → IsDay now.day → now.minute < 1440 → i < node_count d → Adds (i, clock_line now) (open_clocks d) (open_clocks (with_opened now i d))
+pub opened_adds : (now : Moment) (i : ℕ) (d : Document) → IsDay now.day → now.minute < 1440 → i < node_count d → Adds (i, clock_line now) (open_clocks d) (open_clocks (with_opened now i d))
 opened_adds now i d day minute lt =
     let line : List ℕ = clock_line now in
     let rest : List ℕ = (node_at d i).node.rest in
@@ -301,7 +301,7 @@ opened_adds now i d day minute lt =
     (subst (λ (ls : List (List ℕ)). Adds line (filter is_open (node_at d i).node.section) (filter is_open ls)) (sym (section_there i d section lt))
     (section_adds now (node_at d i).node.section (opened_is_open now day minute)))
 
-pub closed_loses : (now : CivilMinute) (i : ℕ) (d new : Document) → running_heading d ≡ Some i → with_closed now i d ≡ Ok new → open_clocks new ≡ drop 1 (open_clocks d)
+pub closed_loses : (now : Moment) (i : ℕ) (d new : Document) → running_heading d ≡ Some i → with_closed now i d ≡ Ok new → open_clocks new ≡ drop 1 (open_clocks d)
 closed_loses now i d new runs e =
     let c = map_ok (with_section_at i d) fault_of_clock (closed_first now (node_at d i).node.section) new e in
     let rest : List ℕ = (node_at d i).node.rest in
@@ -312,12 +312,12 @@ closed_loses now i d new runs e =
 
 -- ---- from one heading to another
 
-pub record Switched (now : CivilMinute) (from i : ℕ) (d new : Document) : Type 0 where
+pub record Switched (now : Moment) (from i : ℕ) (d new : Document) : Type 0 where
   pub middle : Document
   pub closed : with_closed now from d ≡ Ok middle
   pub opened : with_opened now i middle ≡ new
 
-pub switched_by : (now : CivilMinute) (from i : ℕ) (d new : Document) → switched now from d i ≡ Ok (Some new) → Switched now from i d new
+pub switched_by : (now : Moment) (from i : ℕ) (d new : Document) → switched now from d i ≡ Ok (Some new) → Switched now from i d new
 switched_by now from i d new e =
     elim (cases_Bool (eqb i from)) [
       | inl same ↦ absurd (let none = rw same at e in cc)
@@ -326,7 +326,7 @@ switched_by now from i d new e =
           record { middle = c.0; closed = c.1; opened = let both : Some (with_opened now i c.0) ≡ Some new = c.2 in cc }
     ]
 
-pub closed_count : (now : CivilMinute) (i : ℕ) (d new : Document) → with_closed now i d ≡ Ok new → node_count new ≡ node_count d
+pub closed_count : (now : Moment) (i : ℕ) (d new : Document) → with_closed now i d ≡ Ok new → node_count new ≡ node_count d
 closed_count now i d new e =
     let c = map_ok (with_section_at i d) fault_of_clock (closed_first now (node_at d i).node.section) new e in
     ap node_count (sym c.2) ∙ count-rewritten i (node_at d i).node.rest c.0 d
@@ -339,13 +339,13 @@ clock_runs i line more d one = first_runs d ∙ ap (λ (cs : List (ℕ × List �
 one_runs : (i : ℕ) (line : List ℕ) (d : Document) → open_clocks d ≡ (i, line) ∷ [] → running_heading d ≡ Some i
 one_runs i line d one = clock_runs i line [] d one
 
-pub one_opened : (now : CivilMinute) (i : ℕ) (d : Document) → IsDay now.day → now.minute < 1440 → i < node_count d → open_clocks d ≡ [] → open_clocks (with_opened now i d) ≡ (i, clock_line now) ∷ []
+pub one_opened : (now : Moment) (i : ℕ) (d : Document) → IsDay now.day → now.minute < 1440 → i < node_count d → open_clocks d ≡ [] → open_clocks (with_opened now i d) ≡ (i, clock_line now) ∷ []
 one_opened now i d day minute lt none = adds_alone (i, clock_line now) (open_clocks d) (open_clocks (with_opened now i d)) (opened_adds now i d day minute lt) none
 
-pub one_closed : (now : CivilMinute) (i : ℕ) (line : List ℕ) (d new : Document) → open_clocks d ≡ (i, line) ∷ [] → with_closed now i d ≡ Ok new → open_clocks new ≡ []
+pub one_closed : (now : Moment) (i : ℕ) (line : List ℕ) (d new : Document) → open_clocks d ≡ (i, line) ∷ [] → with_closed now i d ≡ Ok new → open_clocks new ≡ []
 one_closed now i line d new one e = closed_loses now i d new (one_runs i line d one) e ∙ ap (λ (cs : List (ℕ × List ℕ)). drop 1 cs) one
 
-pub one_stays_one : (now : CivilMinute) (from i : ℕ) (line : List ℕ) (d new : Document) → IsDay now.day → now.minute < 1440 → i < node_count d
+pub one_stays_one : (now : Moment) (from i : ℕ) (line : List ℕ) (d new : Document) → IsDay now.day → now.minute < 1440 → i < node_count d
     → open_clocks d ≡ (from, line) ∷ [] → switched now from d i ≡ Ok (Some new) → open_clocks new ≡ (i, clock_line now) ∷ []
 one_stays_one now from i line d new day minute lt one e =
     let s = switched_by now from i d new e in

@@ -1,7 +1,7 @@
 -- The definitions on worked examples.
 use Rattle.std.proofs.Common.{◌≡◌, ℕ, List, [], ◌∷◌, ◌++◌, codes, refl}
 use Rattle.std.specs.Prelude.{Option, None, Some, Result, Ok, Err}
-use Rattle.org_stamp.specs.Calendar.{CivilMinute, civil_day, at_minute}
+use Rattle.org_stamp.specs.Calendar.{Moment, civil_day, at_minute}
 use Rattle.org_outline.specs.States.{Keywords}
 use Rattle.org_outline.specs.Tree.{Document, tree}
 use Rattle.org_meta.specs.declared.fault.PlanningFault.TheVariants as planning
@@ -18,7 +18,7 @@ line l = l ++ 10 ∷ []
 states : Keywords
 states = record { active = codes "TODO" ∷ codes "NEXT" ∷ []; done = codes "DONE" ∷ codes "GONE" ∷ [] }
 
-now : CivilMinute
+now : Moment
 now = at_minute (civil_day 2026 7 1) 600
 
 -- what putting the heading A into a state makes of a text

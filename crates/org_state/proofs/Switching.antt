@@ -13,7 +13,7 @@ use Rattle.org_splice.specs.declared.edit.Edit.{Edit}
 use Rattle.org_splice.specs.Edits.{edited, AreEdits}
 use Rattle.org_splice.proofs.Lines.{print_lines-append, lines_of-append, terminated-print_lines}
 use Rattle.org_splice.proofs.Places.{edits_in_place}
-use Rattle.org_stamp.specs.Calendar.{CivilMinute}
+use Rattle.org_stamp.specs.Calendar.{Moment}
 use Rattle.org_stamp.proofs.Found.{bind_ok}
 use Rattle.org_outline.specs.Text.{heading_line}
 use Rattle.org_outline.specs.Tree.{Document, Node, print, tree, nodes, node_at, node_count, no_node}
@@ -47,7 +47,7 @@ pub section_made : (t : List ℕ) (i : ℕ) (e : Edit) (new : List (List ℕ)) �
 section_made t i e new stays_terminated lt edits =
     subst (λ (u : List ℕ). AreEdits (e ∷ []) u (print (with_section_at i (tree t) new))) (prints t stays_terminated) (section_made_in (tree t) i e new lt edits)
 
-pub opening_edits : (d : Document) (i : ℕ) (now : CivilMinute) (section : List ℕ) (e e2 : Edit)
+pub opening_edits : (d : Document) (i : ℕ) (now : Moment) (section : List ℕ) (e e2 : Edit)
     → section ≡ print_lines (node_at d i).node.section → lines_of section ≡ (node_at d i).node.section
     → GivesParts e section (opened now (parts_of section)) → e2 ≡ moved (section_start d i) e → EditsSection e2 d i (opened_section now d i)
 opening_edits d i now section e e2 bytes lines gives at =
@@ -70,18 +70,18 @@ pub record FirstOpen (section : List (List ℕ)) (span : Span) : Type 0 where
   pub start : span.start ≡ length (print_lines before)
   pub end : span.end ≡ length (print_lines before) + length line + 1
   pub runs : is_open line ≡ true
-  pub closes : (now : CivilMinute) (terminated : List ℕ) → closed_line now line ≡ Ok terminated → closed_first now section ≡ Ok (before ++ (terminated ∷ after))
-  pub refuses : (now : CivilMinute) (fault : ClockFault) → closed_line now line ≡ Err fault → closed_first now section ≡ Err fault
+  pub closes : (now : Moment) (terminated : List ℕ) → closed_line now line ≡ Ok terminated → closed_first now section ≡ Ok (before ++ (terminated ∷ after))
+  pub refuses : (now : Moment) (fault : ClockFault) → closed_line now line ≡ Err fault → closed_first now section ≡ Err fault
 
 map_some : {A B : Type 0} (f : A → B) (o : Option A) (y : B) → option_map f o ≡ Some y → (x : A) × (o ≡ Some x) × (f x ≡ y)
 map_some f None y e = absurd cc
 map_some f (Some x) y e = (x, refl, cc)
 
-first_closes : (now : CivilMinute) (l : List ℕ) (ls : List (List ℕ)) (r : Result (List ℕ) ClockFault) → is_open l ≡ true → closed_line now l ≡ r
+first_closes : (now : Moment) (l : List ℕ) (ls : List (List ℕ)) (r : Result (List ℕ) ClockFault) → is_open l ≡ true → closed_line now l ≡ r
     → closed_first now (l ∷ ls) ≡ result_map_both (λ terminated. terminated ∷ ls) (λ fault. fault) r
 first_closes now l ls r runs is = rw runs (ap (result_map_both (λ terminated. terminated ∷ ls) (λ fault. fault)) is)
 
-later_closes : (now : CivilMinute) (l : List ℕ) (ls : List (List ℕ)) (r : Result (List (List ℕ)) ClockFault) → is_open l ≡ false → closed_first now ls ≡ r
+later_closes : (now : Moment) (l : List ℕ) (ls : List (List ℕ)) (r : Result (List (List ℕ)) ClockFault) → is_open l ≡ false → closed_first now ls ≡ r
     → closed_first now (l ∷ ls) ≡ result_map_both (λ more. l ∷ more) (λ fault. fault) r
 later_closes now l ls r other is = rw other (ap (result_map_both (λ more. l ∷ more) (λ fault. fault)) is)
 
@@ -247,7 +247,7 @@ module _ (t : List ℕ) (r : Running) (s : Stands t r) where
   ok_line e (Ok new) g = (new, refl, g)
   ok_line e (Err fault) g = absurd g
 
-  pub closing_edits : (now : CivilMinute) (e e2 : Edit) → Closes now (part t r.line) (record { start = 0; end = length (part t r.line) }) e
+  pub closing_edits : (now : Moment) (e e2 : Edit) → Closes now (part t r.line) (record { start = 0; end = length (part t r.line) }) e
       → e2 ≡ moved r.line.start e
       → (new : List (List ℕ)) × (closed_first now (node_at (tree t) r.heading).node.section ≡ Ok new) × EditsSection e2 (tree t) r.heading new
   closing_edits now e e2 closes at =
@@ -265,14 +265,14 @@ module _ (t : List ℕ) (r : Running) (s : Stands t r) where
   pub closing_in : (e2 : Edit) (new : List (List ℕ)) → terminated t ≡ t → EditsSection e2 (tree t) r.heading new → e2.at + e2.removed ≤ length t
   closing_in e2 new stays_terminated edits = (section_made t r.heading e2 new stays_terminated s.heading edits).0
 
-  pub closing_refused : (now : CivilMinute) (fault : ClockFault) → ClosesNot now (part t r.line) (record { start = 0; end = length (part t r.line) }) fault
+  pub closing_refused : (now : Moment) (fault : ClockFault) → ClosesNot now (part t r.line) (record { start = 0; end = length (part t r.line) }) fault
       → ClosesSection now (tree t) r.heading (Err (fault_of_clock fault))
   closing_refused now clock.ClockBackwards why =
       ap (result_map_both (with_section_at r.heading (tree t)) fault_of_clock) (s.first.refuses now clock.ClockBackwards (why [] s.first.line [] line_alone))
   closing_refused now clock.OutOfMemory why =
       let can = why [] s.first.line [] line_alone in (s.first.before ++ (can.0 ∷ s.first.after), s.first.closes now can.0 can.1)
 
-  pub closing_answers : (now : CivilMinute) (result : Result Edit StateFault) → terminated t ≡ t → ClosesSection now (tree t) r.heading result → AnswersClosing now t r.heading result
+  pub closing_answers : (now : Moment) (result : Result Edit StateFault) → terminated t ≡ t → ClosesSection now (tree t) r.heading result → AnswersClosing now t r.heading result
   closing_answers now (Ok e) stays_terminated a =
       let d : Document = tree t in
       (with_section_at r.heading d a.0, ap (result_map_both (with_section_at r.heading d) fault_of_clock) a.1, section_made t r.heading e a.0 stays_terminated s.heading a.2)

@@ -9,7 +9,7 @@ use Rattle.org_splice.specs.Lines.{terminated, lines_of, print_lines, IsLine}
 use Rattle.org_splice.specs.Edits.{AreEdits}
 use Rattle.org_splice.specs.declared.edit.Edit.{Edit}
 use Rattle.org_splice.proofs.Lines.{lines_of-print_lines}
-use Rattle.org_stamp.specs.Calendar.{CivilMinute}
+use Rattle.org_stamp.specs.Calendar.{Moment}
 use Rattle.std.specs.List.{AllByRecursion}
 use Rattle.org_outline.specs.States.{Keywords}
 use Rattle.org_outline.specs.Paths.{find_path}
@@ -94,7 +94,7 @@ planning_alone ls line all is =
     ap split lines ∙ split_planning ls
 
 -- a planning line that was repeated, and what it was
-pub record IsRepeating (now : CivilMinute) (ls : List (List ℕ)) (e : Edit) : Type 0 where
+pub record IsRepeating (now : Moment) (ls : List (List ℕ)) (e : Edit) : Type 0 where
   pub line : PlanningLine
   pub text : List ℕ
   pub is : repeating ls ≡ Some line
@@ -104,7 +104,7 @@ pub record IsRepeating (now : CivilMinute) (ls : List (List ℕ)) (e : Edit) : T
 repeating_some : (l : List ℕ) (ls : List (List ℕ)) (p : PlanningLine) → planning_of l ≡ Some p → has_repeater p.entries ≡ true → repeating (l ∷ ls) ≡ Some p
 repeating_some l ls p is some = ap if_repeating is ∙ (let yes : if_repeating (Some p) ≡ Some p = rw some refl in yes)
 
-repeated_in : (now : CivilMinute) (ls all : List (List ℕ)) (e : Edit) → GivesRepeatedIn now (record { planning = all; drawer = []; rest = [] }) (print_lines ls) e ls → IsRepeating now ls e
+repeated_in : (now : Moment) (ls all : List (List ℕ)) (e : Edit) → GivesRepeatedIn now (record { planning = all; drawer = []; rest = [] }) (print_lines ls) e ls → IsRepeating now ls e
 repeated_in now [] all e g = absurd g
 repeated_in now (l ∷ ls) all e g = record {
   line = g.planning;
@@ -114,14 +114,14 @@ repeated_in now (l ∷ ls) all e g = record {
   gives = g.gives;
 }
 
-pub repeated_alone : (now : CivilMinute) (ls : List (List ℕ)) (e : Edit) → AllByRecursion IsLine ls
+pub repeated_alone : (now : Moment) (ls : List (List ℕ)) (e : Edit) → AllByRecursion IsLine ls
     → GivesRepeated now (parts_of (print_lines (split ls).planning)) (print_lines (split ls).planning) (Some e) → IsRepeating now (split ls).planning e
 repeated_alone now ls e all g =
     let P : SectionParts → Type 0 = λ parts. GivesRepeated now parts (print_lines (split ls).planning) (Some e) in
     repeated_in now (split ls).planning (split ls).planning e (subst P (planning_alone ls (print_lines (split ls).planning) all refl) g)
 
 -- why a planning line can't be repeated
-repeat_faults : (states : Keywords) (state : List ℕ) (now : CivilMinute) (own : Own) (parts : SectionParts) (ls : List (List ℕ)) (fault : PlanningFault)
+repeat_faults : (states : Keywords) (state : List ℕ) (now : Moment) (own : Own) (parts : SectionParts) (ls : List (List ℕ)) (fault : PlanningFault)
     → split own.section ≡ record parts { planning = ls } → FaultRepeated now ls fault → TurnsDone states state now own (repeating ls) (Err (fault_of_planning fault))
 repeat_faults states state now own parts [] fault is wrong = absurd wrong
 repeat_faults states state now own parts (l ∷ ls) fault is (inl odd) =
@@ -137,7 +137,7 @@ repeat_faults states state now own parts (l ∷ ls) fault is (inr wrong) =
 planning_is : (ls : List (List ℕ)) (line : List ℕ) → AllByRecursion IsLine ls → line ≡ print_lines (split ls).planning → (parts_of line).planning ≡ (split ls).planning
 planning_is ls line all is = ap (λ (p : SectionParts). p.planning) (planning_alone ls line all is)
 
-pub repeat_refused : (states : Keywords) (state : List ℕ) (now : CivilMinute) (own : Own) (line : List ℕ) (fault : PlanningFault) → AllByRecursion IsLine own.section → line ≡ print_lines (split own.section).planning
+pub repeat_refused : (states : Keywords) (state : List ℕ) (now : Moment) (own : Own) (line : List ℕ) (fault : PlanningFault) → AllByRecursion IsLine own.section → line ≡ print_lines (split own.section).planning
     → (fault ≡ planning.OutOfMemory) ⊎ FaultRepeated now (parts_of line).planning fault
     → (fault ≡ planning.OutOfMemory) ⊎ TurnsDone states state now own (repeating (split own.section).planning) (Err (fault_of_planning fault))
 repeat_refused states state now own line fault all is (inl memory) = inl memory
@@ -146,7 +146,7 @@ repeat_refused states state now own line fault all is (inr wrong) =
     inr (repeat_faults states state now own (split own.section) (split own.section).planning fault refl (subst P (planning_is own.section line all is) wrong))
 
 -- where nothing repeats, the entry is closed
-pub nothing_repeats : (now : CivilMinute) (ls : List (List ℕ)) (line : List ℕ) (made : Option Edit) → AllByRecursion IsLine ls → line ≡ print_lines (split ls).planning
+pub nothing_repeats : (now : Moment) (ls : List (List ℕ)) (line : List ℕ) (made : Option Edit) → AllByRecursion IsLine ls → line ≡ print_lines (split ls).planning
     → GivesRepeated now (parts_of line) line made → made ≡ None → repeating (split ls).planning ≡ None
 nothing_repeats now ls line made all is gives none =
     let P : Option Edit → Type 0 = λ made. GivesRepeated now (parts_of line) line made in
@@ -160,7 +160,7 @@ property_within ls front bytes p e is whole g =
     let all : front ≡ print_lines ((split ls).planning ++ (split ls).drawer) = is ∙ ap (λ (d : List (List ℕ)). print_lines ((split ls).planning ++ d)) (append-nil (split ls).drawer) in
     omega (arith, g.within, front_short ls, ap length all, ap length whole)
 
-pub planning_within : (now : CivilMinute) (ls : List (List ℕ)) (e : Edit) → AllByRecursion IsLine ls
+pub planning_within : (now : Moment) (ls : List (List ℕ)) (e : Edit) → AllByRecursion IsLine ls
     → GivesRepeated now (parts_of (print_lines (split ls).planning)) (print_lines (split ls).planning) (Some e) → e.at + e.removed ≤ length (print_lines ls)
 planning_within now ls e all g = let r = repeated_alone now ls e all g in omega (arith, r.gives.within, planning_short ls)
 
@@ -184,7 +184,7 @@ property_put ls front name value stamp e all is same g =
     all_front (l ∷ a) b p = (p.0, all_front a b p.1)
 
 -- The edits of a repeated task: a note, a property, a planning line and a keyword.
-pub repeat_made : (states : Keywords) (state : List ℕ) (now : CivilMinute) (t : List ℕ) (i : ℕ) (section front old stamp active : List ℕ) (a b c a2 b2 c2 k : Edit) (items : List Edit)
+pub repeat_made : (states : Keywords) (state : List ℕ) (now : Moment) (t : List ℕ) (i : ℕ) (section front old stamp active : List ℕ) (a b c a2 b2 c2 k : Edit) (items : List Edit)
     → terminated t ≡ t → i < node_count (tree t)
     → section ≡ print_lines (node_at (tree t) i).node.section → lines_of section ≡ (node_at (tree t) i).node.section
     → front ≡ print_lines (joined (record (split (node_at (tree t) i).node.section) { rest = [] }))
@@ -219,7 +219,7 @@ repeat_made states state now t i section front old stamp active a b c a2 b2 c2 k
 
 -- ---- the keyword alone
 
-pub kept : (was is : Bool) (states : Keywords) (state : List ℕ) (now : CivilMinute) (own : Own) (t : List ℕ) (i : ℕ) (result : Result (Vec Edit Global) StateFault)
+pub kept : (was is : Bool) (states : Keywords) (state : List ℕ) (now : Moment) (own : Own) (t : List ℕ) (i : ℕ) (result : Result (Vec Edit Global) StateFault)
     → was ≡ is → AnswersOwn (λ r. r ≡ Ok (with_lines states state own own.section)) t i result → AnswersOwn (Turns was is states state now own) t i result
 kept true true states state now own t i result e answers = answers
 kept false false states state now own t i result e answers = answers
@@ -229,7 +229,7 @@ kept false true states state now own t i result e answers = absurd (true≢false
 -- ---- an entry that turns
 
 -- the change of an entry that was done, or not, and is to be, or not
-pub turned : (was is : Bool) (states : Keywords) (state : List ℕ) (now : CivilMinute) (own : Own) (t : List ℕ) (i : ℕ) (result : Result (Vec Edit Global) StateFault)
+pub turned : (was is : Bool) (states : Keywords) (state : List ℕ) (now : Moment) (own : Own) (t : List ℕ) (i : ℕ) (result : Result (Vec Edit Global) StateFault)
     → is_done states (keyword_in states own.rest) ≡ was → is_done states state ≡ is → AnswersOwn (Turns was is states state now own) t i result
     → AnswersOwn (IsChanged states state now own) t i result
 turned was is states state now own t i result was_is is_is answers =
@@ -238,7 +238,7 @@ turned was is states state now own t i result was_is is_is answers =
 
 -- ---- a document
 
-pub todo_answers : (states : Keywords) (path : List (List ℕ)) (state : List ℕ) (now : CivilMinute) (t : List ℕ) (i : ℕ) (result : Result (Vec Edit Global) StateFault)
+pub todo_answers : (states : Keywords) (path : List (List ℕ)) (state : List ℕ) (now : Moment) (t : List ℕ) (i : ℕ) (result : Result (Vec Edit Global) StateFault)
     → find_path states (tree t) path ≡ Ok i → is_state states state ≡ true → bytes_eq (keyword_in states (node_at (tree t) i).node.rest) state ≡ false
     → AnswersOwn (IsChanged states state now (own_at (tree t) i)) t i result → AnswersTodo states path state now t result
 todo_answers states path state now t i result found known other answers = by_result result answers

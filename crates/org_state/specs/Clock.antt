@@ -9,7 +9,7 @@ use Rattle.std.specs.Result.{result_map_both}
 use Rattle.org_splice.specs.declared.Span.{Span}
 use Rattle.org_splice.specs.declared.edit.Edit.{Edit}
 use Rattle.org_splice.specs.Edits.{AreEdits}
-use Rattle.org_stamp.specs.Calendar.{CivilMinute}
+use Rattle.org_stamp.specs.Calendar.{Moment}
 use Rattle.org_stamp.specs.Parts.{◌>>=◌}
 use Rattle.org_outline.specs.declared.paths.PathFault.{PathFault}
 use Rattle.org_outline.specs.States.{Keywords}
@@ -61,11 +61,11 @@ abbrev pub with_section_at : ℕ → Document → List (List ℕ) → Document
 with_section_at i d section = with_own_lines i (node_at d i).node.rest section d
 
 -- its section with an open clock line
-abbrev pub opened_section : CivilMinute → Document → ℕ → List (List ℕ)
+abbrev pub opened_section : Moment → Document → ℕ → List (List ℕ)
 opened_section now d i = joined (opened now (split (node_at d i).node.section))
 
 -- a clock opened at heading i; no other is closed
-abbrev pub with_opened : CivilMinute → ℕ → Document → Document
+abbrev pub with_opened : Moment → ℕ → Document → Document
 with_opened now i d = with_section_at i d (opened_section now d i)
 
 -- ---- out
@@ -75,14 +75,14 @@ fault_of_clock clock.ClockBackwards = ClockBackwards
 fault_of_clock clock.OutOfMemory = OutOfMemory
 
 -- lines with the first open clock line closed, unless the moment is before its start
-abbrev pub closed_first : CivilMinute → List (List ℕ) → Result (List (List ℕ)) ClockFault
+abbrev pub closed_first : Moment → List (List ℕ) → Result (List (List ℕ)) ClockFault
 closed_first now [] = Ok []
 closed_first now (l ∷ ls) =
     if is_open l then result_map_both (λ closed. closed ∷ ls) (λ fault. fault) (closed_line now l)
     else result_map_both (λ more. l ∷ more) (λ fault. fault) (closed_first now ls)
 
 -- the first clock that runs at heading i closed
-abbrev pub with_closed : CivilMinute → ℕ → Document → Result Document StateFault
+abbrev pub with_closed : Moment → ℕ → Document → Result Document StateFault
 with_closed now i d =
     result_map_both (with_section_at i d) fault_of_clock
     (closed_first now (node_at d i).node.section)
@@ -91,14 +91,14 @@ with_closed now i d =
 
 -- a clock opened at heading i, the one that runs at heading `from` closed; nothing changes where
 -- both are one heading
-abbrev pub switched : CivilMinute → ℕ → Document → ℕ → Result (Option Document) StateFault
+abbrev pub switched : Moment → ℕ → Document → ℕ → Result (Option Document) StateFault
 switched now from d i =
     if i == from then Ok None
     else result_map_both (λ closed. Some (with_opened now i closed)) (λ fault. fault)
     (with_closed now from d)
 
 -- at the heading that was found
-abbrev pub switched_at : CivilMinute → ℕ → Document → Result ℕ PathFault
+abbrev pub switched_at : Moment → ℕ → Document → Result ℕ PathFault
     → Result (Option Document) StateFault
 switched_at now from d (Ok i) = switched now from d i
 switched_at now from d (Err fault) = Err (fault_of_path fault)
@@ -120,7 +120,7 @@ clocked_at states path d =
 
 -- an edit that opens a clock at the heading at a path, or why there is no such heading; memory is
 -- wanted only where there is
-abbrev pub AnswersOpening : Keywords → List (List ℕ) → CivilMinute → List ℕ → Result Edit StateFault
+abbrev pub AnswersOpening : Keywords → List (List ℕ) → Moment → List ℕ → Result Edit StateFault
     → Type 0
 AnswersOpening states path now text (Ok edit) =
     (i : ℕ)
@@ -133,7 +133,7 @@ AnswersOpening states path now text (Err fault) =
 
 -- an edit that closes the first clock that runs at heading i, or why it can't be closed; memory is
 -- wanted only where it can
-abbrev pub AnswersClosing : CivilMinute → List ℕ → ℕ → Result Edit StateFault → Type 0
+abbrev pub AnswersClosing : Moment → List ℕ → ℕ → Result Edit StateFault → Type 0
 AnswersClosing now text i (Ok edit) =
     (new : Document)
     × (with_closed now i (tree text) ≡ Ok new)
@@ -143,7 +143,7 @@ AnswersClosing now text i (Err OutOfMemory) =
 AnswersClosing now text i (Err fault) = with_closed now i (tree text) ≡ Err fault
 
 -- the same, by the section
-abbrev pub ClosesSection : CivilMinute → Document → ℕ → Result Edit StateFault → Type 0
+abbrev pub ClosesSection : Moment → Document → ℕ → Result Edit StateFault → Type 0
 ClosesSection now d i (Ok edit) =
     (new : List (List ℕ))
     × (closed_first now (node_at d i).node.section ≡ Ok new)
@@ -154,7 +154,7 @@ ClosesSection now d i (Err fault) = with_closed now i d ≡ Err fault
 
 -- edits that clock in at the heading that was found, where a clock runs at heading `from`, or why
 -- that can't be; memory is wanted only where something is to change
-abbrev pub AnswersSwitch : CivilMinute → List ℕ → ℕ → Result ℕ PathFault
+abbrev pub AnswersSwitch : Moment → List ℕ → ℕ → Result ℕ PathFault
     → Result (Vec Edit Global) StateFault → Type 0
 AnswersSwitch now text from found (Ok edits) =
     (new : Option Document)

@@ -4,3 +4,4 @@ pub mod Edits
 pub mod Answers
 pub mod Clock
 pub mod Open
+pub mod Searched

@@ -3,7 +3,7 @@
 use Rattle.std.specs.Prelude.{◌≡◌, ℕ, Bool, true, false, if◌then◌else◌, Option, None, Some, Result, Ok, Err, List, [], ◌∷◌, codes, slice_index_or}
 use Rattle.std.specs.Result.{result_map_both}
 use Rattle.std.specs.Str.{bytes_eq}
-use Rattle.org_stamp.specs.Calendar.{CivilMinute}
+use Rattle.org_stamp.specs.Calendar.{Moment}
 use Rattle.org_outline.specs.declared.paths.PathFault.{PathFault}
 use Rattle.org_outline.specs.declared.paths.PathFault.TheVariants as path
 use Rattle.org_outline.specs.States.{Keywords, has_word}
@@ -67,7 +67,7 @@ first_active states = slice_index_or states.active 0 []
 
 -- a section with its planning line repeated: the property LAST_REPEAT says when, and a note from
 -- which state to which
-abbrev pub repeated_parts : List ℕ → List ℕ → CivilMinute → PlanningLine → SectionParts → List ℕ
+abbrev pub repeated_parts : List ℕ → List ℕ → Moment → PlanningLine → SectionParts → List ℕ
     → SectionParts
 repeated_parts new old now p parts text =
     with_note (note_line new old now)
@@ -76,7 +76,7 @@ repeated_parts new old now p parts text =
 
 -- An entry that turns done: it gets a CLOSED entry; but where its planning repeats, that is
 -- repeated, and the keyword becomes the first active state.
-abbrev pub TurnsDone : Keywords → List ℕ → CivilMinute → Own → Option PlanningLine
+abbrev pub TurnsDone : Keywords → List ℕ → Moment → Own → Option PlanningLine
     → Result Own StateFault → Type 0
 TurnsDone states state now own None r =
     r ≡ changed states state own (set_closed now (split own.section))
@@ -89,7 +89,7 @@ TurnsDone states state now own (Some p) r =
 
 -- One that is done and turns back loses its CLOSED entry. Any other change is that of the keyword
 -- alone.
-abbrev pub Turns : Bool → Bool → Keywords → List ℕ → CivilMinute → Own → Result Own StateFault
+abbrev pub Turns : Bool → Bool → Keywords → List ℕ → Moment → Own → Result Own StateFault
     → Type 0
 Turns true false states state now own r =
     r ≡ changed states state own (clear_closed (split own.section))
@@ -101,7 +101,7 @@ abbrev pub is_done : Keywords → List ℕ → Bool
 is_done states word = has_word states.done word
 
 -- the own lines with another state, or why there are none
-abbrev pub IsChanged : Keywords → List ℕ → CivilMinute → Own → Result Own StateFault → Type 0
+abbrev pub IsChanged : Keywords → List ℕ → Moment → Own → Result Own StateFault → Type 0
 IsChanged states state now own r =
     Turns (is_done states (keyword_in states own.rest))
     (is_done states state) states state now own r
@@ -129,7 +129,7 @@ abbrev pub heading_to_change : Keywords → List (List ℕ) → List ℕ → Doc
     → Result (Option ℕ) StateFault
 heading_to_change states path state d = heading_asked states state d (find_path states d path)
 
-abbrev pub IsTodoAt : Keywords → List ℕ → CivilMinute → Document → Result (Option ℕ) StateFault
+abbrev pub IsTodoAt : Keywords → List ℕ → Moment → Document → Result (Option ℕ) StateFault
     → Result (Option Document) StateFault → Type 0
 IsTodoAt states state now d (Err fault) r = r ≡ Err fault
 IsTodoAt states state now d (Ok None) r = r ≡ Ok None
@@ -139,14 +139,14 @@ IsTodoAt states state now d (Ok (Some i)) r =
     × (r ≡ result_map_both (λ own. Some (with_own_at i d own)) (λ fault. fault) own)
 
 -- the document with the heading at a path in another state; none where nothing changes
-abbrev pub IsTodo : Keywords → List (List ℕ) → List ℕ → CivilMinute → Document
+abbrev pub IsTodo : Keywords → List (List ℕ) → List ℕ → Moment → Document
     → Result (Option Document) StateFault → Type 0
 IsTodo states path state now d r =
     IsTodoAt states state now d (heading_to_change states path state d) r
 
 -- ---- the same, computed
 
-abbrev pub turned_done : Keywords → List ℕ → CivilMinute → Own → Option PlanningLine
+abbrev pub turned_done : Keywords → List ℕ → Moment → Own → Option PlanningLine
     → Result Own StateFault
 turned_done states state now own None =
     changed states state own (set_closed now (split own.section))
@@ -155,17 +155,17 @@ turned_done states state now own (Some p) =
     (result_map_both (repeated_parts state (keyword_in states own.rest) now p (split own.section))
     (λ fault. fault) (repeated_entries now p.entries))
 
-abbrev pub turned : Bool → Bool → Keywords → List ℕ → CivilMinute → Own → Result Own StateFault
+abbrev pub turned : Bool → Bool → Keywords → List ℕ → Moment → Own → Result Own StateFault
 turned true false states state now own = changed states state own (clear_closed (split own.section))
 turned false true states state now own =
     turned_done states state now own (repeating (split own.section).planning)
 turned was is states state now own = Ok (with_lines states state own own.section)
 
-abbrev pub in_state : Keywords → List ℕ → CivilMinute → Own → Result Own StateFault
+abbrev pub in_state : Keywords → List ℕ → Moment → Own → Result Own StateFault
 in_state states state now own =
     turned (is_done states (keyword_in states own.rest)) (is_done states state) states state now own
 
-abbrev pub todo_at : Keywords → List ℕ → CivilMinute → Document → Result (Option ℕ) StateFault
+abbrev pub todo_at : Keywords → List ℕ → Moment → Document → Result (Option ℕ) StateFault
     → Result (Option Document) StateFault
 todo_at states state now d (Err fault) = Err fault
 todo_at states state now d (Ok None) = Ok None
@@ -174,6 +174,6 @@ todo_at states state now d (Ok (Some i)) =
     (in_state states state now (own_at d i))
 
 -- the document with the heading at a path in another state; none where nothing changes
-abbrev pub todo : Keywords → List (List ℕ) → List ℕ → CivilMinute → Document
+abbrev pub todo : Keywords → List (List ℕ) → List ℕ → Moment → Document
     → Result (Option Document) StateFault
 todo states path state now d = todo_at states state now d (heading_to_change states path state d)

@@ -2,17 +2,19 @@
 //!
 //! One clock runs in a text, the first open line of a heading's section. Other texts aren't known
 //! here.
-ghost use Rattle.std.specs.Prelude.{◌≡◌, ◌≢◌, ◌<◌, ◌≤◌, length, Some, Ok, IfOk};
+ghost use Rattle.std.specs.Prelude.{◌≡◌, ◌≢◌, ◌<◌, ◌≤◌, ℕ, false, length, Some, Ok, IfOk};
 ghost use Rattle.org_splice.specs.Lines.{terminated, print_lines};
 ghost use Rattle.org_outline.specs.Paths.{find_path, titles_of};
 ghost use Rattle.org_outline.specs.Tree.{node_at, node_count, tree};
-ghost use Rattle.org_state.specs.Clock.{span_from, running_in, opened_section, clocked_minutes, clocked_at};
+ghost use Rattle.org_state.specs.Clock.{span_from, running_in, runs_at, opened_section, clocked_minutes, clocked_at};
 ghost use Rattle.org_state.specs.Clock.{AnswersOpening, AnswersClosing, ClosesSection, AnswersSwitch};
 ghost use Rattle.org_state.specs.Edits.{section_start, EditsSection};
+ghost use Rattle.org_state.specs.Searched.{IsSearched};
 
 use crate::fault::StateFault;
 use crate::own::{in_section, section_of};
 use crate::run::Running;
+use crate::searched::Searched;
 use org_meta::{close_clock, find_open, open_clock, total};
 use org_outline::{Node, Outline, PathFault};
 use org_splice::{Edit, Span};
@@ -39,7 +41,18 @@ fn span_in_section(outline: &Outline<'_>, node: Node, span: Span) -> Span
 pub fn running(outline: &Outline<'_>) -> Option<Running>
     ensures { result ≡ running_in (tree outline.now.text) }
 {
-    for index in 0..outline.count() {
+    running_among(outline, 0, outline.count())
+}
+
+/// The same, where none runs in the headings before `first`, nor in those from `last` on.
+fn running_among(outline: &Outline<'_>, first: usize, last: usize) -> Option<Running>
+    requires before { (k : ℕ) → k < first → runs_at (node_at (tree outline.now.text) k) ≡ false }
+    requires behind { (k : ℕ) → last ≤ k → k < node_count (tree outline.now.text)
+        → runs_at (node_at (tree outline.now.text) k) ≡ false }
+    requires within { last ≤ node_count (tree outline.now.text) }
+    ensures { result ≡ running_in (tree outline.now.text) }
+{
+    for index in first..last {
         let heading = outline.node(index);
         if let Some(line) = find_open(section_of(outline, heading)) {
             return Some(Running {
@@ -49,6 +62,28 @@ pub fn running(outline: &Outline<'_>) -> Option<Running>
         }
     }
     None
+}
+
+/// The clock that runs in the text, and what is known behind the search. Only the headings of which
+/// nothing was known are read, and one before them. Takes no memory.
+pub fn search(outline: &Outline<'_>, searched: Searched) -> (Option<Running>, Searched)
+    requires { IsSearched searched outline.now.text }
+    ensures running { result.0 ≡ running_in (tree outline.now.text) }
+    ensures searched { IsSearched result.1 outline.now.text }
+{
+    let (front, back) = match searched {
+        Searched::Clockless => return (None, Searched::Clockless),
+        Searched::Ends { front, back } => (front, back),
+    };
+    let first = outline.count_before(front).saturating_sub(1);
+    let last = outline.count_before((outline.text().len() + 1).saturating_sub(back));
+    match running_among(outline, first, last) {
+        None => (None, Searched::Clockless),
+        Some(running) => {
+            let front = outline.start(running.heading);
+            (Some(running), Searched::Ends { front, back })
+        }
+    }
 }
 
 /// The edit that opens a clock at a heading.

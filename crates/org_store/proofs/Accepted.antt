@@ -11,7 +11,7 @@ use Rattle.org_outline.specs.declared.moves.Place.{Place}
 use Rattle.org_outline.specs.declared.paths.PathFault.{PathFault}
 use Rattle.org_outline.specs.Paths.{find_path}
 use Rattle.org_outline.specs.Tree.{Document, Node, print, tree}
-use Rattle.org_stamp.specs.Calendar.{CivilMinute}
+use Rattle.org_stamp.specs.Calendar.{Moment}
 use Rattle.org_fileset.specs.Names.{limit}
 use Rattle.org_capture.specs.declared.fault.CaptureFault.{CaptureFault}
 use Rattle.org_capture.specs.declared.target.Target.{Target}
@@ -91,12 +91,12 @@ document_changes : (s : Session) (name : List ℕ) (made : Result Document Captu
 document_changes s name (Err why) own = inr (λ touched files accepts. absurd (cc))
 document_changes s name (Ok new) own = changes_one s name (print new) own
 
-entry_changes : (s : Session) (name : List ℕ) (target : Target) (place : Place) (moment : CivilMinute) (entry : Result Node CaptureFault) (text : List ℕ) → is_name s.names name ≡ true
+entry_changes : (s : Session) (name : List ℕ) (target : Target) (place : Place) (moment : Moment) (entry : Result Node CaptureFault) (text : List ℕ) → is_name s.names name ≡ true
     → IsChanging s (with_entry s name target place moment entry text)
 entry_changes s name target place moment (Err why) text own = inr (λ touched files accepts. absurd (cc))
 entry_changes s name target place moment (Ok entry) text own = document_changes s name (captured s.states target place moment entry (tree text)) own
 
-capture_changes : (s : Session) (name : List ℕ) (target : Target) (place : Place) (moment : CivilMinute) (template initial : List ℕ) (old : Option (List ℕ)) → text_at s.names s.files name ≡ old
+capture_changes : (s : Session) (name : List ℕ) (target : Target) (place : Place) (moment : Moment) (template initial : List ℕ) (old : Option (List ℕ)) → text_at s.names s.files name ≡ old
     → IsChanging s (capture s name target place moment template initial old)
 capture_changes s name target place moment template initial None is = inr (λ touched files accepts. absurd (cc))
 capture_changes s name target place moment template initial (Some text) is = entry_changes s name target place moment (new_entry moment template initial) text (text_named s.names s.files name text is)
@@ -125,11 +125,11 @@ state_changes s name (Err why) own = inr (λ touched files accepts. absurd (cc))
 state_changes s name (Ok None) own = inl ([], tt, refl)
 state_changes s name (Ok (Some new)) own = changes_one s name (print new) own
 
-todo_changes : (s : Session) (name : List ℕ) (path : List (List ℕ)) (state : List ℕ) (moment : CivilMinute) (old : Option (List ℕ)) → text_at s.names s.files name ≡ old → IsChanging s (todo s name path state moment old)
+todo_changes : (s : Session) (name : List ℕ) (path : List (List ℕ)) (state : List ℕ) (moment : Moment) (old : Option (List ℕ)) → text_at s.names s.files name ≡ old → IsChanging s (todo s name path state moment old)
 todo_changes s name path state moment None is = inr (λ touched files accepts. absurd (cc))
 todo_changes s name path state moment (Some text) is = state_changes s name (in_state s.states path state moment (tree text)) (text_named s.names s.files name text is)
 
-archive_to_changes : (s : Session) (name : List ℕ) (path : List (List ℕ)) (moment : CivilMinute) (text : List ℕ) (to : Destination) (into : Option (List ℕ)) → is_name s.names name ≡ true → text_at s.names s.files to.file ≡ into
+archive_to_changes : (s : Session) (name : List ℕ) (path : List (List ℕ)) (moment : Moment) (text : List ℕ) (to : Destination) (into : Option (List ℕ)) → is_name s.names name ≡ true → text_at s.names s.files to.file ≡ into
     → IsChanging s (archive_to s name path moment text to into)
 archive_to_changes s name path moment text to None own is = inr (λ touched files accepts. absurd (cc))
 archive_to_changes s name path moment text to (Some target) own is = elim (cases_Bool (bytes_eq name to.file)) [
@@ -137,11 +137,11 @@ archive_to_changes s name path moment text to (Some target) own is = elim (cases
   | inr f ↦ rw f (across_changes s name to.file (archive_across s.states name path moment (tree text) s.states to (tree target)) own (text_named s.names s.files to.file target is))
 ]
 
-archive_at_changes : (s : Session) (name : List ℕ) (path : List (List ℕ)) (moment : CivilMinute) (text : List ℕ) (to : Result Destination MoveFault) → is_name s.names name ≡ true → IsChanging s (archive_at s name path moment text to)
+archive_at_changes : (s : Session) (name : List ℕ) (path : List (List ℕ)) (moment : Moment) (text : List ℕ) (to : Result Destination MoveFault) → is_name s.names name ≡ true → IsChanging s (archive_at s name path moment text to)
 archive_at_changes s name path moment text (Err why) own = inr (λ touched files accepts. absurd (cc))
 archive_at_changes s name path moment text (Ok to) own = archive_to_changes s name path moment text to (text_at s.names s.files to.file) own refl
 
-archive_changes : (s : Session) (name : List ℕ) (path : List (List ℕ)) (moment : CivilMinute) (old : Option (List ℕ)) → text_at s.names s.files name ≡ old → IsChanging s (archive s name path moment old)
+archive_changes : (s : Session) (name : List ℕ) (path : List (List ℕ)) (moment : Moment) (old : Option (List ℕ)) → text_at s.names s.files name ≡ old → IsChanging s (archive s name path moment old)
 archive_changes s name path moment None is = inr (λ touched files accepts. absurd (cc))
 archive_changes s name path moment (Some text) is = archive_at_changes s name path moment text (location s.states name path text) (text_named s.names s.files name text is)
 
@@ -149,7 +149,7 @@ clock_moved_changes : (s : Session) (other name : List ℕ) (said : Result Moved
 clock_moved_changes s other name (Err why) other_own own = inr (λ touched files accepts. absurd (cc))
 clock_moved_changes s other name (Ok new) other_own own = changes_across s other name new other_own own
 
-clock_in_beside_changes : (s : Session) (name : List ℕ) (moment : CivilMinute) (d : Document) (found : Result ℕ PathFault) (clock : Option (List ℕ × Running)) → is_name s.names name ≡ true → running_over s.names s.files ≡ clock
+clock_in_beside_changes : (s : Session) (name : List ℕ) (moment : Moment) (d : Document) (found : Result ℕ PathFault) (clock : Option (List ℕ × Running)) → is_name s.names name ≡ true → running_over s.names s.files ≡ clock
     → IsChanging s (clock_in_beside s name moment d found clock)
 clock_in_beside_changes s name moment d found None own is = state_changes s name (clocked_in moment None d found) own
 clock_in_beside_changes s name moment d found (Some clock) own is = elim (cases_Bool (bytes_eq clock.0 name)) [
@@ -157,12 +157,12 @@ clock_in_beside_changes s name moment d found (Some clock) own is = elim (cases_
   | inr f ↦ rw f (clock_moved_changes s clock.0 name (clock_moved moment clock.1 (tree (unwrap_or (text_at s.names s.files clock.0) [])) d found) (clock_named s.names s.files clock is) own)
 ]
 
-clock_in_changes : (s : Session) (name : List ℕ) (path : List (List ℕ)) (moment : CivilMinute) (old : Option (List ℕ)) → text_at s.names s.files name ≡ old → IsChanging s (clock_in s name path moment old)
+clock_in_changes : (s : Session) (name : List ℕ) (path : List (List ℕ)) (moment : Moment) (old : Option (List ℕ)) → text_at s.names s.files name ≡ old → IsChanging s (clock_in s name path moment old)
 clock_in_changes s name path moment None is = inr (λ touched files accepts. absurd (cc))
 clock_in_changes s name path moment (Some text) is =
     clock_in_beside_changes s name moment (tree text) (find_path s.states (tree text) path) (running_over s.names s.files) (text_named s.names s.files name text is) refl
 
-clock_out_changes : (s : Session) (moment : CivilMinute) (clock : Option (List ℕ × Running)) → running_over s.names s.files ≡ clock → IsChanging s (clock_out s moment clock)
+clock_out_changes : (s : Session) (moment : Moment) (clock : Option (List ℕ × Running)) → running_over s.names s.files ≡ clock → IsChanging s (clock_out s moment clock)
 clock_out_changes s moment None is = inr (λ touched files accepts. absurd (cc))
 clock_out_changes s moment (Some clock) is = state_changes s clock.0 (clocked_out moment clock.1 (tree (unwrap_or (text_at s.names s.files clock.0) []))) (clock_named s.names s.files clock is)
 

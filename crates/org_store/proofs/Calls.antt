@@ -274,11 +274,11 @@ module _ {D : Type 0} (g : Ghosts D) where
         (λ more. ⊎_elim (λ is. is) (λ past. absurd (omega (arith, past, within))) more)
         counts
 
-    pub calls_leave : ((image : Image) → g.left_since first.store.disk (g.moment first.store.disk) image → AreImages (g.files first.store.disk) image) → IsAtRest (g.files first.store.disk)
-        → IsOnDisk first.store.session others → LeavesOnly (g.moment first.store.disk) (g.moment last.store.disk) (g.left_since first.store.disk) (g.left_since last.store.disk) IsLeftOf
+    pub calls_leave : ((image : Image) → g.left_since first.store.disk (g.instant first.store.disk) image → AreImages (g.files first.store.disk) image) → IsAtRest (g.files first.store.disk)
+        → IsOnDisk first.store.session others → LeavesOnly (g.instant first.store.disk) (g.instant last.store.disk) (g.left_since first.store.disk) (g.left_since last.store.disk) IsLeftOf
     calls_leave start rest disk =
         let to = course_to first last calls lists run in
-        subst (λ d. LeavesOnly (g.moment first.store.disk) (g.moment d) (g.left_since first.store.disk) (g.left_since d) IsLeftOf) (sym to.disk)
+        subst (λ d. LeavesOnly (g.instant first.store.disk) (g.instant d) (g.left_since first.store.disk) (g.left_since d) IsLeftOf) (sym to.disk)
         (leaves_as (course_leaves g first.store to.last (Counts last first) to.course rest disk sound start) (λ image left. ⊎_elim
         (λ held. inl held)
         (λ reached. inr (reached.0.accepted, reached.1.1.no_fewer, rw (stands reached.0 reached.1.0 (omega (arith, reached.1.1.no_more, to.accepted))) reached.2))

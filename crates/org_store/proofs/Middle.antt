@@ -15,7 +15,7 @@ use Rattle.org_commands.specs.Session.{Session}
 
 pub left_between : {D : Type 0} (g : Ghosts D) (old mid new : D) {A : Type 0}
     (s : Session) (others : Image) (does : Outcome) (answer : Result A RunFault) (accepted : ℕ)
-    → ((image : Image) → AreImages (g.files mid) image → g.left_since mid (g.moment old) image) → AreImages (g.files mid) (contents (g.files mid))
+    → ((image : Image) → AreImages (g.files mid) image → g.left_since mid (g.instant old) image) → AreImages (g.files mid) (contents (g.files mid))
     → IsBetween g old mid new → LeavesOver g old new (IsLeft s others does answer accepted)
     → IsLeft s others does answer accepted (contents (g.files mid))
 left_between g old mid new s others does answer accepted counts own between leaves =

@@ -233,7 +233,7 @@ Reached old new P s = HaveTexts old.names old.files s.files × IsBetween old new
 -- What a run of calls does, from the one store to the other; the sessions that are reached have P.
 pub record Course {D : Type 0} (g : Ghosts D) (old new : StoreView D) (P : Session → Type 0) : Type 0 where
   pub passes : IsAtRest (g.files old.disk) → IsOnDisk old.session (contents (g.files old.disk)) → old.session.broken ≡ false
-      → Passes (g.moment old.disk) (g.moment new.disk) (g.left_since old.disk) (g.left_since new.disk) (IsLeftOf old.session (contents (g.files old.disk)) (Reached old.session new.session P))
+      → Passes (g.instant old.disk) (g.instant new.disk) (g.left_since old.disk) (g.left_since new.disk) (IsLeftOf old.session (contents (g.files old.disk)) (Reached old.session new.session P))
   pub rest : new.session.broken ≡ false → IsAtRest (g.files old.disk) → IsAtRest (g.files new.disk)
   pub recoverable : IsAtRest (g.files old.disk) → IsRecoverable (g.files new.disk)
   pub others : new.session.broken ≡ false → IsOnDisk old.session (contents (g.files old.disk))
@@ -353,7 +353,7 @@ module _ {D : Type 0} (g : Ghosts D) where
         ) in
         record {
           passes = λ rest disk sound.
-              subst (λ (k : StoreView D). Passes (g.moment old.disk) (g.moment k.disk) (g.left_since old.disk) (g.left_since k.disk) (IsLeftOf old.session (contents (g.files old.disk)) (Reached old.session new.session P)))
+              subst (λ (k : StoreView D). Passes (g.instant old.disk) (g.instant k.disk) (g.left_since old.disk) (g.left_since k.disk) (IsLeftOf old.session (contents (g.files old.disk)) (Reached old.session new.session P)))
               (sym same)
               (passes_as (ran.disk.any_moment rest).passes
               (λ image left. left_of old.session (contents (g.files old.disk)) (outcome old.session command) answer mid.session.accepted image (Reached old.session new.session P) self_reached reached left));
@@ -438,8 +438,8 @@ module _ {D : Type 0} (g : Ghosts D) where
 
   -- what is left of a run, with no word of how it is proved
   pub course_leaves : (old new : StoreView D) (P : Session → Type 0) → Goes old new P → IsAtRest (g.files old.disk) → IsOnDisk old.session (contents (g.files old.disk)) → old.session.broken ≡ false
-      → ((image : Image) → g.left_since old.disk (g.moment old.disk) image → AreImages (g.files old.disk) image)
-      → LeavesOnly (g.moment old.disk) (g.moment new.disk) (g.left_since old.disk) (g.left_since new.disk)
+      → ((image : Image) → g.left_since old.disk (g.instant old.disk) image → AreImages (g.files old.disk) image)
+      → LeavesOnly (g.instant old.disk) (g.instant new.disk) (g.left_since old.disk) (g.left_since new.disk)
       (IsLeftOf old.session (contents (g.files old.disk)) (λ mid. P mid × IsBetween old.session new.session mid))
   course_leaves old new P course rest disk sound start =
       leaves_only

@@ -10,7 +10,7 @@ pub record Trace (D : Type 0) : Type 0 where
   pub store : StoreView D
   pub texts : List (List (List ℕ))
 
--- The list has the texts that the session tells: those of all accepted commands, and those that are
+-- The list has the texts that the session has: those of all accepted commands, and those that are
 -- settled.
 pub record Lists (s : Session) (texts : List (List (List ℕ))) : Type 0 where
   pub size : length texts ≡ s.accepted + 1

@@ -85,7 +85,7 @@ pub fn settled_is_on_disk<D: Disk>()
 
 /// A store writes no file but its own and the journal: the files that a command gives new texts,
 /// and so those that are dirty, are files of the store's names. Calls of a store that was
-/// just opened (`Store::open`), for which no file waits, leave every other file alone: each is as
+/// just opened (`Store::open`), for which no file is dirty, leave every other file alone: each is as
 /// it was, and a crash meanwhile leaves of it what it might have left before, whatever lies in the
 /// folder and whether it is on the disk or not.
 pub fn only_its_own_files_are_written<D: Disk>()
@@ -104,7 +104,7 @@ pub fn only_its_own_files_are_written<D: Disk>()
 {}
 
 /// What a crash leaves of a run of the calls that change a store: commands, settlings and new sizes
-/// of the group. A run is told with one list, of the texts of all files after each accepted
+/// of the group. A run is described by one list, of the texts of all files after each accepted
 /// command. On a disk that was at rest and honest when it began, under a store that wasn't broken,
 /// a crash since then leaves the files as they were settled then, or as they were after one prefix
 /// of the accepted commands, which has all that were accepted then; a command in which the disk
@@ -112,7 +112,7 @@ pub fn only_its_own_files_are_written<D: Disk>()
 /// (`settled_is_on_disk`).
 ///
 /// `Traces` is what a call promises where the disk is honest after it, with what it adds to the
-/// list. The list needs the texts only where the session tells them: others may be any.
+/// list. The list needs the texts only where the session has them: others may be any.
 pub fn calls_leave_a_prefix<D: Disk>()
     // a store that was just opened has such a list
     ensures opened { (states : Keywords) (names texts : List (List ℕ))
@@ -290,7 +290,7 @@ pub fn archives_keep_counts()
 /// disk that holds such an image, `Store::open` answers Ok, OutOfMemory, or Device with a counted
 /// failure, and nothing else.
 pub fn every_image_opens<D: Disk>()
-    // what a refused opening of such an image tells
+    // what a refused opening of such an image says
     ensures faults { (given : List (List ℕ)) (disk now : D) (fault : OpenFault)
         → All IsOrgFile given → D.honest now → IsOpenable given (files_on D.Disk disk)
         → IsReason given (D.honest now) (files_on D.Disk disk) (files_on D.Disk now) fault

@@ -16,8 +16,6 @@ use std::process::Abort;
 
 /// What is added to a section, or to a text.
 enum Change {
-    /// A property's name and value.
-    Put(&'static [u8], &'static [u8]),
     /// A note of 2005-10-03 09:05: the new and the old keyword.
     Noted(&'static [u8], &'static [u8]),
     /// A clock at the heading A of a text.
@@ -56,7 +54,6 @@ fn edit_of(rt: &impl Abort, alloc: Global, text: &[u8], change: &Change) -> Edit
     requires { terminated text.now ≡ text.now }
 {
     match change {
-        Change::Put(name, value) => put_property(alloc, text, name, value).expect(rt, "an edit"),
         Change::Noted(new, old) => {
             let then = Moment::new(2005, 10, 3, 9, 5).expect(rt, "a moment");
             add_note(alloc, text, new, old, then).expect(rt, "an edit")
@@ -115,39 +112,6 @@ const ROWS: &[(&[u8], Fact)] = &[
     (OF_PROPERTIES, Fact::Property(b"A", Some(b""))),
     (OF_PROPERTIES, Fact::Property(b"x", None)),
     (b"DEADLINE: soon\n", Fact::Odd),
-    // A property is put.
-    (
-        b"",
-        Fact::Changed(Change::Put(b"A", b"v"), b":PROPERTIES:\n:A: v\n:END:\n"),
-    ),
-    (
-        b"SCHEDULED: x\ntext\n",
-        Fact::Changed(
-            Change::Put(b"A", b""),
-            b"SCHEDULED: x\n:PROPERTIES:\n:A:\n:END:\ntext\n",
-        ),
-    ),
-    (
-        b" :properties:\n :a: 1\n :b: 2\n :end:\n",
-        Fact::Changed(
-            Change::Put(b"A", b"v"),
-            b" :properties:\n:A: v\n :b: 2\n :end:\n",
-        ),
-    ),
-    (
-        b":PROPERTIES:\n:b:\n:END:\nx\n",
-        Fact::Changed(
-            Change::Put(b"A", b"v"),
-            b":PROPERTIES:\n:b:\n:A: v\n:END:\nx\n",
-        ),
-    ),
-    (
-        b":PROPERTIES:\n\n:END:\n",
-        Fact::Changed(
-            Change::Put(b"A", b"v"),
-            b":PROPERTIES:\n:A: v\n:END:\n:PROPERTIES:\n\n:END:\n",
-        ),
-    ),
     // A note is added.
     (
         b":PROPERTIES:\n:END:\ntext\n",
@@ -176,6 +140,45 @@ const ROWS: &[(&[u8], Fact)] = &[
         ),
     ),
 ];
+
+/// A section, the value that its property A is given, and what becomes of it.
+const PUT: &[(&[u8], &[u8], &[u8])] = &[
+    (b"", b"v", b":PROPERTIES:\n:A: v\n:END:\n"),
+    (
+        b"SCHEDULED: x\ntext\n",
+        b"",
+        b"SCHEDULED: x\n:PROPERTIES:\n:A:\n:END:\ntext\n",
+    ),
+    (
+        b" :properties:\n :a: 1\n :b: 2\n :end:\n",
+        b"v",
+        b" :properties:\n:A: v\n :b: 2\n :end:\n",
+    ),
+    (
+        b":PROPERTIES:\n:b:\n:END:\nx\n",
+        b"v",
+        b":PROPERTIES:\n:b:\n:A: v\n:END:\nx\n",
+    ),
+    (
+        b":PROPERTIES:\n\n:END:\n",
+        b"v",
+        b":PROPERTIES:\n:A: v\n:END:\n:PROPERTIES:\n\n:END:\n",
+    ),
+];
+
+/// Whether a section becomes this where its property A is given a value.
+fn is_put(rt: &impl Abort, alloc: Global, text: &[u8], value: &[u8], expected: &[u8]) -> bool {
+    assert!(rt; is_terminated(text));
+    let edit = put_property(alloc, text, b"A", value).expect(rt, "an edit");
+    becomes(text, &edit, expected)
+}
+
+#[test]
+fn properties_put(rt: HostRuntime) {
+    for (i, (text, value, expected)) in PUT.iter().enumerate() {
+        assert!(rt; is_put(&rt, rt.alloc(), text, value, expected), "row {i}");
+    }
+}
 
 const OF_PROPERTIES: &[u8] =
     b":PROPERTIES:\r\n :a: \n:CATEGORY:  home \r\n:category: b\n:END:\n:x: y\n";

@@ -209,13 +209,12 @@ fn go(rt: &impl Abort, alloc: Global, states: &States, texts: &mut Texts, step: 
 }
 
 // Two files that are ready.
-const HOLD_A: Step = Step::Do(Action::Hold("a.org", b"* A\n* B"));
-
-const HOLD_B: Step = Step::Do(Action::Hold("b.org", b"* C\n"));
-
-const READY_A: Step = Step::Do(Action::Ready("a.org"));
-
-const READY_B: Step = Step::Do(Action::Ready("b.org"));
+const READY: &[Step] = &[
+    Step::Do(Action::Hold("a.org", b"* A\n* B")),
+    Step::Do(Action::Hold("b.org", b"* C\n")),
+    Step::Do(Action::Ready("a.org")),
+    Step::Do(Action::Ready("b.org")),
+];
 
 // Moves the second heading of one file below the first of the other.
 const REFILE: Action = Action::EditTwo(
@@ -233,14 +232,10 @@ const MADE_B: Step = Step::Is(Fact::Text(
     Some(Span { start: 4, end: 9 }),
 ));
 
-const NONE_WAITS: Step = Step::Is(Fact::Dirty(&[]));
+const NONE_DIRTY: Step = Step::Is(Fact::Dirty(&[]));
 
-// A command is taken back.
+// A command over these files is taken back.
 const TAKEN_BACK: &[Step] = &[
-    HOLD_A,
-    HOLD_B,
-    READY_A,
-    READY_B,
     Step::Do(REFILE),
     MADE_A,
     MADE_B,
@@ -248,15 +243,11 @@ const TAKEN_BACK: &[Step] = &[
     Step::Do(Action::Undo),
     Step::Is(Fact::Text("a.org", b"* A\n* B", 0, None)),
     Step::Is(Fact::Text("b.org", b"* C\n", 0, None)),
-    NONE_WAITS,
+    NONE_DIRTY,
 ];
 
 // A command is kept, and one is taken back.
 const KEPT: &[Step] = &[
-    HOLD_A,
-    HOLD_B,
-    READY_A,
-    READY_B,
     Step::Do(Action::Keep),
     Step::Do(REFILE),
     Step::Do(Action::Undo),
@@ -266,13 +257,9 @@ const KEPT: &[Step] = &[
 
 // A commit settles.
 const COMMITTED: &[Step] = &[
-    HOLD_A,
-    HOLD_B,
-    READY_A,
-    READY_B,
     Step::Do(REFILE),
     Step::Do(Action::Settle),
-    NONE_WAITS,
+    NONE_DIRTY,
     Step::Do(Action::Undo),
     MADE_A,
     MADE_B,
@@ -311,7 +298,7 @@ const IN_PLACE: &[Step] = &[
     Step::Is(Fact::Absent("c.org")),
 ];
 
-// Texts wait in the order in which they are ready: the first is terminated as it is, and waits
+// Texts are dirty in the order in which they are ready: the first is terminated as it is, and stands
 // before the second, which gets a newline.
 const IN_ORDER: &[Step] = &[
     Step::Do(Action::Hold("b.org", b"* B\n")),
@@ -320,10 +307,10 @@ const IN_ORDER: &[Step] = &[
     Step::Do(Action::Ready("a.org")),
     Step::Is(Fact::Dirty(&[("b.org", b"* B\n"), ("a.org", b"* A\n")])),
     Step::Do(Action::Undo),
-    NONE_WAITS,
+    NONE_DIRTY,
 ];
 
-// Changes are the texts that wait: the last command changes b.org, which waits, and c.org, which is
+// Changes are the dirty texts: the last command changes b.org, which is dirty, and c.org, which is
 // new.
 const CHANGED: &[Step] = &[
     Step::Do(Action::Hold("a.org", b"* A")),
@@ -349,31 +336,37 @@ const SETTLED: &[Step] = &[
     Step::Do(Action::Edit(("a.org", &[(4, 0, b"* B\n")]))),
     Step::Is(Fact::IsSettled("a.org", false)),
     Step::Do(Action::Settle),
-    NONE_WAITS,
+    NONE_DIRTY,
     Step::Is(Fact::Text("a.org", b"* A\n* B\n", 0, None)),
     Step::Is(Fact::Text("c.org", b"* C", 0, None)),
     Step::Is(Fact::IsSettled("a.org", true)),
     Step::Is(Fact::IsSettled("c.org", true)),
 ];
 
-/// Goes through steps with texts of its own.
-fn assert_goes(rt: &(impl Abort + AllocGlobal), steps: &[Step]) {
+/// Goes on through steps.
+fn go_on(rt: &impl Abort, alloc: Global, states: &States, texts: &mut Texts, steps: &[Step]) {
+    for (i, step) in steps.iter().enumerate() {
+        assert!(rt; go(rt, alloc, states, texts, step), "step {i}");
+    }
+}
+
+/// Goes through steps, behind those that come before them, with texts of their own.
+fn assert_goes(rt: &(impl Abort + AllocGlobal), before: &[Step], steps: &[Step]) {
     let alloc = rt.alloc();
     let states = states(rt, alloc);
     let mut texts = Texts::new(alloc);
-    for (i, step) in steps.iter().enumerate() {
-        assert!(rt; go(rt, alloc, &states, &mut texts, step), "step {i}");
-    }
+    go_on(rt, alloc, &states, &mut texts, before);
+    go_on(rt, alloc, &states, &mut texts, steps);
 }
 
 #[test]
 fn held_texts(rt: HostRuntime) {
-    assert_goes(&rt, TAKEN_BACK);
-    assert_goes(&rt, KEPT);
-    assert_goes(&rt, COMMITTED);
-    assert_goes(&rt, SETTLED);
-    assert_goes(&rt, FOLLOWED);
-    assert_goes(&rt, IN_PLACE);
-    assert_goes(&rt, IN_ORDER);
-    assert_goes(&rt, CHANGED);
+    assert_goes(&rt, READY, TAKEN_BACK);
+    assert_goes(&rt, READY, KEPT);
+    assert_goes(&rt, READY, COMMITTED);
+    assert_goes(&rt, &[], SETTLED);
+    assert_goes(&rt, &[], FOLLOWED);
+    assert_goes(&rt, &[], IN_PLACE);
+    assert_goes(&rt, &[], IN_ORDER);
+    assert_goes(&rt, &[], CHANGED);
 }

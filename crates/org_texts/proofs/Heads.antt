@@ -1,11 +1,14 @@
 -- Texts whose headings are held are terminated.
-use Rattle.std.proofs.Common.{◌≡◌, ℕ, true, false, List, [], ◌∷◌, ◌++◌, eqb, Option, Some, None, is_some, refl, sym, ap, ◌∙◌}
+use Rattle.std.proofs.Common.{◌≡◌, ℕ, ◌<◌, ◌^◌, length, true, false, List, [], ◌∷◌, ◌++◌, eqb, Option, Some, None, is_some, refl, sym, ap, ◌∙◌}
 use Rattle.std.proofs.lemmas.Bool.{cases_Bool}
 use Rattle.std.proofs.Common.{inl, inr}
 use Rattle.org_splice.specs.Lines.{terminated, is_terminated}
+use Rattle.std.specs.Prelude.{IfSome}
+use Rattle.org_splice.specs.Edits.{IsReplaced}
 use Rattle.org_splice.specs.Texts.{EditedText, terminated_text}
 use Rattle.org_splice.proofs.Terminated.{spliced-end}
 use Rattle.org_outline.specs.declared.heads.Heading.{Heading}
+use Rattle.org_outline.specs.Outline.{IsEdit}
 use Rattle.org_texts.specs.Held.{AreHeadsOf}
 
 pub is_terminated-terminated : (t : List ℕ) → terminated t ≡ t → is_terminated t ≡ true
@@ -41,3 +44,19 @@ terminated_text-bytes text = elim (cases_Bool (is_terminated text.bytes)) [
   | inl t ↦ rw t (sym (terminated-is_terminated text.bytes t))
   | inr f ↦ rw f (spliced-end text.bytes (10 ∷ []) ∙ sym (terminated-open text.bytes f))
 ]
+
+-- headings that are held can follow where a part of their text was replaced
+pub follows : (heads : Option (List Heading)) (before after : List ℕ) (at removed added : ℕ) → AreHeadsOf before heads → (terminated before ≡ before → terminated after ≡ after) → length before < 2 ^ 64
+    → IsReplaced at removed added before after → IfSome heads (λ hs. IsEdit hs after at removed added)
+follows None before after at removed added are stays small is = tt
+follows (Some hs) before after at removed added are stays small is = record {
+  before = before;
+  headings_are = are.1;
+  before_terminated = are.0;
+  after_terminated = stays are.0;
+  before_small = small;
+  removed_in = is.removed_in;
+  added_in = is.added_in;
+  front = is.front;
+  back = is.back;
+}

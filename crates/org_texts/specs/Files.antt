@@ -23,7 +23,7 @@ pub record IsTextOf (file : List ℕ) (dirty : Bool) (text : EditedText) : Type 
   pub ranges : AreChanged (length text.bytes) text.changed
   pub same : dirty ≡ false → text.bytes ≡ file
 
--- Each text is made of its file, and each name that waits has a text.
+-- Each text is made of its file, and each dirty name has a text.
 pub record StandOver (files : List ℕ → List ℕ) (set : TextSet) : Type 0 where
   pub each : (name : List ℕ) (text : EditedText) → text_of set name ≡ Some text
       → IsTextOf (files name) (is_dirty set name) text

@@ -7,7 +7,7 @@ use Rattle.std.specs.Str.{bytes_eq}
 abbrev pub AreAmong : List (List ℕ) → List (List ℕ) → Type 0
 AreAmong all names = AllByRecursion (λ name. list_any (bytes_eq name) all ≡ true) names
 
--- each waiting name is held, and those that waited before the command still do
+-- each dirty name is held, and those that were dirty before the command still do
 pub record IsHolding (names dirty : List (List ℕ)) (dirty_before : ℕ) : Type 0 where
   pub held : AreAmong names dirty
   pub first : dirty_before ≤ length dirty

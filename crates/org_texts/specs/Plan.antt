@@ -8,7 +8,7 @@ use Rattle.org_texts.specs.declared.plan.FileEdits.{FileEdits}
 use Rattle.org_texts.specs.declared.plan.Plan.{Plan}
 use Rattle.org_texts.specs.Texts.{TextSet, text_of, with_change, with_name}
 
--- the texts with the edits of one of them, which waits from then on
+-- the texts with the edits of one of them, which is dirty from then on
 abbrev pub with_edits : FileEdits → TextSet → TextSet
 with_edits change set = record {
   texts = with_change change.file (spliced_each change.edits.items) set.texts;

@@ -6,8 +6,8 @@ use Rattle.std.specs.Str.{bytes_eq}
 use Rattle.org_splice.specs.Texts.{EditedText, terminated_text, settled}
 use Rattle.org_texts.specs.Held.{HeldText}
 
--- Texts under the names of their files, each name once; and the names of those that wait for a
--- commit, in the order of their first touch.
+-- Texts under the names of their files, each name once; and the names of the dirty ones, in the
+-- order of their first touch.
 pub record TextSet : Type 0 where
   pub texts : List (List ℕ × EditedText)
   pub dirty : List (List ℕ)
@@ -50,14 +50,14 @@ with_change name change (e ∷ es) =
 abbrev pub with_name : List ℕ → List (List ℕ) → List (List ℕ)
 with_name name names = if list_any (bytes_eq name) names then names else names ++ name ∷ []
 
--- the texts with the one of this name terminated; a command touches it by that, and it waits
+-- the texts with the one of this name terminated; a command touches it by that, and it is dirty
 abbrev pub terminated_in : List ℕ → TextSet → TextSet
 terminated_in name set = record {
   texts = with_change name terminated_text set.texts;
   dirty = with_name name set.dirty;
 }
 
--- the texts as the disk has them behind a commit: none waits
+-- the texts as the disk has them behind a commit: none is dirty
 abbrev pub settled_set : TextSet → TextSet
 settled_set set = record { texts = map (λ e. (e.0, settled e.1.bytes)) set.texts; dirty = [] }
 
@@ -65,7 +65,7 @@ abbrev pub text_or_none : Option EditedText → EditedText
 text_or_none None = settled []
 text_or_none (Some text) = text
 
--- what a commit is told of: each waiting name with its text
+-- what a commit is given: each dirty name with its text
 abbrev pub pairs : TextSet → List (List ℕ × EditedText)
 pairs set = map (λ name. (name, text_or_none (text_of set name))) set.dirty
 

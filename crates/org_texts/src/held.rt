@@ -2,15 +2,16 @@
 //!
 //! The headings, where they are held, are those of the text as it is. A command's edits can be
 //! taken back without memory.
-ghost use Rattle.std.specs.Prelude.{◌≡◌, ◌+◌, ◌≤◌, false, true, is_some, length, IfSome, OnOk};
+ghost use Rattle.std.specs.Prelude.{◌≡◌, ◌+◌, ◌≤◌, ◌∷◌, false, true, is_some, length, IfOk, IfSome, IsFalse, IsTrue, OnOk};
 ghost use Rattle.org_splice.specs.Edits.{CanApply, applied};
 ghost use Rattle.org_splice.specs.Lines.{terminated};
 ghost use Rattle.org_splice.specs.Texts.{terminated_text, settled, spliced, spliced_each};
-ghost use Rattle.org_outline.specs.Outline.{headings_of};
+ghost use Rattle.org_outline.specs.Outline.{headings_of, IsEdit};
+ghost use Rattle.org_texts.specs.Held.{AreHeadsOf};
 
 use crate::plan::Edits;
 use org_outline::Heads;
-use org_splice::{Edit, Editing};
+use org_splice::{Edit, Editing, Replaced};
 use std::alloc::{AllocError, Global};
 use std::marker::Model;
 
@@ -56,7 +57,7 @@ impl Held {
         self.text.bytes()
     }
 
-    /// The text, as a commit is told of it.
+    /// The text, as a commit is given it.
     pub fn text(&self) -> &Editing
         ensures { result.now ≡ record { text = self.now.text; before = self.now.before } }
     {
@@ -95,7 +96,8 @@ impl Held {
         Ok(())
     }
 
-    /// Makes edits, one after another, in place. The headings follow.
+    /// Makes edits, one after another, in place; what stands behind edits that lie near one another
+    /// moves once. The headings follow.
     ///
     /// # Errors
     ///
@@ -107,8 +109,28 @@ impl Held {
         ensures before { self.new.before ≡ self.old.before }
     {
         let (first, rest) = edits.parts();
+        if !rest.is_empty() && self.apply_near(first, rest)? {
+            return Ok(());
+        }
         self.apply_one(first)?;
         self.apply_each(rest)
+    }
+
+    // `apply` of edits that lie near one another; false, with the text as it was, where they don't.
+    fn apply_near(&mut self, first: &Edit, rest: &[Edit]) -> Result<bool, AllocError>
+        requires { CanApply (first.now ∷ rest.now) self.old.text.bytes }
+        ensures made { IfOk result (λ made. IsTrue made
+            → self.new.text ≡ spliced_each (first.now ∷ rest.now) self.old.text) }
+        ensures far { IfOk result (λ made. IsFalse made → self.new.text ≡ self.old.text) }
+        ensures before { self.new.before ≡ self.old.before }
+    {
+        let size = self.text.bytes().len();
+        let Some(part) = self.text.apply_near(first, rest)? else {
+            return Ok(false);
+        };
+        prove!(part.removed <= size);
+        follow(&mut self.heads, self.text.bytes(), part);
+        Ok(true)
     }
 
     // `apply` of the edits behind the first.
@@ -123,7 +145,7 @@ impl Held {
         Ok(())
     }
 
-    // Makes one edit. Where it is made and the headings find no memory, they are let go.
+    // Makes one edit.
     fn apply_one(&mut self, edit: &Edit) -> Result<(), AllocError>
         requires within { edit.now.at + edit.now.removed ≤ length self.old.text.bytes }
         requires stays_terminated { terminated (applied edit.now self.old.text.bytes)
@@ -135,13 +157,12 @@ impl Held {
         let size = self.text.bytes().len();
         prove!(edit.removed <= size);
         self.text.apply(edit)?;
-        if let Some(heads) = &mut self.heads {
-            let added = edit.bytes.len();
-            let followed = heads.edited(self.text.bytes(), edit.at, edit.removed, added);
-            if followed.is_err() {
-                self.heads = None;
-            }
-        }
+        let part = Replaced {
+            at: edit.at,
+            removed: edit.removed,
+            added: edit.bytes.len(),
+        };
+        follow(&mut self.heads, self.text.bytes(), part);
         Ok(())
     }
 
@@ -174,5 +195,19 @@ impl Held {
         } }
     {
         self.text.settle();
+    }
+}
+
+// The headings of a text in which a part was replaced; without memory they are let go.
+fn follow(heads: &mut Option<Heads>, after: &[u8], part: Replaced)
+    requires { IfSome heads.old
+        (λ heads. IsEdit heads after.now part.at part.removed part.added) }
+    ensures { AreHeadsOf after.now heads.new }
+{
+    if let Some(held) = heads {
+        let followed = held.edited(after, part.at, part.removed, part.added);
+        if followed.is_err() {
+            *heads = None;
+        }
     }
 }

@@ -32,7 +32,7 @@ pub struct Texts {
     held: IndexMap<FileName, Held>,
     // The names of the texts that are dirty, in the order of their first touch.
     dirty: IndexSet<FileName>,
-    // How many of them waited before the command.
+    // How many of them were so before the command.
     dirty_before: usize,
     // Where the text that was made ready last stands: the next command mostly asks for it again.
     // Only a guess.
@@ -132,7 +132,7 @@ impl Texts {
             (self.new.ready ≡ with_change name.now (λ _. true) self.old.ready) }
         ensures before { self.new.before ≡ self.old.before }
     {
-        wait(&mut self.dirty, name)?;
+        mark(&mut self.dirty, name)?;
         ready_at(&mut self.held, &mut self.last, name)
     }
 
@@ -174,7 +174,7 @@ impl Texts {
         ensures before { self.new.before ≡ self.old.before }
     {
         let name = change.file.name();
-        wait(&mut self.dirty, name)?;
+        mark(&mut self.dirty, name)?;
         apply_at(&mut self.held, self.last, name, &change.edits)
     }
 
@@ -196,7 +196,7 @@ impl Texts {
         self.dirty_before = self.dirty.len();
     }
 
-    /// Takes all texts as they are for what the disk has: a commit put them there. None waits.
+    /// Takes all texts as they are for what the disk has: a commit put them there. None is dirty.
     /// Takes no memory.
     pub fn settle(&mut self)
         ensures now { self.new.now ≡ settled_set self.old.now }
@@ -294,7 +294,7 @@ fn is_among(names: &IndexSet<FileName>, name: &FileName) -> bool
 }
 
 /// Puts a name behind the others, if it isn't there. `AllocError` leaves them as they are.
-fn wait(names: &mut IndexSet<FileName>, name: &FileName) -> Result<(), AllocError>
+fn mark(names: &mut IndexSet<FileName>, name: &FileName) -> Result<(), AllocError>
     ensures ok { OnOk result (names.new.keys ≡ with_name name.now names.old.keys) }
     ensures err { OnErr result (names.new.keys ≡ names.old.keys) }
 {

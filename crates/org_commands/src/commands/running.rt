@@ -1,7 +1,8 @@
 //! The clock that runs over all files: the first in byte order of their names.
 //!
-//! A file that was searched and has none isn't searched again until it changes.
-ghost use Rattle.std.specs.Prelude.{◌≡◌, IfOk, OnOk, true};
+//! A file that was searched and has none isn't searched again until it changes, and then only where
+//! it did.
+ghost use Rattle.std.specs.Prelude.{◌≡◌, IfOk, OnOk, Some, slice_get, true};
 ghost use Rattle.std.specs.Option.{ForSome, option_map};
 ghost use Rattle.org_commands.specs.Clocks.{RunsHeld, RunsIn, running_over};
 ghost use Rattle.org_commands.specs.Files.{AreBetweenCommands, KeepsHeld};
@@ -15,7 +16,7 @@ use crate::commands::outline::outline_of;
 use crate::files::Files;
 use org_disk::{Disk, FileName};
 use org_outline::States;
-use org_state::{Running, running};
+use org_state::{Running, search};
 
 /// The clock that runs, and the file that it runs in.
 #[derive(Drop)]
@@ -24,13 +25,15 @@ pub(crate) struct Clock {
     pub(crate) running: Running,
 }
 
-/// The clock that runs in one of the files. Its text stays as it is.
+/// The clock that runs in one of the files, which has this number. Its text stays as it is.
 fn running_in_file<D: Disk>(
     files: &mut Files<D>,
     states: &States,
     file: &FileName,
+    index: usize,
 ) -> Result<Option<Running>, RunFault>
     requires name { is_name files.old.names file.now ≡ true }
+    requires index { slice_get files.old.names index ≡ Some file.now }
     requires between { AreBetweenCommands files.old }
     ensures runs { IfOk result (λ found. RunsIn files.new.held.before file.now found) }
     ensures reads { BetweenSessions D.Disk states.now files.old files.new
@@ -40,14 +43,16 @@ fn running_in_file<D: Disk>(
     ensures disk { OnlyReads D.Disk files.old files.new result }
 {
     files.ready(file)?;
-    let found = running(&outline_of(files.held(file), states));
+    let before = files.searched(index);
+    let (found, searched) = search(&outline_of(files.held(file), states), before);
     files.undo();
+    files.note(index, searched);
     Ok(found)
 }
 
 /// The clock that runs: the first over the files in byte order of their names. Each file is read
-/// where it isn't held, up to the one where a clock runs; all texts stay as they are. A file that
-/// was searched isn't searched again until it changes.
+/// where it isn't held, up to the one where a clock runs; all texts stay as they are. What was
+/// searched isn't searched again until it changes.
 pub(crate) fn running_clock<D: Disk>(
     files: &mut Files<D>,
     states: &States,
@@ -70,10 +75,9 @@ pub(crate) fn running_clock<D: Disk>(
             continue;
         }
         let file = files.name(index)?;
-        if let Some(running) = running_in_file(files, states, &file)? {
+        if let Some(running) = running_in_file(files, states, &file, index)? {
             return Ok(Some(Clock { file, running }));
         }
-        files.note_clockless(index);
     }
     Ok(None)
 }

@@ -15,6 +15,19 @@ const ABSENT: &[Step] = &[
     Step::IsAbsent("absent/a.org"),
 ];
 
+// That a file isn't there is believed at the next call on it, and then looked at again: what another
+// program made there meanwhile is seen. What is written later to another file is read back.
+const ASKED_AGAIN: &[Step] = &[
+    Step::Call("a.org", Call::Length, Ok(0), 0),
+    Step::Other("asked/a.org", Entry::File(b"* A\n")),
+    Step::Call("a.org", Call::Length, Ok(0), 0),
+    Step::Call("a.org", Call::Length, Ok(4), 0),
+    Step::Call("b.org", Call::Length, Ok(0), 0),
+    Step::Call("b.org", Call::WriteAndCut(9), Ok(0), 0),
+    Step::Holds("asked/b.org", b"* A\n* C"),
+    Step::Holds("asked/a.org", b"* A\n"),
+];
+
 // Writes, a cut and reads, of which one fails where another program makes the file shorter.
 const WRITTEN: &[Step] = &[
     Step::Call("a.org", Call::WriteAndCut(9), Ok(0), 0),
@@ -97,6 +110,7 @@ const COUNTED: &[Step] = &[
 // Folders, what is in each, and the steps on its disk.
 const FOLDERS: &[(&str, &[(&str, Entry)], &[Step])] = &[
     ("absent", &[], ABSENT),
+    ("asked", &[], ASKED_AGAIN),
     ("written", &[], WRITTEN),
     ("linked", LINKS, LINKED),
     ("entered", &[], ENTERED),

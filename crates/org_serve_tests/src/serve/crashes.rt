@@ -7,12 +7,12 @@ use super::steps::{
 };
 use super::{Ended, calls, disk_of, run, served};
 use crate::shared::image;
-use org_disk::{MemoryDisk, Outcome};
+use org_disk::{Disk, MemoryDisk, Outcome};
 use org_fixtures::OUTCOMES;
 use std::process::Abort;
 
 // How many lines of the step are done in the files of a disk, once it is opened again.
-pub fn done_in(rt: &(impl Abort + AllocGlobal), disk: MemoryDisk, step: &Step) -> u64 {
+pub fn done_in<D: Disk + Drop>(rt: &(impl Abort + AllocGlobal), disk: D, step: &Step) -> u64 {
     let shown = served(rt, disk, step.shows.as_bytes());
     count_of(step, &shown).expect(rt, "the files are as after some of the lines")
 }
@@ -34,7 +34,7 @@ fn serve_crashing(
     group: u32,
     lines: &str,
     at: (u64, Outcome),
-) -> Ended {
+) -> Ended<MemoryDisk> {
     let mut disk = disk;
     disk.crash_at(at.0, at.1);
     run(rt, disk, group, lines.as_bytes())

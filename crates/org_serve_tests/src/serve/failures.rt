@@ -32,14 +32,14 @@ fn serve_failing(
     step: &Step,
     lines: &[u8],
     call: u64,
-) -> Ended {
+) -> Ended<MemoryDisk> {
     let mut disk = files(rt, step);
     disk.fail_at(call);
     run(rt, disk, group, lines)
 }
 
 // Whether a line was told that the disk failed, and each later one that the store is broken.
-fn is_told(ended: &Ended, told: &[&str; 2]) -> bool {
+fn is_told(ended: &Ended<MemoryDisk>, told: &[&str; 2]) -> bool {
     let written = ended.written.as_slice();
     matches!(&ended.end, Ok(ServeEnd::Device))
         && (written == told[0].as_bytes() || written == told[1].as_bytes())

@@ -24,7 +24,7 @@ fn unsynced(rt: &(impl Abort + AllocGlobal)) -> MemoryDisk {
 }
 
 // Serves the capture in groups of one over a disk whose files are synced first.
-fn run_synced(rt: &(impl Abort + AllocGlobal), disk: MemoryDisk) -> Ended {
+fn run_synced(rt: &(impl Abort + AllocGlobal), disk: MemoryDisk) -> Ended<MemoryDisk> {
     let mut reader = Counted::new(CAPTURE.as_bytes());
     let mut writer = Counted::new(Vec::new(rt.alloc()));
     let Served { disk, end } = serve_synced(

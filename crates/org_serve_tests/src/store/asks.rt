@@ -1,5 +1,5 @@
 //! Commands, what they are answered, and what is left on the disk then.
-use super::asking::{Answer, Ask, Row, ask_each};
+use super::asking::{Answer, Ask, Row, answers, ask_each};
 use super::open;
 use crate::shared::two;
 use org_disk::MemoryDisk;
@@ -42,40 +42,14 @@ fn settles_by_command(rt: HostRuntime) {
 
 const NOT_FOUND: RunFault = RunFault::Refused(Refusal::NotFound);
 
-// Paths of no titles, which no line can name, are refused, and a.org stays.
-const NO_TITLES: &[Row] = &[
-    (
-        Ask::Refile("", "a.org", "A"),
-        Answer::Fault(NOT_FOUND),
-        0,
-        0,
-    ),
-    (Ask::Show("a.org"), Answer::Text("* TODO A"), 0, 0),
-    (
-        Ask::Refile("A", "a.org", ""),
-        Answer::Fault(NOT_FOUND),
-        0,
-        0,
-    ),
-    (Ask::Show("a.org"), Answer::Text("* TODO A"), 0, 0),
-    (
-        Ask::Refile("", "b.org", "A"),
-        Answer::Fault(NOT_FOUND),
-        0,
-        0,
-    ),
-    (Ask::Show("a.org"), Answer::Text("* TODO A"), 0, 0),
-    (
-        Ask::Refile("A", "b.org", ""),
-        Answer::Fault(NOT_FOUND),
-        0,
-        0,
-    ),
-    (Ask::Show("a.org"), Answer::Text("* TODO A"), 0, 0),
-    (Ask::Todo(""), Answer::Fault(NOT_FOUND), 0, 0),
-    (Ask::Show("a.org"), Answer::Text("* TODO A"), 0, 0),
-    (Ask::CaptureBelow("", "* N"), Answer::Fault(NOT_FOUND), 0, 0),
-    (Ask::Show("a.org"), Answer::Text("* TODO A"), 0, 0),
+// Paths of no titles, which no line can name.
+const NO_TITLES: &[Ask] = &[
+    Ask::Refile("", "a.org", "A"),
+    Ask::Refile("A", "a.org", ""),
+    Ask::Refile("", "b.org", "A"),
+    Ask::Refile("A", "b.org", ""),
+    Ask::Todo(""),
+    Ask::CaptureBelow("", "* N"),
 ];
 
 const UNCHANGED: &[Row] = &[
@@ -83,9 +57,13 @@ const UNCHANGED: &[Row] = &[
     (Ask::Show("b.org"), Answer::Text("* T\n* T\n* A"), 0, 0),
 ];
 
+// Each of them is refused, and the files stay.
 #[test]
 fn no_titles(rt: HostRuntime) {
     let mut store = open(&rt, two(&rt, "* TODO A", "* T\n* T\n* A"));
-    ask_each(&rt, &mut store, NO_TITLES);
+    for ask in NO_TITLES {
+        assert!(rt; answers(&rt, &mut store, ask, &Answer::Fault(NOT_FOUND)));
+        ask_each(&rt, &mut store, UNCHANGED);
+    }
     ask_again(&rt, store, UNCHANGED);
 }

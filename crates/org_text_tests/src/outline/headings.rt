@@ -15,12 +15,16 @@ use std::process::Abort;
 
 /// Of a heading its level, its subtree and its section, the number of its parent, how many headings
 /// its subtree has, and what stands behind its stars.
-type Heading<'a> = (usize, Span, Span, Option<usize>, usize, &'a [u8]);
+type Heading<'a> = (usize, Range, Range, Option<usize>, usize, &'a [u8]);
+
+/// Where something starts and ends.
+type Range = (usize, usize);
 
 /// The gap, the keyword, the priority, the title and the tags of a heading.
 type Parts<'a> = (&'a [u8], &'a [u8], &'a [u8], &'a [u8], &'a [u8]);
 
 /// What is said of headings, which stand here by their numbers.
+#[derive(Clone, Copy)]
 enum Fact {
     Heading(usize, Heading<'static>),
     /// The heading at a path.
@@ -55,10 +59,15 @@ fn number_of(node: Option<Node>) -> Option<usize> {
     }
 }
 
+fn range(span: Span) -> Range {
+    (span.start, span.end)
+}
+
 fn heading<'a>(rt: &impl Abort, outline: &Outline<'a>, number: usize) -> Heading<'a> {
     let node = node(rt, outline, number);
     let parent = number_of(outline.parent(node));
-    let (subtree, section) = (outline.subtree(node), outline.section(node));
+    let subtree = range(outline.subtree(node));
+    let section = range(outline.section(node));
     let (level, size) = (outline.level(node), outline.size(node));
     (level, subtree, section, parent, size, outline.rest(node))
 }
@@ -146,264 +155,99 @@ const NESTED: &str = "* a\n** b\n*** c\n** d\n* e\n";
 
 const BLOCK: &str = "*\n*\tA\n#+BEGIN_SRC\n* A\n#+END_SRC\n";
 
-const PLACED: &[Row] = &[
-    (
-        MIXED,
-        4,
-        Fact::Heading(
-            0,
-            (
-                1,
-                Span { start: 7, end: 31 },
-                Span { start: 11, end: 13 },
-                None,
-                3,
-                b" a",
-            ),
-        ),
-    ),
-    (
-        MIXED,
-        4,
-        Fact::Heading(
-            2,
-            (
-                2,
-                Span { start: 19, end: 31 },
-                Span { start: 24, end: 31 },
-                Some(0),
-                1,
-                b" c",
-            ),
-        ),
-    ),
-    (
-        NESTED,
-        5,
-        Fact::Heading(
-            1,
-            (
-                2,
-                Span { start: 4, end: 15 },
-                Span { start: 9, end: 9 },
-                Some(0),
-                2,
-                b" b",
-            ),
-        ),
-    ),
+/// A text, how many headings it has, the number of one, and what is said of it.
+const PLACED: &[(&str, usize, usize, Heading)] = &[
+    (MIXED, 4, 0, (1, (7, 31), (11, 13), None, 3, b" a")),
+    (MIXED, 4, 2, (2, (19, 31), (24, 31), Some(0), 1, b" c")),
+    (NESTED, 5, 1, (2, (4, 15), (9, 9), Some(0), 2, b" b")),
     // A level is left out.
     (
         "* A\n*** X\n** Y\n",
         3,
-        Fact::Heading(
-            2,
-            (
-                2,
-                Span { start: 10, end: 15 },
-                Span { start: 15, end: 15 },
-                Some(0),
-                1,
-                b" Y",
-            ),
-        ),
+        2,
+        (2, (10, 15), (15, 15), Some(0), 1, b" Y"),
     ),
     (
         "* A\n*** X\n",
         2,
-        Fact::Heading(
-            1,
-            (
-                3,
-                Span { start: 4, end: 10 },
-                Span { start: 10, end: 10 },
-                Some(0),
-                1,
-                b" X",
-            ),
-        ),
+        1,
+        (3, (4, 10), (10, 10), Some(0), 1, b" X"),
     ),
     // Of a block the line that looks like a heading is one; stars without a blank are none.
-    (
-        BLOCK,
-        1,
-        Fact::Heading(
-            0,
-            (
-                1,
-                Span { start: 18, end: 32 },
-                Span { start: 22, end: 32 },
-                None,
-                1,
-                b" A",
-            ),
-        ),
-    ),
+    (BLOCK, 1, 0, (1, (18, 32), (22, 32), None, 1, b" A")),
     // After the rows of `edits`.
-    ("x* A\n", 0, Fact::Level("x* A", None)),
+    ("* A\n", 1, 0, (1, (0, 4), (4, 4), None, 1, b" A")),
     (
-        "* A\n",
+        "* A\n** N\n* B\n",
+        3,
+        0,
+        (1, (0, 9), (4, 4), None, 2, b" A"),
+    ),
+    (
+        "* A\n** N\n* B\n",
+        3,
         1,
-        Fact::Heading(
-            0,
-            (
-                1,
-                Span { start: 0, end: 4 },
-                Span { start: 4, end: 4 },
-                None,
-                1,
-                b" A",
-            ),
-        ),
+        (2, (4, 9), (9, 9), Some(0), 1, b" N"),
     ),
     (
         "* A\n** N\n* B\n",
         3,
-        Fact::Heading(
-            0,
-            (
-                1,
-                Span { start: 0, end: 9 },
-                Span { start: 4, end: 4 },
-                None,
-                2,
-                b" A",
-            ),
-        ),
-    ),
-    (
-        "* A\n** N\n* B\n",
-        3,
-        Fact::Heading(
-            1,
-            (
-                2,
-                Span { start: 4, end: 9 },
-                Span { start: 9, end: 9 },
-                Some(0),
-                1,
-                b" N",
-            ),
-        ),
-    ),
-    (
-        "* A\n** N\n* B\n",
-        3,
-        Fact::Heading(
-            2,
-            (
-                1,
-                Span { start: 9, end: 13 },
-                Span { start: 13, end: 13 },
-                None,
-                1,
-                b" B",
-            ),
-        ),
+        2,
+        (1, (9, 13), (13, 13), None, 1, b" B"),
     ),
 ];
 
-const NAMES: &[Row] = &[
+const FACTS: &[Row] = &[
     (NAMED, 7, Fact::Path(&["A"], Err(PathFault::NotUnique))),
     (NAMED, 7, Fact::Path(&["C", "D"], Err(PathFault::NotUnique))),
     (NAMED, 7, Fact::Path(&["C", "B"], Ok(6))),
     (NAMED, 7, Fact::Path(&["B"], Err(PathFault::NotFound))),
     (NAMED, 7, Fact::Path(&[], Err(PathFault::NotFound))),
     (NAMED, 7, Fact::Differ(&["C", "B"], &["A"])),
-];
-
-const KEYWORDS: &[Row] = &[
-    ("* A\n", 1, Fact::Parts((b" ", b"", b"", b"A", b""))),
-    ("* DONE\n", 1, Fact::Parts((b" ", b"DONE", b"", b"", b""))),
-    (
-        "* TODO[#A] x\n",
-        1,
-        Fact::Parts((b" ", b"", b"", b"TODO[#A] x", b"")),
-    ),
-    (
-        "* todo x\n",
-        1,
-        Fact::Parts((b" ", b"", b"", b"todo x", b"")),
-    ),
-    (
-        "* COMMENT A\n",
-        1,
-        Fact::Parts((b" ", b"", b"", b"COMMENT A", b"")),
-    ),
-    // Priorities.
-    (
-        "** TODO [#A] Call Ann :x:y:\n",
-        1,
-        Fact::Parts((b" ", b"TODO", b"[#A]", b"Call Ann", b":x:y:")),
-    ),
-    ("* [#a]x\n", 1, Fact::Parts((b" ", b"", b"[#a]", b"x", b""))),
-    (
-        "* [#1] x\n",
-        1,
-        Fact::Parts((b" ", b"", b"[#1]", b"x", b"")),
-    ),
-    (
-        "* [#AB] x\n",
-        1,
-        Fact::Parts((b" ", b"", b"", b"[#AB] x", b"")),
-    ),
-    (
-        "* [#A]:x:\n",
-        1,
-        Fact::Parts((b" ", b"", b"[#A]", b":x:", b"")),
-    ),
-];
-
-const TAGS: &[Row] = &[
-    (
-        "* TODO :x:\n",
-        1,
-        Fact::Parts((b" ", b"TODO", b"", b"", b":x:")),
-    ),
-    ("* :x:\n", 1, Fact::Parts((b" ", b"", b"", b"", b":x:"))),
-    (
-        "* A :a::b:\n",
-        1,
-        Fact::Parts((b" ", b"", b"", b"A :a::b:", b"")),
-    ),
-    (
-        "* A :a_@#%1:\n",
-        1,
-        Fact::Parts((b" ", b"", b"", b"A", b":a_@#%1:")),
-    ),
-    (
-        "* A :a-b:\n",
-        1,
-        Fact::Parts((b" ", b"", b"", b"A :a-b:", b"")),
-    ),
-    (
-        "* \u{c4} :\u{e9}:\n",
-        1,
-        Fact::Parts((b" ", b"", b"", b"\xc3\x84", b":\xc3\xa9:")),
-    ),
-    // Blanks.
-    (
-        "* TODO A\r\n",
-        1,
-        Fact::Parts((b" ", b"TODO", b"", b"A", b"")),
-    ),
-    ("* A\r \n", 1, Fact::Parts((b" ", b"", b"", b"A", b""))),
-    (
-        "* A\r :x:\n",
-        1,
-        Fact::Parts((b" ", b"", b"", b"A\r", b":x:")),
-    ),
-    (
-        "* \tTODO\t[#B]\tA\t:x:\t\n",
-        1,
-        Fact::Parts((b" \t", b"TODO", b"[#B]", b"A", b":x:")),
-    ),
-    ("* \n", 1, Fact::Parts((b" ", b"", b"", b"", b""))),
-    ("*   \t\n", 1, Fact::Parts((b"   \t", b"", b"", b"", b""))),
     // The title and the level of a heading without an outline.
     ("", 0, Fact::Titled(" TODO a :x:", "a")),
     ("", 0, Fact::Level("** a", Some(2))),
     ("*\tA\n", 0, Fact::Level("*\tA", None)),
+    ("x* A\n", 0, Fact::Level("x* A", None)),
+];
+
+/// Texts of one heading, and its parts.
+const PARTS: &[(&str, Parts)] = &[
+    // Keywords.
+    ("* A\n", (b" ", b"", b"", b"A", b"")),
+    ("* DONE\n", (b" ", b"DONE", b"", b"", b"")),
+    ("* TODO[#A] x\n", (b" ", b"", b"", b"TODO[#A] x", b"")),
+    ("* todo x\n", (b" ", b"", b"", b"todo x", b"")),
+    ("* COMMENT A\n", (b" ", b"", b"", b"COMMENT A", b"")),
+    // Priorities.
+    (
+        "** TODO [#A] Call Ann :x:y:\n",
+        (b" ", b"TODO", b"[#A]", b"Call Ann", b":x:y:"),
+    ),
+    ("* [#a]x\n", (b" ", b"", b"[#a]", b"x", b"")),
+    ("* [#1] x\n", (b" ", b"", b"[#1]", b"x", b"")),
+    ("* [#AB] x\n", (b" ", b"", b"", b"[#AB] x", b"")),
+    ("* [#A]:x:\n", (b" ", b"", b"[#A]", b":x:", b"")),
+    // Tags.
+    ("* TODO :x:\n", (b" ", b"TODO", b"", b"", b":x:")),
+    ("* :x:\n", (b" ", b"", b"", b"", b":x:")),
+    ("* A :a::b:\n", (b" ", b"", b"", b"A :a::b:", b"")),
+    ("* A :a_@#%1:\n", (b" ", b"", b"", b"A", b":a_@#%1:")),
+    ("* A :a-b:\n", (b" ", b"", b"", b"A :a-b:", b"")),
+    (
+        "* \u{c4} :\u{e9}:\n",
+        (b" ", b"", b"", b"\xc3\x84", b":\xc3\xa9:"),
+    ),
+    // Blanks.
+    ("* TODO A\r\n", (b" ", b"TODO", b"", b"A", b"")),
+    ("* A\r \n", (b" ", b"", b"", b"A", b"")),
+    ("* A\r :x:\n", (b" ", b"", b"", b"A\r", b":x:")),
+    (
+        "* \tTODO\t[#B]\tA\t:x:\t\n",
+        (b" \t", b"TODO", b"[#B]", b"A", b":x:"),
+    ),
+    ("* \n", (b" ", b"", b"", b"", b"")),
+    ("*   \t\n", (b"   \t", b"", b"", b"", b"")),
 ];
 
 /// Asserts that a row is right.
@@ -414,18 +258,30 @@ fn assert_row(rt: &impl Abort, alloc: Global, states: &States, row: &Row) {
     assert!(rt; is_right, "{}", row.0);
 }
 
-fn assert_rows(rt: &impl Abort, alloc: Global, rows: &[Row]) {
-    let states = states(rt, alloc);
-    for row in rows {
-        assert_row(rt, alloc, &states, row);
+#[test]
+fn headings(rt: HostRuntime) {
+    let states = states(&rt, rt.alloc());
+    for (text, count, number, heading) in PLACED {
+        let row = (*text, *count, Fact::Heading(*number, *heading));
+        assert_row(&rt, rt.alloc(), &states, &row);
     }
     drop(states);
 }
 
 #[test]
-fn headings(rt: HostRuntime) {
-    assert_rows(&rt, rt.alloc(), PLACED);
-    assert_rows(&rt, rt.alloc(), NAMES);
-    assert_rows(&rt, rt.alloc(), KEYWORDS);
-    assert_rows(&rt, rt.alloc(), TAGS);
+fn parts_of_headings(rt: HostRuntime) {
+    let states = states(&rt, rt.alloc());
+    for (text, parts) in PARTS {
+        assert_row(&rt, rt.alloc(), &states, &(*text, 1, Fact::Parts(*parts)));
+    }
+    drop(states);
+}
+
+#[test]
+fn paths_titles_and_levels(rt: HostRuntime) {
+    let states = states(&rt, rt.alloc());
+    for row in FACTS {
+        assert_row(&rt, rt.alloc(), &states, row);
+    }
+    drop(states);
 }

@@ -13,6 +13,8 @@ enum Step {
     Splice(usize, usize, &'static [u8]),
     /// The same by an edit.
     Apply(Splice),
+    /// Edits that are made at once, and whether they lie near one another.
+    Near(Splice, &'static [Splice], bool),
     /// A last line without a newline gets one.
     Terminate,
     Keep,
@@ -41,6 +43,12 @@ fn go(rt: &impl Abort, alloc: Global, text: &mut Editing, step: &Step) -> bool {
         Step::Text(bytes) => *text = new_text(rt, alloc, bytes),
         Step::Splice(at, removed, bytes) => splice(rt, text, *at, *removed, bytes),
         Step::Apply(splice) => make(rt, text, &edit_of(rt, alloc, splice)),
+        Step::Near(first, rest, are_near) => {
+            let first = edit_of(rt, alloc, first);
+            let rest = edits_of(rt, alloc, rest);
+            let part = text.apply_near(&first, &rest).expect(rt, "memory");
+            return part.is_some() == *are_near;
+        }
         Step::Terminate => text.terminate().expect(rt, "memory"),
         Step::Keep => text.keep(),
         Step::Undo => text.undo(),
@@ -57,68 +65,58 @@ fn go(rt: &impl Abort, alloc: Global, text: &mut Editing, step: &Step) -> bool {
 
 const HEADINGS: &[u8] = b"* A\n* B\n";
 
-const OF_ONE_SIZE: &[Step] = &[
-    Step::Text(HEADINGS),
-    Step::Is(false, b"* A\n* B\n", NONE),
-    Step::Settle,
-    Step::Is(false, b"* A\n* B\n", NONE),
-    Step::Text(HEADINGS),
-    Step::Splice(2, 1, b"C"),
-    Step::Is(true, b"* C\n* B\n", &[(2, b"C")]),
-    Step::Settle,
-    Step::Is(false, b"* C\n* B\n", NONE),
-    Step::Text(HEADINGS),
-    Step::Splice(2, 1, b"C"),
-    Step::Splice(6, 1, b"D"),
-    Step::Is(true, b"* C\n* D\n", &[(2, b"C"), (6, b"D")]),
-    Step::Settle,
-    Step::Is(false, b"* C\n* D\n", NONE),
-    Step::Text(HEADINGS),
-    Step::Splice(6, 1, b"D"),
-    Step::Splice(2, 1, b"C"),
-    Step::Is(true, b"* C\n* D\n", &[(2, b"C"), (6, b"D")]),
-    Step::Settle,
-    Step::Is(false, b"* C\n* D\n", NONE),
-    Step::Text(HEADINGS),
-    Step::Splice(2, 1, b"C"),
-    Step::Splice(3, 1, b" "),
-    Step::Is(true, b"* C * B\n", &[(2, b"C ")]),
-    Step::Settle,
-    Step::Is(false, b"* C * B\n", NONE),
-];
+/// A text, what is spliced into it, and its bytes and patches then.
+type Spliced = (
+    &'static [u8],
+    &'static [Splice],
+    &'static [u8],
+    &'static [Patched],
+);
 
-const OF_OTHER_SIZES: &[Step] = &[
-    Step::Text(HEADINGS),
-    Step::Splice(2, 1, b"CC"),
-    Step::Is(true, b"* CC\n* B\n", &[(2, b"CC\n* B\n")]),
-    Step::Settle,
-    Step::Is(false, b"* CC\n* B\n", NONE),
-    Step::Text(HEADINGS),
-    Step::Splice(4, 4, b""),
-    Step::Is(true, b"* A\n", NONE),
-    Step::Settle,
-    Step::Is(false, b"* A\n", NONE),
-    Step::Text(HEADINGS),
-    Step::Splice(5, 2, b"xy"),
-    Step::Splice(6, 2, b""),
-    Step::Is(true, b"* A\n*x", &[(5, b"x")]),
-    Step::Settle,
-    Step::Is(false, b"* A\n*x", NONE),
-    Step::Text(HEADINGS),
-    Step::Splice(8, 0, b"* N\n"),
-    Step::Is(true, b"* A\n* B\n* N\n", &[(8, b"* N\n")]),
-    Step::Settle,
-    Step::Is(false, b"* A\n* B\n* N\n", NONE),
-    Step::Text(HEADINGS),
-    Step::Splice(3, 0, b""),
-    Step::Is(true, b"* A\n* B\n", NONE),
-    Step::Settle,
-    Step::Is(false, b"* A\n* B\n", NONE),
-    Step::Text(b"* A\n"),
-    Step::Splice(2, 1, b"B"),
-    Step::Is(true, b"* B\n", &[(2, b"B")]),
-    Step::Settle,
-    Step::Is(false, b"* B\n", NONE),
+const SPLICED: &[Spliced] = &[
+    (HEADINGS, &[], b"* A\n* B\n", NONE),
+    // Of one size.
+    (HEADINGS, &[(2, 1, b"C")], b"* C\n* B\n", &[(2, b"C")]),
+    (
+        HEADINGS,
+        &[(2, 1, b"C"), (6, 1, b"D")],
+        b"* C\n* D\n",
+        &[(2, b"C"), (6, b"D")],
+    ),
+    (
+        HEADINGS,
+        &[(6, 1, b"D"), (2, 1, b"C")],
+        b"* C\n* D\n",
+        &[(2, b"C"), (6, b"D")],
+    ),
+    (
+        HEADINGS,
+        &[(2, 1, b"C"), (3, 1, b" ")],
+        b"* C * B\n",
+        &[(2, b"C ")],
+    ),
+    (b"* A\n", &[(2, 1, b"B")], b"* B\n", &[(2, b"B")]),
+    // Of other sizes.
+    (
+        HEADINGS,
+        &[(2, 1, b"CC")],
+        b"* CC\n* B\n",
+        &[(2, b"CC\n* B\n")],
+    ),
+    (HEADINGS, &[(4, 4, b"")], b"* A\n", NONE),
+    (
+        HEADINGS,
+        &[(5, 2, b"xy"), (6, 2, b"")],
+        b"* A\n*x",
+        &[(5, b"x")],
+    ),
+    (
+        HEADINGS,
+        &[(8, 0, b"* N\n")],
+        b"* A\n* B\n* N\n",
+        &[(8, b"* N\n")],
+    ),
+    (HEADINGS, &[(3, 0, b"")], b"* A\n* B\n", NONE),
 ];
 
 const TERMINATED: &[Step] = &[
@@ -172,6 +170,36 @@ const EDITED: &[Step] = &[
     Step::Size(usize::MAX, &[(0, 0, b"* A\n")], None),
 ];
 
+const LONG: &[u8] = &[b'\n'; 20_000];
+
+// Edits made at once where they lie near one another.
+const NEAR: &[Step] = &[
+    // A later heading first.
+    Step::Text(HEADINGS),
+    Step::Near((6, 1, b"D"), &[(2, 1, b"C")], true),
+    Step::Is(true, b"* C\n* D\n", &[(2, b"C"), (6, b"D")]),
+    Step::Undo,
+    Step::Is(false, b"* A\n* B\n", NONE),
+    // The places of later edits are those of the text behind the first.
+    Step::Near((2, 1, b"CC"), &[(7, 1, b"DDD"), (0, 1, b"**")], true),
+    Step::Is(true, b"** CC\n* DDD\n", &[(0, b"** CC\n* DDD\n")]),
+    Step::Undo,
+    Step::Is(false, b"* A\n* B\n", NONE),
+    // What an edit puts in, another takes out again.
+    Step::Near((3, 0, b"xyz"), &[(4, 1, b"")], true),
+    Step::Is(true, b"* Axz\n* B\n", &[(3, b"xz\n* B\n")]),
+    Step::Near((0, 6, b""), &[(0, 0, b"")], true),
+    Step::Is(true, b"* B\n", &[(0, b"* B\n")]),
+    // Edits that don't lie in the text, or lie far apart, change nothing.
+    Step::Near((5, 0, b"x"), &[(0, 1, b"x")], false),
+    Step::Is(true, b"* B\n", &[(0, b"* B\n")]),
+    Step::Undo,
+    Step::Is(false, b"* A\n* B\n", NONE),
+    Step::Text(LONG),
+    Step::Near((19_999, 1, b"x"), &[(0, 1, b"x")], false),
+    Step::Is(false, LONG, NONE),
+];
+
 /// Goes through steps, the first of which is a text.
 fn assert_goes(rt: &impl Abort, alloc: Global, steps: &[Step]) {
     let mut text = new_text(rt, alloc, b"");
@@ -181,12 +209,30 @@ fn assert_goes(rt: &impl Abort, alloc: Global, steps: &[Step]) {
     drop(text);
 }
 
+/// Splices the text of a row, and settles it.
+fn is_spliced(rt: &impl Abort, alloc: Global, row: &Spliced) -> bool {
+    let (text, splices, bytes, patches) = row;
+    let mut text = new_text(rt, alloc, text);
+    for (at, removed, new) in *splices {
+        splice(rt, &mut text, *at, *removed, new);
+    }
+    let is_edited = text.is_edited() != splices.is_empty() && has(rt, &text, bytes, patches);
+    text.settle();
+    is_edited && !text.is_edited() && has(rt, &text, bytes, NONE)
+}
+
+#[test]
+fn texts_spliced_and_settled(rt: HostRuntime) {
+    for (i, row) in SPLICED.iter().enumerate() {
+        assert!(rt; is_spliced(&rt, rt.alloc(), row), "row {i}");
+    }
+}
+
 #[test]
 fn texts_under_edit(rt: HostRuntime) {
-    assert_goes(&rt, rt.alloc(), OF_ONE_SIZE);
-    assert_goes(&rt, rt.alloc(), OF_OTHER_SIZES);
     assert_goes(&rt, rt.alloc(), TERMINATED);
     assert_goes(&rt, rt.alloc(), EDITED);
+    assert_goes(&rt, rt.alloc(), NEAR);
 }
 
 /// Changes every other byte of a text, and asserts that each is a patch of its own, up to a

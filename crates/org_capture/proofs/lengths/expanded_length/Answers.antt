@@ -27,22 +27,16 @@ returns-in_default c =
 
 pub returns-in_err-sizes : goal.returns-in_err-sizes
 returns-in_err-sizes c =
-    let m = c.args.moment in
-    let initial : List ℕ = c.args.initial_text.now in
     let was = c.loop-piece.invariant in
     let text : List ℕ = was.0 ++ c.split_plain.result.0.now in
-    let put = c.with_bytes-sizes.ensures was.0 was.1 in
-    let run = sym (c.split_plain.ensures.plain m initial was.0) ∙ was.2 in
+    let run = sym (c.split_plain.ensures.plain c.args.moment c.args.initial_text.now was.0) ∙ was.2 in
     let p = err_from_is_err_and c.from_residual.result c.from_residual.ensures.1 in
-    not_filled _ _ text _ c.in_err-sizes.field-0.0 p.0 p.1 p.2 (c.in_err-sizes.ensures text put) (λ none. sym run ∙ fills_badly m initial text _ _ c.in-Some.piece c.in-Some.ensures.value none)
+    not_filled _ _ text _ c.in_err-sizes.field-0.0 p.0 p.1 p.2 (c.in_err-sizes.ensures text (c.with_bytes-sizes.ensures was.0 was.1)) (λ none. sym run ∙ fills_badly c.args.moment c.args.initial_text.now text _ _ c.in-Some.piece c.in-Some.ensures.value none)
 
 pub loop-piece-preserved : goal.loop-piece-preserved
 loop-piece-preserved c =
-    let m = c.args.moment in
-    let initial : List ℕ = c.args.initial_text.now in
     let was = c.loop-piece.invariant in
     let text : List ℕ = was.0 ++ c.split_plain.result.0.now in
-    let put = c.with_bytes-sizes.ensures was.0 was.1 in
-    let run = sym (c.split_plain.ensures.plain m initial was.0) ∙ was.2 in
-    let grown = c.in_ok-sizes.ensures text put in
-    (text ++ grown.0, grown.2, sym (fills m initial text grown.0 (text ++ grown.0) _ _ c.in-Some.piece c.in-Some.ensures.value grown.1 refl) ∙ run)
+    let run = sym (c.split_plain.ensures.plain c.args.moment c.args.initial_text.now was.0) ∙ was.2 in
+    let grown = c.in_ok-sizes.ensures text (c.with_bytes-sizes.ensures was.0 was.1) in
+    (text ++ grown.0, grown.2, sym (fills c.args.moment c.args.initial_text.now text grown.0 (text ++ grown.0) _ _ c.in-Some.piece c.in-Some.ensures.value grown.1 refl) ∙ run)

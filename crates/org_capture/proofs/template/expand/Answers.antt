@@ -1,4 +1,4 @@
-use Rattle.std.proofs.Common.{◌≡◌, ◌==◌, ◌∙◌, ◌++◌, ℕ, List, Ok, Result, ap, false, sym}
+use Rattle.std.proofs.Common.{◌≡◌, ◌==◌, ◌∙◌, ◌++◌, ℕ, List, Ok, ap, false, sym}
 use Rattle.std.specs.List.{list_any}
 use Rattle.org_capture.specs.Template.{filled, pieces_of}
 use Rattle.org_capture.proofs.Fillings.{no_sign_stays}

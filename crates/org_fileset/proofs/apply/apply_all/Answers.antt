@@ -16,7 +16,7 @@ use Rattle.org_fileset.proofs.apply.apply_all.Goals as goal
 pub loop-entry-init : goal.loop-entry-init
 loop-entry-init g c = record {
   accounts = accounts_none g.D.Disk c.args.disk.now;
-  replays = λ honest stable texts takes. replays_none (g.D.Disk.moment c.args.disk.now) (g.D.Disk.left_since c.args.disk.now) (g.D.Disk.files c.args.disk.now) takes;
+  replays = λ honest stable texts takes. replays_none (g.D.Disk.instant c.args.disk.now) (g.D.Disk.left_since c.args.disk.now) (g.D.Disk.files c.args.disk.now) takes;
   have = λ honest j entry none is. absurd (omega arith);
   untouched = λ honest j entry le is. refl;
   alone = λ honest. alone_none g.D.Disk (λ name. IsFalse (is_named name c.args.entries.now)) c.args.disk.now;
@@ -25,18 +25,14 @@ loop-entry-init g c = record {
 pub apply_entry-requires-clause-formed : goal.apply_entry-requires-clause-formed
 apply_entry-requires-clause-formed g c h =
     let honest = c.loop-entry.invariant.accounts.was_honest h in
-    let i = c.loop-entry.entry-index in
-    let entry = c.entry-item.result in
-    let is = slice_get_read c.args.entries.now (length c.args.entries.now) i entry refl c.loop-entry-test.true c.entry-item.is in
-    (applicable_at c.args.entries.now i entry (c.requires.applicable honest).each is).patches
+    let is = slice_get_read c.args.entries.now (length c.args.entries.now) c.loop-entry.entry-index c.entry-item.result refl c.loop-entry-test.true c.entry-item.is in
+    (applicable_at c.args.entries.now c.loop-entry.entry-index c.entry-item.result (c.requires.applicable honest).each is).patches
 
 pub apply_entry-requires-clause-small : goal.apply_entry-requires-clause-small
 apply_entry-requires-clause-small g c h =
     let honest = c.loop-entry.invariant.accounts.was_honest h in
-    let i = c.loop-entry.entry-index in
-    let entry = c.entry-item.result in
-    let is = slice_get_read c.args.entries.now (length c.args.entries.now) i entry refl c.loop-entry-test.true c.entry-item.is in
-    let small = (applicable_at c.args.entries.now i entry (c.requires.applicable honest).each is).small in
+    let is = slice_get_read c.args.entries.now (length c.args.entries.now) c.loop-entry.entry-index c.entry-item.result refl c.loop-entry-test.true c.entry-item.is in
+    let small = (applicable_at c.args.entries.now c.loop-entry.entry-index c.entry-item.result (c.requires.applicable honest).each is).small in
     omega (arith, small)
 
 pub apply_entry-requires-clause-fits : goal.apply_entry-requires-clause-fits

@@ -16,7 +16,7 @@ invariant-loop-entry g l =
     record {
       accounts : Accounts disk l.fn.disk l.disk ⊥;
       replays : disk.honest l.disk → IsStable (disk.files l.fn.disk journal_name) → (texts : Image) → EachTakes l.entries texts (disk.files l.fn.disk)
-          → Replays l.entries texts (disk.moment l.fn.disk) (disk.moment l.disk) (disk.left_since l.fn.disk) (disk.left_since l.disk) (disk.files l.fn.disk) (disk.files l.disk);
+          → Replays l.entries texts (disk.instant l.fn.disk) (disk.instant l.disk) (disk.left_since l.fn.disk) (disk.left_since l.disk) (disk.files l.fn.disk) (disk.files l.disk);
       have : disk.honest l.disk → HaveTexts l.entries (replayed l.entries (contents (disk.files l.fn.disk))) l.entry-index (disk.files l.disk);
       untouched : disk.honest l.disk → AreUntouched l.entries l.entry-index (disk.files l.fn.disk) (disk.files l.disk);
       alone : disk.honest l.disk → LeavesAlone disk (λ name. IsFalse (is_named name l.entries)) l.fn.disk l.disk;

@@ -15,7 +15,7 @@ loop-patch-init g c = record {
   accounts = accounts_none g.D.Disk c.args.disk.now;
   content = λ honest. refl;
   alone = λ honest. alone_none g.D.Disk (λ other. other ≢ c.args.entry.now.name) c.args.disk.now;
-  applies = λ honest to takes. applies_none (g.D.Disk.moment c.args.disk.now) (g.D.Disk.left_since c.args.disk.now) (g.D.Disk.files c.args.disk.now) takes;
+  applies = λ honest to takes. applies_none (g.D.Disk.instant c.args.disk.now) (g.D.Disk.left_since c.args.disk.now) (g.D.Disk.files c.args.disk.now) takes;
 }
 
 pub write_at-requires-clause-within : goal.write_at-requires-clause-within

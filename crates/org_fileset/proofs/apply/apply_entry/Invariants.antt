@@ -16,5 +16,5 @@ invariant-loop-patch g l =
       content : disk.honest l.disk → (disk.files l.disk l.entry.name).content ≡ patched_each (take l.patch-index patches) (disk.files l.fn.disk l.entry.name).content;
       alone : disk.honest l.disk → LeavesAlone disk (λ other. other ≢ l.entry.name) l.fn.disk l.disk;
       applies : disk.honest l.disk → (to : List ℕ) → EachPatchedTo patches l.entry.length to (disk.files l.fn.disk l.entry.name)
-          → AppliesPatches patches l.entry.length l.entry.name to (disk.moment l.fn.disk) (disk.moment l.disk) (disk.left_since l.fn.disk) (disk.left_since l.disk) (disk.files l.fn.disk) (disk.files l.disk);
+          → AppliesPatches patches l.entry.length l.entry.name to (disk.instant l.fn.disk) (disk.instant l.disk) (disk.left_since l.fn.disk) (disk.left_since l.disk) (disk.files l.fn.disk) (disk.files l.disk);
     }

@@ -13,7 +13,7 @@ use Rattle.org_fileset.proofs.apply.sync_all.Goals as goal
 pub loop-entry-init : goal.loop-entry-init
 loop-entry-init g c = record {
   accounts = accounts_none g.D.Disk c.args.disk.now;
-  replays = λ honest stable texts takes. replays_none (g.D.Disk.moment c.args.disk.now) (g.D.Disk.left_since c.args.disk.now) (g.D.Disk.files c.args.disk.now) takes;
+  replays = λ honest stable texts takes. replays_none (g.D.Disk.instant c.args.disk.now) (g.D.Disk.left_since c.args.disk.now) (g.D.Disk.files c.args.disk.now) takes;
   contents = λ honest name. refl;
   alone = λ honest. alone_none g.D.Disk (λ name. IsFalse (is_named name c.args.entries.now)) c.args.disk.now;
   stable = λ honest j entry none is. absurd (omega arith);

@@ -1,7 +1,7 @@
 use Rattle.std.proofs.Common.{◌≤◌, ◌<◌, ℕ, List, Option, Some, length, refl, sym, ◌∙◌, ap, arith}
 use Rattle.std.proofs.lemmas.List.{at_drop_all}
 use Rattle.org_disk.specs.Disk.{FileState}
-use Rattle.org_disk.proofs.Accounting.{accounts_none, accounts_then, accounts_call, accounts_call_ok, looks_none, looks_then}
+use Rattle.org_disk.proofs.Accounting.{accounts_call, accounts_call_ok, accounts_none, accounts_then, looks_behind, looks_none, looks_then}
 use Rattle.org_journal.proofs.Accounted.{accounts_answered, accounts_quiet, accounts_told}
 use Rattle.org_fileset.proofs.Accounted.{accounts_other}
 use Rattle.org_journal.specs.Recovered.{contents}
@@ -27,16 +27,13 @@ loop-name-preserved g c =
     }
 
 pub returns-in_err-length-clause-looks : goal.returns-in_err-length-clause-looks
-returns-in_err-length-clause-looks g c ended =
-    looks_then (c.loop-name.invariant.looks (c.length.ensures.accounts.was_honest ended)) (c.length.ensures.looks ended)
+returns-in_err-length-clause-looks g c = looks_behind c.loop-name.invariant.looks c.length.ensures.accounts.was_honest c.length.ensures.looks
 
 pub returns-in_err-clone-clause-looks : goal.returns-in_err-clone-clause-looks
-returns-in_err-clone-clause-looks g c ended =
-    looks_then (c.loop-name.invariant.looks (c.length.ensures.accounts.was_honest ended)) (c.length.ensures.looks ended)
+returns-in_err-clone-clause-looks g c = looks_behind c.loop-name.invariant.looks c.length.ensures.accounts.was_honest c.length.ensures.looks
 
 pub returns-then-branch-clause-looks : goal.returns-then-branch-clause-looks
-returns-then-branch-clause-looks g c ended =
-    looks_then (c.loop-name.invariant.looks (c.length.ensures.accounts.was_honest ended)) (c.length.ensures.looks ended)
+returns-then-branch-clause-looks g c = looks_behind c.loop-name.invariant.looks c.length.ensures.accounts.was_honest c.length.ensures.looks
 
 pub returns-in_err-length-clause-accounts : goal.returns-in_err-length-clause-accounts
 returns-in_err-length-clause-accounts g c =

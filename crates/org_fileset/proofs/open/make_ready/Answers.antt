@@ -38,7 +38,7 @@ returns-clause-reopens g c ended =
       bad = λ none. absurd (subst (λ (o : Option Image). IsSomeAnd o (SameFiles (contents mid))) none made.done.recovered_then);
       idle = λ closed.
           let leaves = made.idle closed in
-          since_start (passes_then leaves.passes looks.time (λ image left. leaves.each image (g.met.D.Disk.counts_now c.recover.new.disk (g.D.Disk.moment c.args.disk.now) image h1 leaves.passes.later left)))
+          since_start (passes_then leaves.passes looks.time (λ image left. leaves.each image (g.met.D.Disk.counts_now c.recover.new.disk (g.D.Disk.instant c.args.disk.now) image h1 leaves.passes.later left)))
           old (g.met.D.Disk.only_now c.args.disk.now) honest (λ image left. left);
       alone = alone_then g.D.Disk (IsUnconcerned (contents old journal_name)) c.args.disk.now c.recover.new.disk c.check_sizes.new.disk made.alone
           (alone_looks g.D.Disk (IsUnconcerned (contents old journal_name)) c.recover.new.disk c.check_sizes.new.disk looks);

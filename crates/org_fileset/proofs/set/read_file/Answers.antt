@@ -1,15 +1,13 @@
-use Rattle.org_disk.proofs.Accounting.{accounts_then, accounts_call, accounts_call_ok, looks_then}
+use Rattle.org_disk.proofs.Accounting.{accounts_call, accounts_call_ok, accounts_then, looks_behind}
 use Rattle.org_journal.proofs.Accounted.{accounts_answered, accounts_told}
 use Rattle.org_fileset.proofs.Accounted.{accounts_other}
 use Rattle.org_fileset.proofs.set.read_file.Goals as goal
 
 pub returns-in_err-read_at-clause-looks : goal.returns-in_err-read_at-clause-looks
-returns-in_err-read_at-clause-looks g c ended =
-    looks_then (c.length.ensures.looks (c.read_at.ensures.accounts.was_honest ended)) (c.read_at.ensures.looks ended)
+returns-in_err-read_at-clause-looks g c = looks_behind c.length.ensures.looks c.read_at.ensures.accounts.was_honest c.read_at.ensures.looks
 
 pub returns-clause-looks : goal.returns-clause-looks
-returns-clause-looks g c ended =
-    looks_then (c.length.ensures.looks (c.read_at.ensures.accounts.was_honest ended)) (c.read_at.ensures.looks ended)
+returns-clause-looks g c = looks_behind c.length.ensures.looks c.read_at.ensures.accounts.was_honest c.read_at.ensures.looks
 
 pub returns-in_err-length-clause-accounts : goal.returns-in_err-length-clause-accounts
 returns-in_err-length-clause-accounts g c =

@@ -1,5 +1,5 @@
 use Rattle.std.proofs.Common.{ℕ, List, Option, Err, ap, ◌∙◌, subst, sym}
-use Rattle.std.specs.Prelude.{Result}
+use Rattle.std.specs.Prelude.{IsErrAnd, Result}
 use Rattle.std.proofs.lemmas.Result.{err_from_is_err_and}
 use Rattle.org_splice.specs.Edits.{AreEdits}
 use Rattle.org_splice.specs.declared.edit.Edit.{Edit}
@@ -11,29 +11,28 @@ use Rattle.org_move.specs.Archive.{archive_within, archived, filled}
 use Rattle.org_move.proofs.Within.{archived_within, not_apart, starved}
 use Rattle.org_move.proofs.archiving.archive_within.Goals as goal
 
+-- a fault that is handed on
+handed : {A B : Type 0} (said : Result B MoveFault) (Fits : B → A → Type 0) (P : MoveFault → Type 0) (r : Result A MoveFault) → IsErrAnd r P → ((fault : MoveFault) → P fault → Gives said Fits (Err fault)) → Gives said Fits r
+handed said Fits P r is gives =
+    let told = err_from_is_err_and r is in
+    subst (Gives said Fits) (sym told.1) (gives told.0 told.2)
+
 pub returns-in_err-up : goal.returns-in_err-up
 returns-in_err-up c =
     let outline = c.args.outline.now in
-    let path = titles_of c.args.path.now in
-    let d : Document = tree outline.text in
     let Fits : Document → List Edit → Type 0 = λ new edits. AreEdits edits outline.text (print new) in
-    let G : Result (List Edit) MoveFault → Type 0 = λ r. Gives (archive_within outline.states c.args.name.now path c.args.now c.args.to.now d) Fits r in
-    let told = err_from_is_err_and c.from_residual-in_err-up.result c.from_residual-in_err-up.ensures.1 in
-    subst G (sym (told.1 ∙ ap (λ (fault : MoveFault). Err fault) told.2))
-    (not_apart outline.states c.args.name.now path c.args.now c.args.to.now d Fits _ _ _ c.in_ok-target_heading.field-0 c.in_err-up.field-0.0
-    c.find.ensures.value c.in_ok-node.was c.target_heading.ensures.value c.in_ok-target_heading.was c.in_err-up.ensures.value)
+    let said = archive_within outline.states c.args.name.now (titles_of c.args.path.now) c.args.now c.args.to.now (tree outline.text) in
+    handed said Fits _ c.from_residual-in_err-up.result c.from_residual-in_err-up.ensures.1 (λ fault is. subst (λ (f : MoveFault). Gives said Fits (Err f)) (sym is)
+    (not_apart outline.states c.args.name.now (titles_of c.args.path.now) c.args.now c.args.to.now (tree outline.text) Fits _ _ _ c.in_ok-target_heading.field-0 c.in_err-up.field-0.0
+    c.find.ensures.value c.in_ok-node.was c.target_heading.ensures.value c.in_ok-target_heading.was c.in_err-up.ensures.value))
 
 pub returns-in_err-lines : goal.returns-in_err-lines
 returns-in_err-lines c =
     let outline = c.args.outline.now in
-    let path = titles_of c.args.path.now in
-    let d : Document = tree outline.text in
     let Fits : Document → List Edit → Type 0 = λ new edits. AreEdits edits outline.text (print new) in
-    let G : Result (List Edit) MoveFault → Type 0 = λ r. Gives (archive_within outline.states c.args.name.now path c.args.now c.args.to.now d) Fits r in
-    let told = err_from_is_err_and c.from_residual-in_err-lines.result c.from_residual-in_err-lines.ensures.1 in
-    subst G (sym told.1)
-    (starved outline.states c.args.name.now path c.args.now c.args.to.now d Fits _ _ _ c.in_ok-target_heading.field-0 c.in_ok-up.up told.0
-    c.find.ensures.value c.in_ok-node.was c.target_heading.ensures.value c.in_ok-target_heading.was c.in_ok-up.ensures.value told.2)
+    let said = archive_within outline.states c.args.name.now (titles_of c.args.path.now) c.args.now c.args.to.now (tree outline.text) in
+    handed said Fits _ c.from_residual-in_err-lines.result c.from_residual-in_err-lines.ensures.1 (λ fault is. starved outline.states c.args.name.now (titles_of c.args.path.now) c.args.now c.args.to.now (tree outline.text) Fits _ _ _
+    c.in_ok-target_heading.field-0 c.in_ok-up.up fault c.find.ensures.value c.in_ok-node.was c.target_heading.ensures.value c.in_ok-target_heading.was c.in_ok-up.ensures.value is)
 
 pub returns : goal.returns
 returns c =

@@ -1,4 +1,4 @@
-use Rattle.std.proofs.Common.{◌≡◌, ℕ, false, Bool, eqb, List, [], ◌∷◌, length, drop, Option, Some, None, sym, ap, ◌∙◌}
+use Rattle.std.proofs.Common.{◌≡◌, ℕ, true, false, Bool, eqb, List, [], ◌∷◌, length, drop, Option, Some, None, sym, ap, ◌∙◌}
 use Rattle.std.specs.Prelude.{if◌then◌else◌}
 use Rattle.std.specs.Option.{option_and_then}
 use Rattle.org_outline.specs.declared.parts.HeadParts.{HeadParts}
@@ -21,18 +21,18 @@ told states line rest level parts alone rest_is read tells =
     sym (ap (λ b. make b parts.title.now) (tells (parts_of states rest) read) ∙ ap (make (is_title_alone (parts_of states rest))) read.title
     ∙ ap (λ l. let parts = parts_of states l in make (is_title_alone parts) parts.title) rest_is)
 
+-- the heading of a line with stars
+heading_is : (states : Keywords) (line rest : List ℕ) (level : ℕ) (parts : HeadParts) (alone made : Bool) → eqb (length line) 0 ≡ false → level_of line ≡ Some level → rest ≡ drop level line → AreParts parts (parts_of states rest)
+    → ((said : Parts) → AreParts parts said → alone ≡ is_title_alone said) → alone ≡ made → (if made then Some (heading_made (level, parts.title)) else None) ≡ heading_of states line
+heading_is states line rest level parts alone made full stars rest_is read tells is =
+    sym (behind_stars states line level full stars ∙ told states line rest level parts alone rest_is read tells ∙ ap (λ (b : Bool). if b then Some (heading_made (level, parts.title)) else None) is)
+
 pub returns-then-is_title_alone-clause-value : goal.returns-then-is_title_alone-clause-value
 returns-then-is_title_alone-clause-value c =
-    let level = c.in_ok-level.level in
-    let parts = c.of-parts.result in
-    let made : Bool → Option Heading = λ b. if b then Some (heading_made (level, parts.title)) else None in
-    sym (behind_stars c.args.states.now c.args.line.now level (sym c.is_empty.ensures ∙ c.if-is_empty.false) (sym c.heading_level.ensures ∙ c.in_ok-level.was)
-    ∙ told c.args.states.now c.args.line.now _ level parts _ c.split_at.ensures.back c.of-parts.ensures c.is_title_alone.ensures ∙ ap made c.if-is_title_alone.true)
+    heading_is c.args.states.now c.args.line.now _ c.in_ok-level.level c.of-parts.result _ true (sym c.is_empty.ensures ∙ c.if-is_empty.false) (sym c.heading_level.ensures ∙ c.in_ok-level.was) c.split_at.ensures.back c.of-parts.ensures c.is_title_alone.ensures
+    c.if-is_title_alone.true
 
 pub returns-else-is_title_alone-clause-value : goal.returns-else-is_title_alone-clause-value
 returns-else-is_title_alone-clause-value c =
-    let level = c.in_ok-level.level in
-    let parts = c.of-parts.result in
-    let made : Bool → Option Heading = λ b. if b then Some (heading_made (level, parts.title)) else None in
-    sym (behind_stars c.args.states.now c.args.line.now level (sym c.is_empty.ensures ∙ c.if-is_empty.false) (sym c.heading_level.ensures ∙ c.in_ok-level.was)
-    ∙ told c.args.states.now c.args.line.now _ level parts _ c.split_at.ensures.back c.of-parts.ensures c.is_title_alone.ensures ∙ ap made c.if-is_title_alone.false)
+    heading_is c.args.states.now c.args.line.now _ c.in_ok-level.level c.of-parts.result _ false (sym c.is_empty.ensures ∙ c.if-is_empty.false) (sym c.heading_level.ensures ∙ c.in_ok-level.was) c.split_at.ensures.back c.of-parts.ensures c.is_title_alone.ensures
+    c.if-is_title_alone.false

@@ -11,8 +11,8 @@ returns-in_default-clause-fault c =
     ap (λ (r : Bor (List ℕ)). r.now) c.unwrap_or.ensures ∙ read_or (λ (r : Bor (List ℕ)). r.now) c.get_str.result _ _ (c.get_str.ensures ∙ first_given words c.args.matches.now rows _) in
     c.in_default.ensures (subst IsGroupText (sym text) taken.1))
 
-pub returns-clause-told : goal.returns-clause-told
-returns-clause-told c words rows none =
+pub returns-clause-said : goal.returns-clause-said
+returns-clause-said c words rows none =
     let first = first_given words c.args.matches.now rows in
     let group_is : c.unwrap_or.result.now ≡ group_in words =
     ap (λ (r : Bor (List ℕ)). r.now) c.unwrap_or.ensures ∙ read_or (λ (r : Bor (List ℕ)). r.now) c.get_str.result _ _ (c.get_str.ensures ∙ first _) in

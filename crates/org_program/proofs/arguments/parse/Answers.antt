@@ -11,13 +11,13 @@ returns-in_err-matches-clause-fault c =
     let told = err_from_is_err_and c.from_residual-in_err-matches.result c.from_residual-in_err-matches.ensures.1 in
     rw (told.1, told.2) why
 
-pub returns-clause-told : goal.returns-clause-told
-returns-clause-told c =
+pub returns-clause-said : goal.returns-clause-said
+returns-clause-said c =
     let words = map string_bytes c.args.words.now in
     let app = app_of c.in_ok-command.command in
     let rows = rows_are words app c.in_ok-command.ensures c.in_ok-matches.matches c.in_ok-matches.ensures.ok.2 in
     let none = none_refused words app c.in_ok-command.ensures c.in_ok-matches.ensures.kinds in
-    IfOk-weaker c.arguments_of.result _ _ (λ arguments told. told words rows none) c.arguments_of.ensures.told
+    IfOk-weaker c.arguments_of.result _ _ (λ arguments told. told words rows none) c.arguments_of.ensures.said
 
 pub returns-clause-fault : goal.returns-clause-fault
 returns-clause-fault c =

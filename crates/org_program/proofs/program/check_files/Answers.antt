@@ -1,4 +1,4 @@
-use Rattle.org_folder.specs.Apart.{MayTell}
+use Rattle.org_folder.specs.Apart.{MayReport}
 use Rattle.std.proofs.Common.{IfErr}
 use Rattle.org_program.proofs.Files.{may_share}
 use Rattle.org_program.proofs.program.check_files.Goals as goal
@@ -6,5 +6,5 @@ use Rattle.org_program.proofs.program.check_files.Goals as goal
 pub returns-in-Some : goal.returns-in-Some
 returns-in-Some c =
     let found = rw c.in-Some.is at c.in_ok-files.ensures.few in
-    let told : IfErr c.check_aliases.result (MayTell c.in-Some.files.items) = rw c.deref.ensures.value at c.check_aliases.ensures in
+    let told : IfErr c.check_aliases.result (MayReport c.in-Some.files.items) = rw c.deref.ensures.value at c.check_aliases.ensures in
     may_share c.args.names.now c.in-Some.files.items found.0 found.1 c.check_aliases.result told

@@ -7,6 +7,6 @@ returns-in_err-disk-clause-fault g c =
     let told = err_from_is_err_and c.from_residual-in_err-disk.result c.from_residual-in_err-disk.ensures.1 in
     rw (told.1, told.2) (inr (record {
       arguments = c.in_ok-arguments.arguments;
-      told = c.in_ok-arguments.ensures.told;
+      said = c.in_ok-arguments.ensures.said;
       cause = c.in_err-disk.ensures.cause;
     }))

@@ -15,7 +15,7 @@ loop-name-init g c = record {
   stable = λ honest name there. absurd (no_member name there);
   images = λ honest name bytes image. image;
   others = λ honest name none. refl;
-  time = λ honest. passes_none (g.D.Disk.moment c.args.disk.now) (g.D.Disk.left_since c.args.disk.now) (AreImages (g.D.Disk.files c.args.disk.now));
+  time = λ honest. passes_none (g.D.Disk.instant c.args.disk.now) (g.D.Disk.left_since c.args.disk.now) (AreImages (g.D.Disk.files c.args.disk.now));
 }
 
 pub loop-name-preserved : goal.loop-name-preserved

@@ -84,7 +84,7 @@ returns-in-Err-clause-disk g c honest =
           let leaves = reopens.any_moment fit each in (
             reopens.recoverable fit each,
             each_recovers d disk now (RecoversAsBefore (d.files disk))
-                (λ image left. g.met.D.Disk.counts_now now (d.moment disk) image honest leaves.passes.later left) leaves (λ image left. (left.texts, left.recovers_now)),
+                (λ image left. g.met.D.Disk.counts_now now (d.instant disk) image honest leaves.passes.later left) leaves (λ image left. (left.texts, left.recovers_now)),
           );
       alone = alone_fewer d (IsForeign c.args.setup.names.items (contents (d.files disk) journal_name)) (IsUnconcerned (contents (d.files disk) journal_name)) disk now reopens.alone
           (λ name foreign. foreign.unconcerned);

@@ -12,7 +12,7 @@ use Rattle.org_serve.specs.Writes.{pipes}
 use Rattle.org_serve.proofs.Counting.{ended_unserved}
 use Rattle.org_serve.proofs.Syncs.{ok_apart}
 use Rattle.org_serve.proofs.Foreign.{leaves_foreign}
-use Rattle.org_serve.proofs.Synced.{if_err, reason_before, served_from, breaks_from, lasts_recoverable, lasts_found, synced_gives_back, unsynced_gives_back}
+use Rattle.org_serve.proofs.Synced.{if_err, reason_before, served_from, breaks_from, lasts_recoverable, lasts_found, synced_leaves_disk, unsynced_leaves_disk}
 use Rattle.org_serve.proofs.whole.serve_synced.Goals as goal
 
 pub returns-in-Ok-clause-runs : goal.returns-in-Ok-clause-runs
@@ -36,7 +36,7 @@ returns-in-Ok-clause-runs g c = record {
         };
         lasts_found = lasts_found d setup disk mid began own synced images others time had.served had.lasts;
       }) c.serve_disk.ensures.served;
-  gives_back = λ honest. let d = g.D.Disk in
+  leaves_disk = λ honest. let d = g.D.Disk in
       let laws = g.met.D.Disk in
       let disk = c.args.disk in
       let mid = c.sync_files.new.disk in
@@ -46,7 +46,7 @@ returns-in-Ok-clause-runs g c = record {
       let synced = λ (h : d.honest mid). subst (λ (names : List (List ℕ)). AreSynced (stored names) (d.files disk) (d.files mid)) c.deref.ensures.value (c.in-Ok.ensures.syncs h).done in
       let images = λ (h : d.honest mid). (c.sync_files.ensures.syncs h).images in
       let others = λ (h : d.honest mid). subst (λ (names : List (List ℕ)). (name : List ℕ) → IsNotStored names name → d.files mid name ≡ d.files disk name) c.deref.ensures.value (c.sync_files.ensures.syncs h).others in
-      synced_gives_back d setup disk mid c.sync_files.ensures.accounts.was_honest own synced images others c.sync_files.ensures.any_moment
+      synced_leaves_disk d setup disk mid c.sync_files.ensures.accounts.was_honest own synced images others c.sync_files.ensures.any_moment
       (c.serve_disk.ensures.accounts.was_honest honest) (c.serve_disk.ensures.disk honest)
       (λ name. laws.content_is_image last name honest) (λ t image within left. laws.counts_now last t image honest within left);
   refused = let d = g.D.Disk in
@@ -71,9 +71,9 @@ returns-in-Ok-clause-runs g c = record {
 pub returns-in-Err-clause-runs : goal.returns-in-Err-clause-runs
 returns-in-Err-clause-runs g c = record {
   served = tt;
-  gives_back = λ honest. let d = g.D.Disk in
+  leaves_disk = λ honest. let d = g.D.Disk in
       let now = c.sync_files.new.disk in
-      unsynced_gives_back d c.args.setup c.args.disk now
+      unsynced_leaves_disk d c.args.setup c.args.disk now
       (λ name. g.met.D.Disk.content_is_image now name honest) (c.sync_files.ensures.syncs honest).images
       (subst (λ (names : List (List ℕ)). (name : List ℕ) → IsNotStored names name → d.files now name ≡ d.files c.args.disk name) c.deref.ensures.value (c.sync_files.ensures.syncs honest).others) (c.sync_files.ensures.any_moment honest);
   refused = record { reason = search rules; unused = λ is. c.sync_files.ensures.unused cc };

@@ -15,10 +15,9 @@ returns-in_err-start c =
     let other = a.other.now.text.bytes in
     let text = a.held.now.text.bytes in
     let why = c.in_err-start.field-0.0 in
-    let given : c.from_residual.result ≡ Err why = handed_on c.from_residual.result _ c.from_residual.ensures.1 in
     let answers = opening_told a.states.now c.outline_of.result.states a.command.now.path (titles_of c.as_slice.result.now) a.command.now.moment text c.outline_of.result.text (Err why)
     c.outline_of.ensures.1 c.as_slice.ensures c.outline_of.ensures.0 c.in_err-start.ensures in
-    not_moved clock.file a.command.now.file other text (clock_moved a.command.now.moment clock.running (tree other) (tree text) (find_path a.states.now (tree text) a.command.now.path)) c.from_residual.result why given
+    not_moved clock.file a.command.now.file other text (clock_moved a.command.now.moment clock.running (tree other) (tree text) (find_path a.states.now (tree text) a.command.now.path)) c.from_residual.result why (handed_on c.from_residual.result why c.from_residual.ensures.1)
     (move_not_started a.states.now a.command.now.path a.command.now.moment other text clock.running why answers)
 
 pub returns-in_err-stop : goal.returns-in_err-stop
@@ -29,10 +28,9 @@ returns-in_err-stop c =
     let text = a.held.now.text.bytes in
     let start = c.in_ok-start.start in
     let why = c.in_err-stop.field-0.0 in
-    let given : c.from_residual-in_err-stop.result ≡ Err why = handed_on c.from_residual-in_err-stop.result _ c.from_residual-in_err-stop.ensures.1 in
     let answers = opening_told a.states.now c.outline_of.result.states a.command.now.path (titles_of c.as_slice.result.now) a.command.now.moment text c.outline_of.result.text (Ok start)
     c.outline_of.ensures.1 c.as_slice.ensures c.outline_of.ensures.0 c.in_ok-start.ensures in
-    not_moved clock.file a.command.now.file other text (clock_moved a.command.now.moment clock.running (tree other) (tree text) (find_path a.states.now (tree text) a.command.now.path)) c.from_residual-in_err-stop.result why given
+    not_moved clock.file a.command.now.file other text (clock_moved a.command.now.moment clock.running (tree other) (tree text) (find_path a.states.now (tree text) a.command.now.path)) c.from_residual-in_err-stop.result why (handed_on c.from_residual-in_err-stop.result why c.from_residual-in_err-stop.ensures.1)
     (move_not_stopped a.states.now a.command.now.path a.command.now.moment other text clock.running start why c.text-2.result.now (c.text-2.ensures.value ∙ c.outline_of-2.ensures.0) answers c.in_err-stop.ensures)
 
 pub returns : goal.returns

@@ -1,4 +1,4 @@
-use Rattle.std.proofs.Common.{◌≡◌, ◌∙◌, Ok, Err}
+use Rattle.std.proofs.Common.{◌∙◌, Ok, Err}
 use Rattle.org_outline.specs.Paths.{find_path, titles_of}
 use Rattle.org_outline.specs.Tree.{tree}
 use Rattle.std.specs.Prelude.{None}
@@ -12,10 +12,9 @@ returns-in_err-edit c =
     let a = c.args in
     let text = a.held.now.text.bytes in
     let why = c.in_err-edit.field-0.0 in
-    let given : c.from_residual.result ≡ Err why = handed_on c.from_residual.result _ c.from_residual.ensures.1 in
     let answers = opening_told a.states.now c.outline_of.result.states a.command.now.path (titles_of c.as_slice.result.now) a.command.now.moment text c.outline_of.result.text (Err why)
     c.outline_of.ensures.1 c.as_slice.ensures c.outline_of.ensures.0 c.in_err-edit.ensures in
-    not_planned a.command.now.file text (clocked_in a.command.now.moment None (tree text) (find_path a.states.now (tree text) a.command.now.path)) c.from_residual.result why given
+    not_planned a.command.now.file text (clocked_in a.command.now.moment None (tree text) (find_path a.states.now (tree text) a.command.now.path)) c.from_residual.result why (handed_on c.from_residual.result why c.from_residual.ensures.1)
     (start_refused a.states.now a.command.now.path a.command.now.moment text why answers)
 
 pub returns : goal.returns

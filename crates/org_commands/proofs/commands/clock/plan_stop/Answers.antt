@@ -1,4 +1,4 @@
-use Rattle.std.proofs.Common.{◌≡◌, ◌∙◌, Err}
+use Rattle.std.proofs.Common.{◌∙◌}
 use Rattle.org_outline.specs.Tree.{tree}
 use Rattle.org_commands.specs.Clocking.{clocked_out}
 use Rattle.org_commands.proofs.Clocks.{not_planned, stop_made, stop_refused}
@@ -10,8 +10,7 @@ returns-in_err-edit c =
     let a = c.args in
     let text = a.held.now.text.bytes in
     let why = c.in_err-edit.field-0.0 in
-    let given : c.from_residual.result ≡ Err why = handed_on c.from_residual.result _ c.from_residual.ensures.1 in
-    not_planned a.clock.now.file text (clocked_out a.moment a.clock.now.running (tree text)) c.from_residual.result why given
+    not_planned a.clock.now.file text (clocked_out a.moment a.clock.now.running (tree text)) c.from_residual.result why (handed_on c.from_residual.result why c.from_residual.ensures.1)
     (stop_refused a.moment text c.text-2.result.now a.clock.now.running why (c.text-2.ensures.value ∙ c.outline_of.ensures.0) c.in_err-edit.ensures)
 
 pub returns : goal.returns

@@ -91,7 +91,7 @@ loop-index-preserved g c =
     let file = c.in_ok-file.file in
     let back = looked.disk.accounts.was_honest in
     let whole : new.broken ≡ false = whole_behind c.running_in_file.result _ Device new.broken c.in_ok-running.was c.running_in_file.ensures.disk.breaks in
-    rw c.note_clockless.ensures (record {
+    record {
       unbroken = whole;
       unedited = looked.unedited;
       keeps = keeps_then old.held c.loop-index.files.held new.held sofar.keeps looked.keeps;
@@ -107,7 +107,7 @@ loop-index-preserved g c =
           let at : slice_get old.names c.loop-index.index ≡ Some file = ap (λ (ns : List (List ℕ)). slice_get ns c.loop-index.index) (sym sofar.reads.names) ∙ c.in_ok-file.ensures in
           let runs = subst (RunsIn new.held.before file) c.in_default.is looked.runs in
           sym (runs_later files now old.names c.loop-index.index file within at same (runs_over new.held.before (texts new.disk) file None runs)) ∙ sofar.passed (back h);
-    })
+    }
 
 pub loop-index-preserved-then-is_clockless : goal.loop-index-preserved-then-is_clockless
 loop-index-preserved-then-is_clockless g c =
@@ -154,9 +154,6 @@ returns-in_err-running-clause-disk g c =
 
 pub running_in_file-requires-clause-between : goal.running_in_file-requires-clause-between
 running_in_file-requires-clause-between g c = record { unbroken = c.loop-index.invariant.unbroken; unedited = c.loop-index.invariant.unedited }
-
-pub note_clockless-requires-clause-unedited : goal.note_clockless-requires-clause-unedited
-note_clockless-requires-clause-unedited g c = c.in_ok-running.ensures.unedited
 
 pub returns-clause-unedited : goal.returns-clause-unedited
 returns-clause-unedited g c = c.loop-index.invariant.unedited

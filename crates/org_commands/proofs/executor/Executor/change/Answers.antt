@@ -1,20 +1,19 @@
-use Rattle.std.proofs.Common.{◌≡◌, ◌∙◌, [], Option, Result, Ok, Err, refl, sym, ap, subst}
-use Rattle.org_disk.specs.Accounts.{LooksOver}
+use Rattle.std.proofs.Common.{◌∙◌, [], Option, Result, Ok, Err, refl, sym, ap, subst}
 use Rattle.org_texts.specs.declared.plan.Plan.{Plan}
 use Rattle.org_texts.specs.Plan.{planned}
 use Rattle.org_texts.specs.Texts.{TextSet}
 use Rattle.org_commands.specs.declared.command.RunFault.{RunFault}
-use Rattle.org_commands.specs.declared.command.RunFault.TheVariants.{Broken, Device}
+use Rattle.org_commands.specs.declared.command.RunFault.TheVariants.{Device}
 use Rattle.org_commands.specs.Files.{files_of, new_texts}
 use Rattle.org_commands.specs.Keeping.{PlansOrStays}
 use Rattle.org_commands.specs.Kinds.{changing}
 use Rattle.org_commands.specs.Outcome.{changed, outcome}
 use Rattle.org_commands.specs.Executing.{view_of}
-use Rattle.org_commands.specs.Session.{StoreView, view_over}
-use Rattle.org_commands.specs.Step.{Steps}
-use Rattle.org_commands.proofs.Acting.{executes_after, executes_uncounted, view_same}
-use Rattle.org_commands.proofs.Faults.{accounts_behind, accounts_handed, breaks_handed, fault_of_first, whole_behind}
+use Rattle.org_commands.specs.Session.{view_over}
+use Rattle.org_commands.proofs.Acting.{executes_after, executes_undone}
+use Rattle.org_commands.proofs.Faults.{accounts_behind, accounts_handed, whole_behind}
 use Rattle.org_commands.proofs.Dirty.{names_in, dirty_changed}
+use Rattle.org_commands.proofs.Reading.{only_reads_fault}
 use Rattle.org_commands.proofs.executor.Executor.change.Goals as goal
 
 pub accept-requires-clause-plan : goal.accept-requires-clause-plan
@@ -46,21 +45,10 @@ returns-in-Ok-None-clause-executes g c =
 
 pub returns-in-Err-clause-executes : goal.returns-in-Err-clause-executes
 returns-in-Err-clause-executes g c =
-    let d = g.D.Disk in
-    let undone = c.undo.ensures in
-    let old = view_of d c.args.self.now in
-    let mid = view_over d.files c.args.self.now.states c.plan.new.files c.args.self.now.tally in
-    let new = view_over d.files c.args.self.now.states c.undo.new.self c.args.self.now.tally in
-    let same : new ≡ mid = view_same d.files c.args.self.now.states c.plan.new.files c.undo.new.self c.args.self.now.tally undone.memory undone.before in
-    let told = outcome old.session (changing c.args.asked.now) in
-    let is : c.plan.result ≡ Err c.in-Err.fault = c.in-Err.is in
-    executes_uncounted d old (λ honest image left. g.met.D.Disk.only_now old.disk image honest left) refl new told (Err c.in-Err.fault) tt
-    (λ honest. c.plan.ensures.disk.accounts.was_honest (subst d.honest undone.memory.disk honest))
-    (λ honest. subst (λ (k : StoreView g.row.D.Denot). Steps old.session told (Err c.in-Err.fault) k.session) (sym same) (c.in-Err.ensures.plans c.args.self.now.tally (subst d.honest undone.memory.disk honest)))
-    (λ honest. subst (λ disk. LooksOver d old.disk disk) (sym undone.memory.disk) (c.plan.ensures.disk.looks (subst d.honest undone.memory.disk honest)))
-    refl (record { accepted = refl; acknowledged = refl; group = refl })
-    (λ broken. c.plan.ensures.disk.works (fault_of_first c.plan.result (Err c.in-Err.fault) c.in-Err.fault Broken is refl broken))
-    (breaks_handed c.plan.result (Err c.in-Err.fault) c.in-Err.fault c.plan.new.files.broken c.undo.new.self.broken is refl undone.memory.broken c.plan.ensures.disk.breaks)
+    let own = c.args.self.now in
+    let old = view_of g.D.Disk own in
+    executes_undone g.D.Disk own.states own.files c.plan.new.files c.undo.new.self own.tally (λ honest image left. g.met.D.Disk.only_now old.disk image honest left) (outcome old.session (changing c.args.asked.now)) (Err c.in-Err.fault) tt
+    c.undo.ensures.memory c.undo.ensures.before (only_reads_fault refl c.in-Err.ensures.disk) (c.in-Err.ensures.plans own.tally)
 
 pub returns-in-Ok-Some-clause-dirty_files : goal.returns-in-Ok-Some-clause-dirty_files
 returns-in-Ok-Some-clause-dirty_files g c honest =

@@ -6,6 +6,7 @@ use Rattle.org_journal.specs.Recovered.{Image, contents}
 use Rattle.org_fileset.specs.declared.fault.SetFault.{SetFault}
 use Rattle.org_fileset.specs.declared.fault.SetFault.TheVariants as set
 use Rattle.org_outline.specs.States.{Keywords}
+use Rattle.org_state.specs.declared.searched.Searched.{Searched}
 use Rattle.org_splice.specs.Texts.{EditedText}
 use Rattle.org_texts.specs.Texts.{Holding, TextSet, held_over, text_of, with_text}
 use Rattle.org_commands.specs.declared.command.RunFault.{RunFault}
@@ -25,9 +26,9 @@ use Rattle.org_commands.proofs.Handing.{handed_on}
 use Rattle.org_commands.proofs.files.Files.load.Goals as goal
 
 -- what is held is still sound and noted where the set read a file
-still_held : (names more : List (List ℕ)) (live now : Type 0) (old new : Image) (clockless : List Bool) (held : Holding) → IsSound names live old held × IsNoted names clockless held → more ≡ names → (now → live × (new ≡ old))
-    → IsSound more now new held × IsNoted more clockless held
-still_held names more live now old new clockless held was same alike = (sound_still names more live now old new held was.0 same alike, noted_still names more clockless held same was.1)
+still_held : (names more : List (List ℕ)) (live now : Type 0) (old new : Image) (notes : List Searched) (held : Holding) → IsSound names live old held × IsNoted names notes held → more ≡ names → (now → live × (new ≡ old))
+    → IsSound more now new held × IsNoted more notes held
+still_held names more live now old new notes held was same alike = (sound_still names more live now old new held was.0 same alike, noted_still names more notes held same was.1)
 
 -- a set that didn't fail isn't broken by it
 set_whole : {X : Type 0} (result : Result X SetFault) (old new : Bool) → old ≡ false → (IsErrOf result set.Device → ⊥) → IsTrue new ↔ (IsTrue old ⊎ IsErrOf result set.Device) → new ≡ old
@@ -92,8 +93,8 @@ invariant_of-self-2 g c =
       sound_held copy c.in_ok-bytes.bytes.items c.read.new.self.names now left inside.texts c.hold.new.self none none_before named
           (λ n. c.in_ok-bytes.ensures.text n.1 ∙ ap (λ (f : Image). f own) (sym (ap contents (c.read.ensures.looks n.1).same)) ∙ ap left (sym cloned))
           c.in_ok-hold.ensures.now c.in_ok-hold.ensures.before still,
-      noted_held copy c.in_ok-bytes.bytes.items c.read.new.self.names inside.clockless.items inside.texts c.hold.new.self none none_before
-          c.in_ok-hold.ensures.now c.in_ok-hold.ensures.before (noted_still inside.set.names c.read.new.self.names inside.clockless.items inside.texts c.read.ensures.set.same_names c.self.invariant.1),
+      noted_held copy c.in_ok-bytes.bytes.items c.read.new.self.names inside.searched.items inside.texts c.hold.new.self none none_before
+          c.in_ok-hold.ensures.now c.in_ok-hold.ensures.before (noted_still inside.set.names c.read.new.self.names inside.searched.items inside.texts c.read.ensures.set.same_names c.self.invariant.1),
     )
 
 pub returns-clause-held : goal.returns-clause-held
@@ -186,7 +187,7 @@ invariant_of-self g c =
     let files = contents (g.D.Disk.files inside.set.disk) in
     let left = contents (g.D.Disk.files c.read.new.self.disk) in
     let unbroken : inside.set.broken ≡ false = rw (← c.self.view_is) at c.requires.unbroken in
-    still_held inside.set.names c.read.new.self.names live now files left inside.clockless.items inside.texts c.self.invariant c.read.ensures.set.same_names
+    still_held inside.set.names c.read.new.self.names live now files left inside.searched.items inside.texts c.self.invariant c.read.ensures.set.same_names
     (λ n. ((unbroken, c.read.ensures.accounts.was_honest n.1), ap contents (c.read.ensures.looks n.1).same))
 
 pub invariant_of-self-in_err-clone : goal.invariant_of-self-in_err-clone
@@ -197,7 +198,7 @@ invariant_of-self-in_err-clone g c =
     let files = contents (g.D.Disk.files inside.set.disk) in
     let left = contents (g.D.Disk.files c.read.new.self.disk) in
     let unbroken : inside.set.broken ≡ false = rw (← c.self.view_is) at c.requires.unbroken in
-    still_held inside.set.names c.read.new.self.names live now files left inside.clockless.items inside.texts c.self.invariant c.read.ensures.set.same_names
+    still_held inside.set.names c.read.new.self.names live now files left inside.searched.items inside.texts c.self.invariant c.read.ensures.set.same_names
     (λ n. ((unbroken, c.read.ensures.accounts.was_honest n.1), ap contents (c.read.ensures.looks n.1).same))
 
 pub invariant_of-self-in_err-hold : goal.invariant_of-self-in_err-hold
@@ -208,8 +209,8 @@ invariant_of-self-in_err-hold g c =
     let files = contents (g.D.Disk.files inside.set.disk) in
     let left = contents (g.D.Disk.files c.read.new.self.disk) in
     let unbroken : inside.set.broken ≡ false = rw (← c.self.view_is) at c.requires.unbroken in
-    subst (λ (held : Holding). IsSound c.read.new.self.names now left held × IsNoted c.read.new.self.names inside.clockless.items held) (sym c.in_err-hold.ensures.err)
-    (still_held inside.set.names c.read.new.self.names live now files left inside.clockless.items inside.texts c.self.invariant c.read.ensures.set.same_names
+    subst (λ (held : Holding). IsSound c.read.new.self.names now left held × IsNoted c.read.new.self.names inside.searched.items held) (sym c.in_err-hold.ensures.err)
+    (still_held inside.set.names c.read.new.self.names live now files left inside.searched.items inside.texts c.self.invariant c.read.ensures.set.same_names
     (λ n. ((unbroken, c.read.ensures.accounts.was_honest n.1), ap contents (c.read.ensures.looks n.1).same)))
 
 pub hold-requires : goal.hold-requires

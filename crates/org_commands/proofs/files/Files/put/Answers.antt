@@ -1,4 +1,4 @@
-use Rattle.std.proofs.Common.{◌≡◌, ◌∙◌, ℕ, List, false, true, Result, Ok, Err, refl, sym, ap, subst}
+use Rattle.std.proofs.Common.{◌≡◌, ◌∙◌, false, true, Result, Ok, Err, refl, sym, ap, subst}
 use Rattle.std.specs.Option.{ForSome, IsSome}
 use Rattle.org_journal.specs.Recovered.{contents}
 use Rattle.org_texts.specs.Plan.{IsPlan}
@@ -7,10 +7,9 @@ use Rattle.org_commands.specs.declared.command.RunFault.{RunFault}
 use Rattle.org_commands.specs.declared.command.RunFault.TheVariants.{Refused, OutOfMemory}
 use Rattle.org_commands.specs.declared.command.Refusal.TheVariants.{TooLarge}
 use Rattle.org_commands.specs.Files.{AreReady, AreSmallToWrite, OpenFiles, PutsPlan, files_of, has_large, new_texts, texts_in}
-use Rattle.org_commands.specs.Clockless.{Forgets}
 use Rattle.org_commands.proofs.Held.{first_held, second_held, small_put, sound_put, sound_undone}
 use Rattle.org_commands.proofs.Handing.{handed_on}
-use Rattle.org_commands.proofs.Clockless.{noted_put, noted_undone}
+use Rattle.org_commands.proofs.Clockless.{noted_not_put, noted_put, noted_undone}
 use Rattle.org_commands.proofs.files.Files.put.Goals as goal
 
 pub is_large-requires-clause-first : goal.is_large-requires-clause-first
@@ -34,8 +33,7 @@ invariant_of-self-else-is_large g c =
     let before = c.in_ok-apply.ensures.before in
     let named : c.names.result.now ≡ inside.set.names = c.names.ensures in (
       sound_put plan inside.set.names ((inside.set.broken ≡ false) × g.D.Disk.honest inside.set.disk) (contents (g.D.Disk.files inside.set.disk)) inside.texts c.apply.new.self is now before c.self.invariant.0,
-      noted_put plan inside.set.names inside.clockless.items c.forget_plan.new.clockless.items inside.texts c.apply.new.self now before
-          (subst (λ (ns : List (List ℕ)). Forgets ns (files_of plan) inside.clockless.items c.forget_plan.new.clockless.items) named c.forget_plan.ensures) c.self.invariant.1,
+      noted_put plan inside.set.names c.names.result.now inside.searched.items c.lower_plan.new.notes.items inside.texts c.apply.new.self named now before c.lower_plan.ensures.stays c.lower_plan.ensures.follows c.self.invariant.1,
     )
 
 pub returns-clause-puts : goal.returns-clause-puts
@@ -73,9 +71,8 @@ invariant_of-self-then-is_large g c =
     let named : c.names.result.now ≡ inside.set.names = c.names.ensures in (
       sound_undone inside.set.names live files c.apply.new.self c.undo.new.self c.undo.ensures.now c.undo.ensures.before
           (sound_put plan inside.set.names live files inside.texts c.apply.new.self is now before c.self.invariant.0),
-      noted_undone inside.set.names c.forget_plan.new.clockless.items c.apply.new.self c.undo.new.self c.undo.ensures.now c.undo.ensures.before
-          (noted_put plan inside.set.names inside.clockless.items c.forget_plan.new.clockless.items inside.texts c.apply.new.self now before
-          (subst (λ (ns : List (List ℕ)). Forgets ns (files_of plan) inside.clockless.items c.forget_plan.new.clockless.items) named c.forget_plan.ensures) c.self.invariant.1),
+      noted_undone inside.set.names c.lower_plan.new.notes.items c.apply.new.self c.undo.new.self c.undo.ensures.now c.undo.ensures.before
+          (noted_put plan inside.set.names c.names.result.now inside.searched.items c.lower_plan.new.notes.items inside.texts c.apply.new.self named now before c.lower_plan.ensures.stays c.lower_plan.ensures.follows c.self.invariant.1),
     )
 
 pub apply-requires : goal.apply-requires
@@ -103,3 +100,19 @@ pub returns-in_err-apply-clause-puts : goal.returns-in_err-apply-clause-puts
 returns-in_err-apply-clause-puts g c =
     let given : c.from_residual.result ≡ Err OutOfMemory = handed_on c.from_residual.result _ c.from_residual.ensures.1 in
     rw (← c.self.view_is) (subst (λ (r : Result (Unit {0}) RunFault). PutsPlan c.args.plan.now c.self.inside.texts r c.apply.new.self) (sym given) c.in_err-apply.ensures.err)
+
+pub lower_plan-requires-clause-plan : goal.lower_plan-requires-clause-plan
+lower_plan-requires-clause-plan g c = let is : IsPlan c.args.plan.now c.self.inside.texts.now = rw (← c.self.view_is) at c.requires.is in is
+
+pub lower_plan-requires-clause-ready : goal.lower_plan-requires-clause-ready
+lower_plan-requires-clause-ready g c = let ready : AreReady (files_of c.args.plan.now) c.self.inside.texts = rw (← c.self.view_is) at c.requires.ready in ready
+
+pub invariant_of-self : goal.invariant_of-self
+invariant_of-self g c =
+    let inside = c.self.inside in
+    let live = (inside.set.broken ≡ false) × g.D.Disk.honest inside.set.disk in
+    let named : c.names.result.now ≡ inside.set.names = c.names.ensures in (
+      sound_undone inside.set.names live (contents (g.D.Disk.files inside.set.disk)) inside.texts c.apply.new.self c.in_err-apply.ensures.err c.in_err-apply.ensures.before c.self.invariant.0,
+      noted_not_put inside.set.names c.names.result.now inside.searched.items c.lower_plan.new.notes.items inside.texts c.apply.new.self named c.in_err-apply.ensures.err c.in_err-apply.ensures.before c.lower_plan.ensures.stays
+          c.self.invariant.1,
+    )

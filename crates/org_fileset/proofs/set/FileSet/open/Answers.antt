@@ -18,10 +18,10 @@ use Rattle.org_fileset.proofs.set.FileSet.open.Goals as goal
 pub returns-in-Err-clause-reopens : goal.returns-in-Err-clause-reopens
 returns-in-Err-clause-reopens g c honest =
     let old = g.D.Disk.files c.args.disk in
-    let same = since_start (passes_none (g.D.Disk.moment c.args.disk) (g.D.Disk.left_since c.args.disk) (AreImages old)) old (g.met.D.Disk.only_now c.args.disk) honest (λ image left. left) in
+    let same = since_start (passes_none (g.D.Disk.instant c.args.disk) (g.D.Disk.left_since c.args.disk) (AreImages old)) old (g.met.D.Disk.only_now c.args.disk) honest (λ image left. left) in
     record {
       done = tt;
-      any_moment = λ fit each. since_start (passes_none (g.D.Disk.moment c.args.disk) (g.D.Disk.left_since c.args.disk) (RecoversAsBefore old))
+      any_moment = λ fit each. since_start (passes_none (g.D.Disk.instant c.args.disk) (g.D.Disk.left_since c.args.disk) (RecoversAsBefore old))
           old (g.met.D.Disk.only_now c.args.disk) honest (as_before old each);
       recoverable = λ fit each. fit;
       bad = λ none. same;

@@ -1,21 +1,21 @@
 use Rattle.std.proofs.Common.{rules, ◌≡◌, IsErr, length, subst}
 use Rattle.org_disk.specs.Disk.{write}
 use Rattle.org_folder.specs.Calls.{AreRight}
-use Rattle.org_folder.proofs.Told.{does_write, does_write_nothing, does_nothing, looks_same, within_called}
+use Rattle.org_folder.proofs.Recorded.{does_write, does_write_nothing, does_not_come, looks_at_nothing, within_called}
 use Rattle.org_folder.proofs.folder.Folder.write.Goals as goal
 
-pub returns-then-is_empty-clause-effect : goal.returns-then-is_empty-clause-effect
-returns-then-is_empty-clause-effect g c = λ right.
+pub returns-then-is_empty : goal.returns-then-is_empty
+returns-then-is_empty g c = λ right.
     let empty : length c.args.bytes.now ≡ 0 = search rules in
-    does_write_nothing g.C.Calls.world c.args.name.now c.args.from c.args.bytes.now (g.C.Calls.history c.args.self.now.calls) tt empty right (c.requires right)
+    (right, does_write_nothing g.C.Calls.world c.args.name.now c.args.from c.args.bytes.now (g.C.Calls.history c.args.self.now.calls) tt empty right (c.requires right))
 
-pub returns-in_err-at-clause-effect : goal.returns-in_err-at-clause-effect
-returns-in_err-at-clause-effect g c = λ right.
+pub returns-in_err-at : goal.returns-in_err-at
+returns-in_err-at g c = λ right.
     let failed : IsErr c.from_residual.result = search rules in
     let old = g.C.Calls.history c.args.self.now.calls in
     let new = g.C.Calls.history c.find_or_make.new.self.calls in
-    does_nothing g.C.Calls.world (write c.args.from c.args.bytes.now) c.args.name.now old new c.from_residual.result failed
-    (subst (AreRight g.C.Calls.world) c.find_or_make.ensures.same right) (looks_same g.C.Calls.world old new c.find_or_make.ensures.same)
+    does_not_come g.C.Calls.world (write c.args.from c.args.bytes.now) c.args.name.now old new c.from_residual.result failed
+    (looks_at_nothing g.C.Calls.world old new c.find_or_make.ensures.same right)
 
 pub write_at-requires : goal.write_at-requires
 write_at-requires g c = λ right.
@@ -23,8 +23,8 @@ write_at-requires g c = λ right.
     within_called g.C.Calls.world c.index.result.now.name c.args.name.now c.args.from (g.C.Calls.history c.args.self.now.calls) (g.C.Calls.history c.find_or_make.new.self.calls) named
     c.find_or_make.ensures.same (c.requires (subst (AreRight g.C.Calls.world) c.find_or_make.ensures.same right))
 
-pub returns-clause-effect : goal.returns-clause-effect
-returns-clause-effect g c = λ right.
+pub returns : goal.returns
+returns g c = λ right.
     let named : c.index.result.now.name ≡ c.args.name.now = search rules in
     does_write g.C.Calls.world c.index.result.now.name c.args.name.now c.args.from c.args.bytes.now (g.C.Calls.history c.args.self.now.calls) (g.C.Calls.history c.find_or_make.new.self.calls)
     (g.C.Calls.history c.write_at.new.self) c.write_at.result right named c.find_or_make.ensures.same c.write_at.ensures

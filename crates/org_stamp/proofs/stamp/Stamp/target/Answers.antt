@@ -2,7 +2,7 @@ use Rattle.std.proofs.Common.{◌≡◌, ℤ, ◌<◌, pos, ◌+ℤ◌, inl, inr
 use Rattle.std.proofs.lemmas.Int.{ints}
 use mir.Syntax.{w32, w64}
 use mir.Val.{to_z, of_z}
-use Rattle.org_stamp.specs.Calendar.{CivilDay, CivilMinute, day_number}
+use Rattle.org_stamp.specs.Calendar.{CivilDay, Moment, day_number}
 use Rattle.org_stamp.specs.Stamp.{StampValue}
 use Rattle.org_stamp.specs.Repeat.{target_of}
 use Rattle.org_stamp.proofs.Target.{to_come, past, timeless}
@@ -10,7 +10,7 @@ use Rattle.org_stamp.proofs.stamp.Stamp.target.Goals as goal
 use Rattle.org_stamp.proofs.stamp.Stamp.target.Goals.{in_default-via-in-Some+else-minute-times, in_default-via-in_default}
 
 -- the number that was read is that of the day of now
-today : (n : ℤ) (read : CivilDay) (now : CivilMinute) → n ≡ day_number read → read ≡ now.day → n ≡ day_number now.day
+today : (n : ℤ) (read : CivilDay) (now : Moment) → n ≡ day_number read → read ≡ now.day → n ≡ day_number now.day
 today n read now number same = number ∙ ap day_number same
 
 pub returns-in-Some-clause-value : goal.returns-in-Some-clause-value

@@ -12,8 +12,8 @@ invariant_of-self-2 c =
     let es = c.self.inside.held.entries in
     let name = c.args.name.now in
     let dirty = c.self.inside.dirty.keys in
-    let marked : c.wait.new.names.keys ≡ with_name name dirty = search rules in
+    let marked : c.mark.new.names.keys ≡ with_name name dirty = search rules in
     let held : IsSome (lookup (bytes_eq name) (map now_of es)) = subst (λ (h : Holding). IsSome (text_of h.now name)) (sym c.self.view_is) c.requires in
     let among : AreAmong (keys_of es) (with_name name dirty) = among_name (keys_of es) dirty name c.self.invariant.held (is_among name es held) in
-    let made : IsHolding (keys_of es) c.wait.new.names.keys c.self.inside.dirty_before = rw marked (record { held = among; first = omega (arith, c.self.invariant.first, longer name dirty) }) in
+    let made : IsHolding (keys_of es) c.mark.new.names.keys c.self.inside.dirty_before = rw marked (record { held = among; first = omega (arith, c.self.invariant.first, longer name dirty) }) in
     rw c.ready_at.ensures.names made

@@ -1,0 +1,5 @@
+use Rattle.org_commands.proofs.Clockless.{LowersBelow}
+use Rattle.org_commands.proofs.files.lower.Given as goal
+
+abbrev pub invariant-loop-index : goal.invariant-loop-index
+invariant-loop-index l = LowersBelow l.names l.file l.size l.edits.items l.index l.fn.notes.items l.notes.items
