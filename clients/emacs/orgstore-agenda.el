@@ -49,6 +49,78 @@
                              (orgstore--here))))
                     markers)))
 
+(defconst orgstore--agenda-archives
+  '(orgstore-archive-subtree orgstore-archive-default
+                             orgstore-archive-default-with-confirmation)
+  "The commands that take an entry's lines from the agenda.")
+
+(defun orgstore--agenda-lines (marker)
+  "Return markers at this agenda's lines of the entries in MARKER's subtree."
+  (let* ((buffer (orgstore--base-of marker))
+         (end (with-current-buffer buffer (orgstore--subtree-end marker)))
+         lines)
+    (save-excursion
+      (goto-char (point-min))
+      (while (not (eobp))
+        (let ((it (or (org-get-at-bol 'org-hd-marker)
+                      (org-get-at-bol 'org-marker))))
+          (when (and it (marker-buffer it)
+                     (eq (orgstore--base-of it) buffer)
+                     (<= marker it (1- end)))
+            (push (point-marker) lines)))
+        (forward-line)))
+    lines))
+
+(defun orgstore--agenda-mark-clock ()
+  "Mark the lines of the clocked entry, if there is one."
+  (org-agenda-unmark-clocking-task)
+  (org-agenda-mark-clocking-task))
+
+(defun orgstore--agenda-change (marker heading)
+  "Have HEADING, that of the entry at MARKER, in this agenda's lines of it."
+  (let ((org-last-todo-state-is-todo
+         (with-current-buffer (marker-buffer marker)
+           (org-with-point-at marker
+             (not (member (org-get-todo-state) org-done-keywords))))))
+    (save-excursion
+      (beginning-of-line)
+      (org-agenda-change-all-lines heading marker 'fixface))
+    (orgstore--agenda-mark-clock)))
+
+(defun orgstore--agenda-do (command marker)
+  "Call COMMAND at the entry at MARKER, and show in this agenda what it did.
+As in Org's own agenda that is built anew for some commands alone: it takes
+long where there are many files."
+  (let* ((title (lambda () (org-with-point-at marker (org-get-heading))))
+         (before (funcall title))
+         (lines (and (memq command orgstore--agenda-archives)
+                     (orgstore--agenda-lines marker))))
+    (with-current-buffer (marker-buffer marker)
+      (org-with-wide-buffer
+       (goto-char marker)
+       (let ((org-loop-over-headlines-in-active-region nil)
+             ;; Others take none in the agenda.
+             (current-prefix-arg
+              (and (memq command
+                         '(orgstore-todo orgstore-refile orgstore-clock-in))
+                   current-prefix-arg)))
+         (call-interactively command))))
+    (pcase command
+      ((or 'orgstore-clock-in 'orgstore-clock-out)
+       (orgstore--agenda-mark-clock))
+      ((pred (lambda (it) (memq it orgstore--agenda-archives)))
+       (let ((inhibit-read-only t))
+         (dolist (line lines)
+           (save-excursion
+             (goto-char line)
+             (delete-region line (line-beginning-position 2))))))
+      ((and (or 'orgstore-todo 'orgstore--todo-nextset
+                'orgstore--todo-previousset)
+            ;; A repeated entry may be of another day now.
+            (guard (not (equal before (funcall title)))))
+       (orgstore--agenda-change marker (funcall title)))
+      (_ (orgstore--redo (current-message))))))
+
 (defun orgstore--agenda (command original bulk)
   "Call COMMAND at the entry of this agenda line.
 In an active region call BULK, if it isn't nil, for the entries of its lines.
@@ -65,17 +137,12 @@ Where one of them is in no store, call ORIGINAL."
      (region
       (let ((org-agenda-bulk-marked-entries markers))
         (orgstore--act-in-bulk bulk)))
-     (t
-      (with-current-buffer (marker-buffer (car markers))
-        (org-with-wide-buffer
-         (goto-char (car markers))
-         (let ((org-loop-over-headlines-in-active-region nil))
-           (call-interactively command))))
-      (orgstore--redo (current-message))))))
+     (t (orgstore--agenda-do command (car markers))))))
 
 (defun orgstore--redo (said)
-  "Build the agenda anew, and say again what was SAID before, if anything."
-  (org-agenda-redo)
+  "Build the agenda anew, and say again what was SAID before, if anything.
+The command's prefix is none for what builds it."
+  (let (current-prefix-arg) (org-agenda-redo))
   (when said (message "%s" said)))
 
 (defmacro orgstore--define-agenda (name command original &optional bulk)
@@ -181,7 +248,7 @@ are in all."
             (replies
              (orgstore--archive
               root name
-              (mapcar (lambda (it) (list it (orgstore--path it words))) tops)
+              (cl-mapcar #'list tops (orgstore--paths tops words))
               (orgstore--progress "Archiving..." (length tops))
               orgstore--archive-group)))
        (orgstore--summary "Archived" replies tops)
@@ -189,9 +256,9 @@ are in all."
 
 (defun orgstore--bulk-refile ()
   "Refile all marked entries below one heading."
-  (let* ((first (car org-agenda-bulk-marked-entries))
-         (target (with-current-buffer (marker-buffer first)
-                   (orgstore--ask-target (list first)))))
+  (let* ((marked org-agenda-bulk-marked-entries)
+         (target (with-current-buffer (marker-buffer (car marked))
+                   (orgstore--ask-target marked))))
     (orgstore--bulk-files
      (lambda (root name markers)
        (orgstore--accepted
@@ -217,7 +284,8 @@ state are one run of it for each file.  ARG is as there."
          (action (pcase key
                    (?t #'orgstore--bulk-todo)
                    (?$ #'orgstore--bulk-archive)
-                   ((or ?r ?w) #'orgstore--bulk-refile))))
+                   ((and (or ?r ?w) (guard (not org-refile-keep)))
+                    #'orgstore--bulk-refile))))
     (if (null action)
         (progn
           (when key (push key unread-command-events))

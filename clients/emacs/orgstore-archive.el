@@ -82,17 +82,6 @@ another than this buffer's: save both in one, as by C-x RET f utf-8 RET"
 
 ;;;; The step
 
-(defun orgstore--parents (positions)
-  "Return markers at the parents of the headings at POSITIONS, each once."
-  (org-with-wide-buffer
-   (let (parents)
-     (dolist (pos positions)
-       (goto-char pos)
-       (let ((level (orgstore--level)))
-         (when (and (> level 1) (orgstore--previous-heading level))
-           (cl-pushnew (point) parents))))
-     (mapcar #'copy-marker parents))))
-
 (defun orgstore--archive (root name entries &optional progress group)
   "Archive ENTRIES of this buffer, which visits the file NAME of ROOT.
 They are lists (POS PATH), with the titles down to each.  PROGRESS is called
@@ -103,7 +92,8 @@ Return the replies."
          (names (orgstore--archive-names name))
          (at (mapcar #'car entries))
          (removed (orgstore--extents at))
-         (parents (orgstore--parents at)))
+         (parents (mapcar (lambda (it) (copy-marker (car it)))
+                          (orgstore--parents at))))
     (orgstore--prepare root names)
     (orgstore--check-coding root (remove name names) removed)
     (prog1 (orgstore--do
@@ -140,8 +130,7 @@ orgstore-archive-done with a number of days, or M-x org-archive-subtree"))
                (orgstore--prepare root (list name))
                (orgstore--archive
                 root name
-                (mapcar (lambda (pos) (list pos (orgstore--path pos words)))
-                        at)))))
+                (cl-mapcar #'list at (orgstore--paths at words))))))
        (if (cdr replies) (orgstore--summary "Archived" replies at)
          (message "Subtree archived"))
        (deactivate-mark)

@@ -381,6 +381,14 @@ pairs of the position in BYTES and the length of what was deleted there."
                 (cons begin (- end begin)))))
           removed))
 
+(defun orgstore--alike-p (old new copy file)
+  "Whether the buffers OLD and NEW, which have COPY and FILE, are alike."
+  (let ((size (buffer-size old)))
+    (and (= size (buffer-size new))
+         (if (< size orgstore--large)
+             (with-current-buffer old (= size (orgstore--same new 1 1 size)))
+           (eq t (orgstore--cmp copy 0 file 0))))))
+
 (defun orgstore--patch-bytes (file copy removed)
   "Make this buffer, which agrees with COPY, agree with FILE.
 REMOVED are pairs of markers: what the command took out.  The buffer's text is
@@ -391,8 +399,11 @@ the bytes of COPY, and its coding UTF-8 with newlines alone."
     (unwind-protect
         (progn
           (with-current-buffer old (orgstore--insert-bytes copy))
-          (setq gaps (orgstore--take-out removed old))
           (with-current-buffer new (orgstore--insert-bytes file))
+          ;; What came to its own place is no change, and nothing to undo.
+          (when (and removed (orgstore--alike-p old new copy file))
+            (setq removed nil))
+          (setq gaps (orgstore--take-out removed old))
           (with-current-buffer old
             (setq bounds (if (< (buffer-size) orgstore--large)
                              (orgstore--bounds new)
@@ -421,8 +432,10 @@ REMOVED is as in `orgstore--patch-bytes'."
               (let ((coding-system-for-read coding)
                     (inhibit-modification-hooks t))
                 (insert-file-contents file))))
-          (dolist (it removed) (delete-region (car it) (cdr it)))
           (setq bounds (orgstore--bounds source))
+          (when (and removed bounds)
+            (dolist (it removed) (delete-region (car it) (cdr it)))
+            (setq bounds (orgstore--bounds source)))
           (pcase-dolist (`(,begin ,end ,from ,to)
                          (and bounds (orgstore--hunks source (car bounds)
                                                       (cdr bounds))))
@@ -502,6 +515,7 @@ list of pairs of markers: what it took out."
     (set-marker (car it) nil)
     (set-marker (cdr it) nil)))
 
+;;;###autoload
 (defun orgstore-recover (root)
   "Open and close the store at ROOT, so that a change cut short is finished.
 Then make its buffers agree with its files."
@@ -512,6 +526,7 @@ Then make its buffers agree with its files."
   (orgstore--reload-all root)
   (message "The files in %s are whole" (abbreviate-file-name root)))
 
+;;;###autoload
 (defun orgstore-forget-fault ()
   "Let the store be opened again where its disk had failed.
 It is opened at once, without a command, so that a change that was cut short

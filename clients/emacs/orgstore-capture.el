@@ -67,18 +67,24 @@ TARGET as in `orgstore--capture-target'."
 (defvar orgstore--said nil
   "The keys of capture templates that were said to be Org's own.")
 
+(defun orgstore--capture-own-p (entry)
+  "Whether ENTRY, one of `org-capture-templates', is Org's, in a store's file."
+  (pcase entry
+    (`(,_ ,_ ,_ (,(and kind (pred symbolp)) ,file . ,_) . ,_)
+     ;; Another kind's function isn't one for a file's name.
+     (and (string-prefix-p "file" (symbol-name kind))
+          (ignore-errors (orgstore--place (org-capture-expand-file file)))
+          (not (ignore-errors (orgstore--capture-fit entry)))))))
+
 (defun orgstore--say-own (entry)
   "Say once that ENTRY, one of `org-capture-templates', is captured by Org.
 Nothing is said where its file is in no store."
-  (pcase entry
-    (`(,key ,_ ,_ (,_ ,file . ,_) . ,_)
-     (when (and (not (member key orgstore--said))
-                (ignore-errors
-                  (orgstore--place (org-capture-expand-file file))))
-       (push key orgstore--said)
-       (message "Org itself captures “%s”: the store has nothing for its \
-target or its properties" key)
-       (sit-for 1)))))
+  (when (and (orgstore--capture-own-p entry)
+             (not (member (car entry) orgstore--said)))
+    (push (car entry) orgstore--said)
+    (message "Org itself captures “%s”: the store has nothing for its \
+target or its properties" (car entry))
+    (sit-for 1)))
 
 ;;;; The step
 
@@ -98,9 +104,7 @@ ROOT, at PLACE.  TIME, or now, is the day of a date tree."
                                         place (orgstore--moment time) "%i"
                                         (orgstore--field text coding)))
                   :names (list name)
-                  :states (orgstore--states-of root name)
-                  :new (and (not (string-suffix-p "_archive" name))
-                            (list name)))))
+                  :states (orgstore--states-of root name))))
 
 (defun orgstore--captured (root name text)
   "Have `orgstore--last-change' be at TEXT, the entry just captured.
@@ -114,9 +118,11 @@ It is in the file NAME of ROOT.  Headings that were made stand before it."
        (orgstore--update-cookies root name (list (point)))))))
 
 (defun orgstore--capture-text (blank)
-  "Return the text of the capture buffer without blank lines round it.
+  "Return what was captured in this buffer, without blank lines round it.
 BLANK lines come behind it."
-  (concat (string-trim (buffer-substring-no-properties (point-min) (point-max))
+  (concat (string-trim (buffer-substring-no-properties
+                        (or (org-capture-get :begin-marker 'local) (point-min))
+                        (or (org-capture-get :end-marker 'local) (point-max)))
                        "[ \t\n\r]*\n" "[ \t\n\r]+")
           (make-string (1+ blank) ?\n)))
 
@@ -149,29 +155,39 @@ where that refuses it the buffer stays."
         (let* ((file (make-temp-file "orgstore-capture-" nil ".org"))
                (org-capture-entry (orgstore--capture-entry entry fit file)))
           (condition-case err
-              (org-capture nil keys)
+              (progn
+                (org-capture nil keys)
+                ;; It is named by the temporary file.
+                (when (equal file (buffer-file-name (orgstore--base)))
+                  (rename-buffer (concat "CAPTURE-" (nth 1 fit)) t)))
             ((error quit)
              ;; With `:immediate-finish' a refusal leaves the capture buffer.
              (unless (get-file-buffer file) (delete-file file))
              (signal (car err) (cdr err)))))))))
 
+(defun orgstore--capture-prepare ()
+  "Keep Org from taking the temporary file of a capture for a lasting one."
+  (when (org-capture-get :orgstore 'local)
+    (when (and (bound-and-true-p org-capture-is-refiling)
+               (not org-note-abort))
+      (user-error "Finish this capture first (C-c C-c), and refile then"))
+    (with-suppressed-warnings ((obsolete org-capture-bookmark))
+      (with-current-buffer (orgstore--base)
+        (setq-local save-silently t)
+        (setq-local org-capture-bookmark nil)))))
+
 (defun orgstore--capture-finalize ()
-  "Hand the text of the capture buffer to the store, where it is for it."
+  "Hand the text of the capture buffer to the store, where it is for it.
+Org and the user's hooks have put into it what they would into the file."
   (pcase (org-capture-get :orgstore 'local)
     ((and `(,_ ,blank ,root ,name ,target ,place) (guard (not org-note-abort)))
-     (when (bound-and-true-p org-capture-is-refiling)
-       (user-error "Finish this capture first (C-c C-c), and refile then"))
      (let ((text (orgstore--capture-text blank))
            (time (org-capture-get :default-time 'local)))
        ;; As Org does, so that there is a buffer to go to.
        (unless (orgstore--visiting root name)
          (find-file-noselect (expand-file-name name root)))
        (orgstore-capture-text root name target place text time)
-       (orgstore--captured root name text))
-     (with-suppressed-warnings ((obsolete org-capture-bookmark))
-       (with-current-buffer (orgstore--base)
-         (setq-local save-silently t)
-         (setq-local org-capture-bookmark nil))))))
+       (orgstore--captured root name text)))))
 
 (defun orgstore--capture-after ()
   "Remove the temporary file of a capture for the store."

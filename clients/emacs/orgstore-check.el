@@ -37,8 +37,20 @@
     (org-log-into-drawer
      ,(lambda () org-log-into-drawer)
      "a repeat's note stands below the properties")
+    (org-log-states-order-reversed
+     ,(lambda () (not org-log-states-order-reversed))
+     "a repeat's note comes before earlier ones")
+    (org-log-note-headings
+     ,(lambda () (not (equal (alist-get 'state org-log-note-headings)
+                             "State %-12s from %-12S %t")))
+     "a repeat's note reads State \"DONE\" from \"TODO\" and the time")
+    (org-closed-keep-when-no-todo
+     ,(lambda () org-closed-keep-when-no-todo)
+     "an entry without a state has no CLOSED")
     (org-archive-location
-     ,(lambda () (not (equal org-archive-location "%s_archive::")))
+     ;; A line #+ARCHIVE gives it a value in the buffer.
+     ,(lambda () (not (equal (default-value 'org-archive-location)
+                             "%s_archive::")))
      "the ARCHIVE property and the line #+ARCHIVE are read, else it is \
 FILE_archive")
     (org-archive-mark-done
@@ -62,6 +74,9 @@ FILE_archive")
     (org-clock-out-remove-zero-time-clocks
      ,(lambda () org-clock-out-remove-zero-time-clocks)
      "clocks of no time are kept")
+    (org-clock-in-resume
+     ,(lambda () org-clock-in-resume)
+     "an entry's open clock is stopped, and a new one starts")
     (org-clock-continuously
      ,(lambda () org-clock-continuously) "a clock starts now")
     (org-clock-in-switch-to-state
@@ -84,6 +99,9 @@ FILE_archive")
     (org-adapt-indentation
      ,(lambda () (eq org-adapt-indentation t))
      "the lines that are written aren't indented")
+    (org-datetree-add-timestamp
+     ,(lambda () (bound-and-true-p org-datetree-add-timestamp))
+     "a date tree's headings have no timestamp")
     (org-odd-levels-only
      ,(lambda () org-odd-levels-only) "a level is one star")
     (org-auto-align-tags
@@ -103,12 +121,9 @@ Each is a list (VARIABLE DIFFERS WORDS); DIFFERS is a function that tells
 whether the user's Org does otherwise.")
 
 (defun orgstore--own-templates ()
-  "Return the keys of the capture templates that the store can't serve."
-  (mapcar #'car
-          (seq-remove (lambda (it)
-                        (or (not (nthcdr 3 it))
-                            (ignore-errors (orgstore--capture-fit it))))
-                      org-capture-templates)))
+  "Return the keys of the capture templates that the store can't serve.
+Those for files in no store aren't among them."
+  (mapcar #'car (seq-filter #'orgstore--capture-own-p org-capture-templates)))
 
 (defun orgstore--differences ()
   "Return a list of (VARIABLE . WORDS) on settings that the store lacks."

@@ -294,7 +294,8 @@ SWITCH, FAIL-QUIETLY and AT-TIME are as in `org-clock-out'."
                                        (orgstore--path-field
                                         (orgstore--path pos words)
                                         (orgstore--coding))))
-                                :states states))))
+                                :states states
+                                :new (orgstore--absent root (list name))))))
     (message "Clocked: %s" (org-duration-from-minutes minutes))
     minutes))
 

@@ -134,6 +134,15 @@ They are pairs (BUFFER . NAME)."
         (lambda (a b) (string< (encode-coding-string a 'utf-8)
                                (encode-coding-string b 'utf-8)))))
 
+(defun orgstore--absent (root names)
+  "Return the files that the folder ROOT lacks of those that NAMES belong to.
+Of an archive that is the file without _archive.  The store neither makes a
+file nor serves an archive where it isn't told of these."
+  (seq-remove (lambda (it) (file-exists-p (expand-file-name it root)))
+              (seq-uniq (mapcar (lambda (it)
+                                  (string-remove-suffix "_archive" it))
+                                names))))
+
 (defun orgstore--stamp (file)
   "Return the stamp of FILE, or nil where it isn't there.
 A later write gives it another one, if `orgstore--stamp-sure-p'."

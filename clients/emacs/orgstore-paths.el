@@ -221,6 +221,46 @@ WORDS are the states."
       (setq index (aref (aref outline index) 4)))
     path))
 
+(defun orgstore--paths (positions words)
+  "Return the paths of the headings at POSITIONS, as `orgstore--path' does.
+WORDS are the states.  For many of them the buffer is read through once."
+  (let ((outline (and (nthcdr 20 positions) (orgstore--outline words)))
+        (at (make-hash-table :test #'eql)))
+    (dotimes (index (length outline))
+      (puthash (aref (aref outline index) 0) index at))
+    (mapcar (lambda (pos)
+              (let ((index (gethash (+ pos 0) at)))
+                (if index (orgstore--outline-path index outline)
+                  (orgstore--path pos words))))
+            positions)))
+
+(defun orgstore--parents (positions)
+  "Return the parents of the headings at POSITIONS, each once.
+They are pairs (PARENT . POS), with one of POSITIONS that it is the parent of."
+  (org-with-wide-buffer
+   (let (last last-level parent pairs)
+     (dolist (pos (sort (mapcar (lambda (it) (+ it 0)) positions) #'<))
+       (goto-char pos)
+       (beginning-of-line)
+       (let ((level (orgstore--level)))
+         (setq parent
+               (cond ((= level 1) nil)
+                     ((and last
+                           (save-restriction
+                             (narrow-to-region last (point))
+                             (orgstore--previous-heading level)))
+                      (point))
+                     ;; Nothing in between is above the two.
+                     ((and last (= level last-level)) parent)
+                     (t (goto-char pos)
+                        (beginning-of-line)
+                        (and (orgstore--previous-heading level) (point))))
+               last pos
+               last-level level))
+       (when (and parent (not (assq parent pairs)))
+         (push (cons parent pos) pairs)))
+     (nreverse pairs))))
+
 (defun orgstore--retitle (pos words title)
   "Give the heading at POS the title TITLE.  WORDS are the states."
   (save-excursion

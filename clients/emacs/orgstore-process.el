@@ -294,6 +294,20 @@ Where another store is open on the folder it is tried for two seconds."
   (setcdr (nthcdr (min 19 (1- (length orgstore--history))) orgstore--history)
           nil))
 
+(defun orgstore--open-again (root arguments)
+  "Open and close the store at ROOT with ARGUMENTS, after it was killed.
+Return nil, or words on what kept it from that."
+  (let* ((inhibit-quit t)
+         (run (orgstore--run-unlocked "" arguments nil))
+         (status (nth 1 run)))
+    (pcase status
+      (0 nil)
+      (1 (cl-pushnew root orgstore--faults :test #'equal)
+         (orgstore--device-message root))
+      (_ (format "The store was killed, and couldn't be opened again (%s).  \
+Don't save its files before M-x orgstore-recover"
+                 (or (nth 2 (orgstore--replies (car run))) status))))))
+
 (defun orgstore--check-end (root count status answer)
   "Signal an error where a run at ROOT over COUNT lines ended early.
 STATUS is as in `orgstore--run-once', ANSWER as in `orgstore--replies'."
@@ -305,6 +319,8 @@ STATUS is as in `orgstore--run-once', ANSWER as in `orgstore--replies'."
      ((eq status 'quit)
       (user-error "Stopped.  The files are whole; of %d command%s at least \
 the first %d are done" count (if (= count 1) "" "s") safe))
+     ;; Opened again, there was no more to do.
+     ((and (stringp status) (= count 0)))
      ((stringp status)
       (user-error "The store was killed (%s).  It was opened again, and the \
 files are whole; %s: look, and try again"
@@ -334,15 +350,16 @@ so that its files are whole before anybody reads them."
   (let* ((arguments (orgstore--arguments root states group new))
          (run (orgstore--run-unlocked (string-join lines) arguments progress))
          (answer (orgstore--replies (car run)))
-         (status (nth 1 run)))
-    (unless (memql status '(0 1 2 3))
-      (let ((inhibit-quit t)) (orgstore--run-once "" arguments)))
+         (status (nth 1 run))
+         (torn (and (not (memql status '(0 1 2 3)))
+                    (orgstore--open-again root arguments))))
     (when lines
       (orgstore--remember
        root lines
        (format "%s%s" (or (car (last (nth 0 answer))) "no answer")
                (if (eql status 0) ""
                  (format ", status %s %s" status (or (nth 2 answer) ""))))))
+    (when torn (user-error "%s" torn))
     (orgstore--check-end root (length lines) status answer)
     (nth 0 answer)))
 

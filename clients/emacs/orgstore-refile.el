@@ -29,7 +29,7 @@ Return a marker at the target heading."
   (let* ((title (save-excursion (goto-char (car tops))
                                 (org-get-heading t t t t)))
          (it (org-refile-get-location
-              (if (cdr tops) "Refile region to"
+              (if (cdr tops) (format "Refile %d subtrees to" (length tops))
                 (format "Refile subtree \"%s\" to" title))
               nil org-refile-allow-creating-parent-nodes)))
     (unless it (user-error "No target"))
@@ -62,13 +62,12 @@ states.  Return the replies."
     (orgstore--check-coding root (remove name (list into)) removed)
     (orgstore--do
      root
-     (mapcar (lambda (pos)
+     (mapcar (lambda (path)
                (orgstore--line
                 "refile" name
-                (orgstore--path-field (orgstore--path pos words)
-                                      (orgstore--coding))
+                (orgstore--path-field path (orgstore--coding))
                 (orgstore--field into) to (if first "first" "last")))
-             order)
+             (orgstore--paths order words))
      :names (seq-uniq (list name into)) :states (orgstore--states)
      :group (length tops) :removed removed
      :progress (orgstore--progress "Refiling..." (length tops)))))
@@ -105,9 +104,9 @@ which no crash-safe step is"))
   "Move the subtree at point, or those in the region, below another heading.
 With ARG nil the target is asked as in `org-refile', or is TARGET, a marker;
 with ARG 2 it is the task with the running clock.  Any other ARG moves nothing
-or keeps the subtree, and is handed to `org-refile'."
+or keeps the subtree, as `org-refile-keep' does, and is `org-refile''s."
   (interactive "P")
-  (if (or (not (orgstore--here)) (and arg (not (eql arg 2))))
+  (if (or (not (orgstore--here)) org-refile-keep (and arg (not (eql arg 2))))
       (org-refile arg)
     (pcase-let* ((`(,root . ,name) (orgstore--here))
                  (_ (orgstore--prepare root (list name)))

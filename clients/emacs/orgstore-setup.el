@@ -72,7 +72,8 @@ DIR.  Signal an error where it doesn't do that."
          (names (orgstore--names root))
          (copy (file-name-as-directory
                 (file-truename (make-temp-file "orgstore-try-" t))))
-         (name (or (car names) "orgstore-try.org"))
+         (name (or (seq-find (lambda (it) (string-suffix-p ".org" it)) names)
+                   "orgstore-try.org"))
          (orgstore-program program)
          (orgstore--faults nil)
          (orgstore--history nil))
@@ -94,11 +95,15 @@ DIR.  Signal an error where it doesn't do that."
           (length names))
       (delete-directory copy t))))
 
+(defconst orgstore--init-head
+  ";; orgstore: Org commands through a crash-safe store."
+  "The first of the lines for the init file.")
+
 (defun orgstore--init-lines (program dir)
   "Return the lines for the init file that serve DIR by PROGRAM."
   (let ((here (directory-file-name
                (file-name-directory (locate-library "orgstore-setup")))))
-    (concat ";; orgstore: Org commands through a crash-safe store.\n"
+    (concat orgstore--init-head "\n"
             (format "(add-to-list 'load-path %S)\n"
                     (abbreviate-file-name here))
             "(require 'orgstore)\n"
@@ -108,17 +113,24 @@ DIR.  Signal an error where it doesn't do that."
             "(orgstore-global-mode 1)\n")))
 
 (defun orgstore--write-init (lines)
-  "Offer to put LINES at the end of the init file.  Return its name, or nil."
+  "Offer to put LINES into the init file.  Return its name, or nil.
+They come in the place of those of an earlier set-up, else to the end."
   (let ((file (or user-init-file
                   (locate-user-emacs-file "init.el" ".emacs"))))
     (when (y-or-n-p (format "Add these lines to %s? "
                             (abbreviate-file-name file)))
       (with-current-buffer (find-file-noselect file)
         (save-excursion
-          (goto-char (point-max))
-          (unless (bolp) (insert "\n"))
-          (unless (bobp) (insert "\n"))
-          (insert lines))
+          (goto-char (point-min))
+          (if (re-search-forward
+               (concat "^" (regexp-quote orgstore--init-head)
+                       "\n\\(?:.+\n\\)*?(orgstore-global-mode 1)\n")
+               nil t)
+              (replace-match lines t t)
+            (goto-char (point-max))
+            (unless (bolp) (insert "\n"))
+            (unless (bobp) (insert "\n"))
+            (insert lines)))
         (save-buffer))
       file)))
 
@@ -194,7 +206,13 @@ and the lines for the init file are offered to be written there."
                            ((orgstore--gate-open-p root)
                             "open, of a change that was cut short; the next \
 command finishes it, or M-x orgstore-recover")
-                           (t "closed"))))
+                           (t "closed")))))))
+
+(defun orgstore--print-files (dir)
+  "Print how the files of the folder DIR of `orgstore-directory' stand."
+  (when (and (not (file-remote-p dir)) (file-directory-p dir))
+    (princ (format "\nFiles of %s:\n" (abbreviate-file-name dir)))
+    (let ((root (file-name-as-directory (file-truename dir))))
       (dolist (name (orgstore--names root))
         (princ (format "  %-30s %9d  %s\n" name
                        (nth 1 (orgstore--stamp (expand-file-name name root)))
@@ -202,7 +220,7 @@ command finishes it, or M-x orgstore-recover")
 
 ;;;###autoload
 (defun orgstore-status ()
-  "Show the store's files, its journal, and the last commands and replies."
+  "Show the store's journal, the last commands and replies, and its files."
   (interactive)
   (with-help-window "*orgstore status*"
     (princ (format "Program %s\n" (or (executable-find orgstore-program)
@@ -215,7 +233,8 @@ orgstore-undo-last\n\nLast commands:\n" (length (orgstore--keep-dirs))))
       (princ (format "  %s  %s%s: %s\n" (format-time-string "%H:%M:%S" time)
                      (orgstore--say (list line))
                      (if (> count 1) (format " and %d more" (1- count)) "")
-                     answer)))))
+                     answer)))
+    (mapc #'orgstore--print-files (orgstore--folders))))
 
 (provide 'orgstore-setup)
 ;;; orgstore-setup.el ends here

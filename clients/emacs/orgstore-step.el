@@ -36,10 +36,10 @@ longer than all the rest.")
 (cl-defun orgstore--do (root lines &key names states group new removed
                              progress)
   "Run LINES over the store at ROOT and make the buffers agree.
-NAMES are the files that they may change.  STATES, GROUP, NEW and PROGRESS are
-as in `orgstore--run'.  REMOVED is nil or a list with a pair of markers for
-each line: what the command takes out.  Return the replies; a refusal of a
-lone line is an error."
+NAMES are the files that they may change, and may make.  STATES, GROUP, NEW and
+PROGRESS are as in `orgstore--run'.  REMOVED is nil or a list with a pair of
+markers for each line: what the command takes out.  Return the replies; a
+refusal of a lone line is an error."
   (let* ((gc-cons-threshold (max gc-cons-threshold orgstore--garbage))
          (buffer (current-buffer))
          (kept (and names (orgstore--keep root names (orgstore--say lines))))
@@ -47,8 +47,12 @@ lone line is an error."
     (setq orgstore--last-change nil)
     (unwind-protect
         (setq replies (orgstore--run root lines :states states :group group
-                                     :new new :progress progress))
-      (unless (member root orgstore--faults)
+                                     :new (or new
+                                              (orgstore--absent root names))
+                                     :progress progress))
+      (unless (or (member root orgstore--faults)
+                  ;; It couldn't be opened again, and the files may be torn.
+                  (and (null replies) (orgstore--gate-open-p root)))
         (orgstore--reload-all
          root names
          (lambda (name)
@@ -82,6 +86,18 @@ lone line is an error."
 
 ;;;; Twins
 
+(defun orgstore--jump (marker)
+  "Go to the heading at MARKER.  A question that is asked meanwhile is ended."
+  (if (active-minibuffer-window)
+      (progn (run-at-time 0 nil #'orgstore--jump marker)
+             (abort-recursive-edit))
+    (pop-to-buffer (marker-buffer marker))
+    (widen)
+    (goto-char marker)
+    (funcall (if (fboundp 'org-fold-show-context) 'org-fold-show-context
+               'org-show-context)
+             'link-search)))
+
 (defun orgstore--show-headings (words items)
   "Show WORDS, and below them a line with a button for each of ITEMS.
 They are pairs of a marker at a heading and what to say of it, or nil."
@@ -98,14 +114,7 @@ They are pairs of a marker at a heading and what to say of it, or nil."
                     (buffer-substring-no-properties
                      (point) (line-end-position)))))
          'follow-link t
-         'action (lambda (_)
-                   (pop-to-buffer (marker-buffer marker))
-                   (widen)
-                   (goto-char marker)
-                   (funcall (if (fboundp 'org-fold-show-context)
-                                'org-fold-show-context
-                              'org-show-context)
-                            'link-search)))
+         'action (lambda (_) (orgstore--jump marker)))
         (insert (if more (concat "\n    " more "\n") "\n"))))
     (special-mode)
     (goto-char (point-min))
@@ -126,13 +135,18 @@ They are those of the headings at POSITIONS.  WORDS are the states."
       (setq n (1+ n)))
     (format "%s (%d)" title n)))
 
+(defun orgstore--title-at (pos words)
+  "Return the title of the heading at POS.  WORDS are the states."
+  (save-excursion
+    (goto-char pos)
+    (nth 1 (orgstore--here-parts words))))
+
 (defun orgstore--mend-twins (hidden words)
   "Have the user give another title to a heading that has twins.
 HIDDEN is as in `orgstore--hidden', of the current buffer; WORDS are the
 states.  Where none is given it is an error."
-  (let* ((on (car hidden))
-         (title (save-excursion (goto-char on)
-                                (nth 1 (orgstore--here-parts words))))
+  (let* ((on (copy-marker (car hidden)))
+         (title (orgstore--title-at on words))
          (why (format "“%s” stands more than once under one heading \
 (lines %s)" title
                       (mapconcat (lambda (it)
@@ -144,14 +158,20 @@ states.  Where none is given it is an error."
         (orgstore--show-headings
          (concat why ".\nA path can't tell them apart.")
          (mapcar (lambda (it) (list (copy-marker it))) (cdr hidden)))
-        (setq new (string-trim
-                   (read-string
-                    (format "%s.  Title for that in line %d: " why
-                            (line-number-at-pos on t))
-                    (orgstore--free-title title (cdr hidden) words))))))
+        (condition-case nil
+            (setq new (string-trim
+                       (read-string
+                        (format "%s.  Title for that in line %d: " why
+                                (line-number-at-pos on t))
+                        (orgstore--free-title title (cdr hidden) words))))
+          ;; C-g is no title.
+          (quit nil))))
     (when (member new (list "" title))
       (unless noninteractive (display-buffer "*orgstore headings*"))
       (user-error "%s: give one of them another title, and try again" why))
+    ;; Other commands may have been done while it was asked for.
+    (unless (equal title (orgstore--title-at on words))
+      (user-error "“%s” isn't there any more: try again" title))
     (orgstore--retitle on words new)))
 
 (defun orgstore--call-unique (headings words function)
@@ -256,6 +276,12 @@ With OWN its line is among them.  Nil where none has a statistics cookie."
       (let ((text (string-join lines "\n")))
         (and (string-match-p orgstore--cookie text) text)))))
 
+(defun orgstore--cookies-p ()
+  "Whether a heading of this buffer, which is widened, has a cookie."
+  (save-excursion
+    (goto-char (point-min))
+    (re-search-forward (concat "^\\*+ .*" orgstore--cookie) nil t)))
+
 (defun orgstore--undo-join ()
   "Have one undo take back the last command and what is edited next.
 This is so where the command changed the current buffer."
@@ -273,7 +299,10 @@ of ROOT, where that changed it: this is no part of the step."
       (orgstore--undo-join)
       (org-with-wide-buffer
        (let (tried changed)
-         (dolist (pos positions)
+         ;; Looking above each of many takes longer than through the buffer.
+         (dolist (pos (and (or (null (nthcdr 20 positions))
+                               (orgstore--cookies-p))
+                           positions))
            (let ((before (orgstore--cookies-above pos own)))
              (when before
                (setq tried t)

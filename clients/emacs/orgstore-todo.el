@@ -114,26 +114,39 @@ them are one step, up to a thousand."
             (orgstore--prepare root (list name))
             (orgstore--do
              root
-             (mapcar (lambda (change)
-                       (orgstore--line
-                        "todo" name
-                        (orgstore--path-field
-                         (orgstore--path (car change) words)
-                         (orgstore--coding))
-                        (or (nth 2 change) "") moment))
-                     wanted)
+             (cl-mapcar (lambda (change path)
+                          (orgstore--line
+                           "todo" name
+                           (orgstore--path-field path (orgstore--coding))
+                           (or (nth 2 change) "") moment))
+                        wanted (orgstore--paths at words))
              :names (list name) :states states :group (length wanted)
              :progress (orgstore--progress "TODO states..."
                                            (length wanted)))))
          (done (cl-loop for change in wanted
                         for reply in replies
                         when (eq (car reply) 'ok) collect change)))
-    (orgstore--update-cookies root name (mapcar #'car done))
+    (orgstore--update-cookies
+     root name (if (cdr done) (mapcar #'cdr (orgstore--parents
+                                             (mapcar #'car done)))
+                 (mapcar #'car done)))
     (orgstore--clock-out-of-done done)
     (orgstore--after-todo done)
     (if (cdr replies) (orgstore--summary "TODO states" replies at)
-      (message "TODO state changed to %s" (or to "none")))
+      (orgstore--tell-change (car wanted) words))
     done))
+
+(defun orgstore--tell-change (change words)
+  "Say what CHANGE, a list (POS FROM TO), came to.  WORDS are the states."
+  (pcase-let ((`(,pos ,_ ,to) change))
+    (org-with-wide-buffer
+     (goto-char pos)
+     (if (equal to (car (orgstore--here-parts words)))
+         (message "TODO state changed to %s" (or to "none"))
+       (forward-line)
+       (message "Entry repeats: %s"
+                (string-trim (buffer-substring-no-properties
+                              (point) (line-end-position))))))))
 
 (defun orgstore--clock-out-of-done (changes)
   "Stop the clock where its entry turned done, if Org does so.

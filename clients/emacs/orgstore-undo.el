@@ -25,6 +25,8 @@
 (require 'orgstore-files)
 (require 'orgstore-buffers)
 
+(declare-function org-agenda-redo "org-agenda")
+
 (defcustom orgstore-undo-directory
   (locate-user-emacs-file "orgstore-undo/")
   "The folder for copies of files as they were before the last commands."
@@ -265,6 +267,8 @@ twice, and loses none."
     (orgstore--undo-chain kept)
     (orgstore--keep-forget (orgstore--kept-dir kept))
     (run-hooks 'orgstore--moved-hook)
+    (when (derived-mode-p 'org-agenda-mode)
+      (let (current-prefix-arg) (org-agenda-redo)))
     (message "Undone: %s" (orgstore--kept-words kept))))
 
 (defvar orgstore--moved-hook nil

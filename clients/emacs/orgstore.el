@@ -191,8 +191,14 @@ Speed keys call commands by name, which no remapping sees."
     (funcall act 'org-mode-hook #'orgstore--turn-on)
     (funcall act 'org-agenda-mode-hook #'orgstore-agenda-mode)
     (funcall act 'org-capture-prepare-finalize-hook
-             #'orgstore--capture-finalize)
+             #'orgstore--capture-prepare)
     (funcall act 'org-capture-after-finalize-hook #'orgstore--capture-after))
+  ;; Behind the user's own functions.
+  (if orgstore-global-mode
+      (add-hook 'org-capture-before-finalize-hook #'orgstore--capture-finalize
+                100)
+    (remove-hook 'org-capture-before-finalize-hook
+                 #'orgstore--capture-finalize))
   (dolist (buffer (buffer-list))
     (with-current-buffer buffer
       (when (derived-mode-p 'org-mode)

@@ -35,6 +35,7 @@
       (orgstore-test-visit "a.org")
       (orgstore-test-capturing `(("k" "key" entry ,target "* TODO %?" ,@options)) "k"
         (should org-capture-mode)
+        (should (equal (buffer-name) "CAPTURE-a.org"))
         (insert "new")
         ;; Nothing is in the file before the capture is finished.
         (should (equal (orgstore-test-disk "a.org") "* Work\n** Old\n* Tasks\n"))
@@ -46,6 +47,16 @@
         (org-capture-goto-last-stored)
         (should (looking-at "\\*+ TODO new")))
       (should-not (orgstore-test-left)))))
+
+(ert-deftest orgstore-test-a-capture-that-is-jumped-to ()
+  (orgstore-test-store '(("a.org" . "* Work\n* Tasks\n"))
+    (orgstore-test-capturing '(("k" "key" entry (file+headline "a.org" "Work") "* TODO %?" :jump-to-captured t)) "k"
+      (insert "new")
+      (save-window-excursion
+        (orgstore-test-keys "C-c C-c")
+        (should (equal (buffer-name) "a.org"))
+        (should (looking-at "\\*\\* TODO new"))))
+    (orgstore-test-files "a.org" "* Work\n** TODO new\n* Tasks\n")))
 
 (ert-deftest orgstore-test-capture-by-key-from-anywhere ()
   (orgstore-test-store nil
@@ -105,6 +116,37 @@
     (should (string-match-p "\\`\\* WAIT Tasks\n *- thing" (orgstore-test-disk "a.org")))
     (orgstore-test-agrees)))
 
+(ert-deftest orgstore-test-what-hooks-put-into-a-capture ()
+  "It is captured; so is it where the first time fails.  What stood in the file isn't."
+  (orgstore-test-store '(("a.org" . "* Work\n"))
+    (let ((org-capture-before-finalize-hook org-capture-before-finalize-hook)
+          (find-file-hook (list (lambda () (when (= 0 (buffer-size)) (insert "#+TITLE: new\n"))))))
+      (add-hook 'org-capture-before-finalize-hook (lambda () (org-set-property "CREATED" "now")))
+      (orgstore-test-capturing '(("k" "key" entry (file+headline "a.org" "Work") "* %?\n- [X] done\n- [ ] open")) "k"
+        (insert "new [/]")
+        (let ((orgstore-program "/nowhere/orgstore"))
+          (orgstore-test-error "no program" (orgstore-test-keys "C-c C-c")))
+        (should org-capture-mode)
+        (orgstore-test-keys "C-c C-c")))
+    (orgstore-test-files
+     "a.org" "* Work\n** new [1/2]\n:PROPERTIES:\n:CREATED:  now\n:END:\n- [X] done\n- [ ] open\n")
+    (should-not (orgstore-test-left))))
+
+(ert-deftest orgstore-test-which-captures-are-said-to-be-orgs ()
+  "Those for files of the store; a function that finds the place is called by Org alone."
+  (orgstore-test-store '(("a.org" . "* Tasks\n"))
+    (let* ((called 0)
+           (place (lambda () (setq called (1+ called)) (set-buffer (find-file-noselect (orgstore-test-path "a.org")))))
+           (org-capture-templates
+            `(("g" "a group") ("t" "task" entry (file "a.org") "* %?") ("i" "item" item (file "a.org") "- %?")
+              ("e" "elsewhere" item (file ,(concat orgstore-test-beside "x.org")) "- %?")
+              ("w" "week" entry (file+olp+datetree "a.org") "* %?" :tree-type week)
+              ("f" "function" entry (function ,place) "* new" :immediate-finish t))))
+      (should (equal (orgstore--own-templates) '("i" "w")))
+      (orgstore-test-visit "a.org")
+      (orgstore-capture nil "f")
+      (should (= called 1)))))
+
 (ert-deftest orgstore-test-a-capture-too-large-for-a-line ()
   (orgstore-test-store '(("a.org" . "* Work\n"))
     (orgstore-test-capturing '(("o" "olp" entry (file+olp "a.org" "Work") "* %?\n")) "o"
@@ -132,6 +174,59 @@
   (goto-char (point-min))
   (search-forward title)
   (beginning-of-line))
+
+(ert-deftest orgstore-test-a-prefix-in-the-agenda ()
+  "C-u t asks for a note, and M-2 t goes to the second state; the agenda stays the same."
+  (orgstore-test-store '(("a.org" . "* TODO A\n* TODO B\n* TODO C\n* DONE D\n"))
+    (let ((org-agenda-window-setup 'current-window))
+      (save-window-excursion
+        (org-todo-list)
+        (goto-char (point-min))
+        (re-search-forward "TODO +A")
+        (orgstore-test-key "C-u t")
+        (should (equal (buffer-name) "*Org Note*"))
+        (orgstore-test-keys "w h y C-c C-c")
+        (switch-to-buffer org-agenda-buffer-name)
+        (goto-char (point-min))
+        (re-search-forward "TODO +B")
+        (orgstore-test-key "M-2 t")
+        (should (string-match-p "WAIT +A" (buffer-string)))
+        (should (string-match-p "WAIT +B" (buffer-string)))
+        ;; It isn't that of C-c $, which archives all that is done.
+        (re-search-forward "TODO +C")
+        (orgstore-test-key "C-u $")
+        (kill-buffer org-agenda-buffer-name)))
+    (should (string-match-p "\\`\\* WAIT A\n.*\n +why\n\\* WAIT B\n\\* DONE D\n\\'" (orgstore-test-disk "a.org")))
+    (orgstore-test-agrees)))
+
+(ert-deftest orgstore-test-the-agenda-changes-its-lines ()
+  "It isn't built anew for t, $, I and O, as in Org; it is where an entry repeats."
+  (orgstore-test-store '(("a.org" . "* TODO A\n** TODO A1\n* TODO B :x:\n* TODO R\nSCHEDULED: <2026-07-01 Wed +1d>\n")
+                         ("b.org" . "* TODO C\n"))
+    (orgstore-test-agenda
+      (cl-flet ((shown () (mapcar (lambda (it) (replace-regexp-in-string "[ \t]+" " " (string-trim it)))
+                                  (seq-filter (lambda (it) (string-match-p "\\`  [ab]:" it))
+                                              (split-string (substring-no-properties (buffer-string)) "\n")))))
+        (cl-letf (((symbol-function 'org-agenda-redo) (lambda (&rest _) (error "Built anew"))))
+          (orgstore-test-agenda-line "TODO B")
+          (orgstore-test-key "t")
+          (should (looking-at " .*WAIT B .*:x:"))
+          (orgstore-test-key "M-3 t")
+          (orgstore-test-agenda-line "TODO C")
+          (orgstore-test-key "I")
+          (should (seq-some (lambda (it) (eq 'org-agenda-clocking (overlay-get it 'type)))
+                            (overlays-at (point))))
+          (orgstore-test-key "O")
+          (should-not (seq-some (lambda (it) (eq 'org-agenda-clocking (overlay-get it 'type)))
+                                (overlays-at (point))))
+          (should (equal (shown) '("a: TODO A" "a: TODO A1" "a: DONE B :x:" "a: TODO R" "b: TODO C")))
+          (orgstore-test-agenda-line "TODO A")
+          (orgstore-test-key "$")
+          (should (equal (shown) '("a: DONE B :x:" "a: TODO R" "b: TODO C"))))
+        (orgstore-test-agenda-line "TODO R")
+        (orgstore-test-key "M-3 t")
+        (should (equal (shown) '("a: TODO R" "b: TODO C")))))
+    (orgstore-test-agrees)))
 
 (ert-deftest orgstore-test-agenda-keys ()
   "t, C-S-arrows, $, a, I, O and C-c C-w at a line of the agenda."

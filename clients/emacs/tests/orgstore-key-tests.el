@@ -160,14 +160,17 @@ And what sounds like it is known."
       (orgstore-test-files "a.org" after))))
 
 (ert-deftest orgstore-test-what-is-left-to-org ()
-  "C-c M-w copies by Org; the copy is an edit like others."
-  (orgstore-test-store '(("a.org" . "* TODO A\n* B\n"))
-    (orgstore-test-visit "a.org" "A")
-    (orgstore-test-keys "C-c M-w a.org/B RET")
-    (should (equal (orgstore-test-text) "* TODO A\n* B\n** TODO A\n"))
-    (orgstore-test-goto "B")
-    (orgstore-todo "WAIT")
-    (orgstore-test-files "a.org" "* TODO A\n* WAIT B\n** TODO A\n")))
+  "C-c M-w copies by Org, and C-c C-w where `org-refile-keep' is set.
+The copy is an edit like others."
+  (pcase-dolist (`(,keys ,keep) '(("C-c M-w" nil) ("C-c C-w" t)))
+    (orgstore-test-store '(("a.org" . "* TODO A\n* B\n"))
+      (orgstore-test-visit "a.org" "A")
+      (let ((org-refile-keep keep))
+        (orgstore-test-keys keys "a.org/B RET"))
+      (should (equal (orgstore-test-text) "* TODO A\n* B\n** TODO A\n"))
+      (orgstore-test-goto "B")
+      (orgstore-todo "WAIT")
+      (orgstore-test-files "a.org" "* TODO A\n* WAIT B\n** TODO A\n"))))
 
 (ert-deftest orgstore-test-s-arrows-away-from-headings-are-orgs ()
   "On stamps, items and in tables; and with the region where it is selected."

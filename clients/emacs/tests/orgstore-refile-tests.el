@@ -38,6 +38,25 @@
       (orgstore-refile nil (orgstore-test-marker "b.org" "Home")))
     (orgstore-test-files "b.org" "* Work\n** TODO One\n1\n** Home\n*** Old\n")))
 
+(ert-deftest orgstore-test-a-refile-to-its-own-place ()
+  "Nothing changes, and there is nothing to undo."
+  (dolist (coding '(utf-8-unix latin-1-unix))
+    (dolist (orgstore--large '(1 700000))
+      (orgstore-test-store nil
+        (orgstore-test-write "a.org" "* P\n** Größe\n** Last\nx\n* Z\n" coding)
+        (orgstore-test-visit "a.org" "Z")
+        (should (eq (coding-system-base coding) (coding-system-base buffer-file-coding-system)))
+        (let ((bytes (orgstore-test-bytes "a.org")))
+          (orgstore-todo "WAIT")
+          (orgstore-test-goto "Last")
+          (orgstore-test-key "C-c C-w" "a.org/P RET")
+          (should (equal (orgstore-test-bytes "a.org") (string-replace "* Z" "* WAIT Z" bytes)))
+          (orgstore-test-agrees)
+          (undo-boundary)
+          (setq last-command nil)
+          (undo)
+          (should (equal (orgstore-test-text) "* P\n** Größe\n** Last\nx\n* Z\n")))))))
+
 (ert-deftest orgstore-test-refile-of-a-region ()
   "The region goes in order, also where new entries come first."
   (orgstore-test-store
@@ -174,6 +193,41 @@ OLPATH, TODO and TAGS are the values of its properties, or nil."
     (insert "#+ARCHIVE: %s_archive::datetree/")
     (orgstore-test-goto "Attic")
     (orgstore-test-error "ARCHIVE location" (orgstore-archive-subtree))))
+
+(ert-deftest orgstore-test-archive-to-files-that-are-not-there-yet ()
+  "They are made, as Org makes them, and no other file is."
+  (pcase-dolist (`(,location ,file ,before)
+                 '(("new.org::" "new.org" "") ("new.org::* Old" "new.org" "* Old\n")
+                   ("x.org_archive::" "x.org_archive" "") ("%s_archive::" "a.org_archive" "")))
+    (orgstore-test-store `(("a.org" . ,(format "#+ARCHIVE: %s\n* A\n" location)))
+      (orgstore-test-visit "a.org" "A")
+      (orgstore-archive-subtree)
+      (orgstore-test-files "a.org" (format "#+ARCHIVE: %s\n" location)
+                           file (concat before (orgstore-test-archived
+                                                (if (equal before "") "* A" "** A") nil)))
+      (should (equal (sort (directory-files orgstore-test-dir nil "\\`[^.]") #'string<)
+                     (sort (list "a.org" file "orgstore.journal") #'string<))))))
+
+(ert-deftest orgstore-test-an-archive-file-without-its-file ()
+  "It is served as others are; the file that it was of isn't made."
+  (orgstore-test-store '(("a.org_archive" . "* TODO A\n* B\n") ("b.org" . "#+ARCHIVE: a.org_archive::\n* C\n* D\n"))
+    (orgstore-test-visit "a.org_archive" "A")
+    (orgstore-test-key "C-c C-t")
+    (orgstore-test-goto "B")
+    (orgstore-test-key "C-c C-x C-i")
+    (should (org-clocking-p))
+    (orgstore-test-at 10 20)
+    (orgstore-test-visit "b.org" "C")
+    (orgstore-test-key "C-c C-x C-o")
+    (should-not (org-clocking-p))
+    (orgstore-test-key "C-c $")
+    (orgstore-test-visit "a.org_archive" "B")
+    (should (= 20 (orgstore-time)))
+    (orgstore-test-key "C-c C-w" "b.org/D RET")
+    (should (string-match-p "\\`.*\n\\* D\n\\*\\* B\n" (orgstore-test-disk "b.org")))
+    (should (string-match-p "\\`\\* WAIT A\n\\* C\n:PROP" (orgstore-test-disk "a.org_archive")))
+    (orgstore-test-agrees)
+    (should-not (file-exists-p (orgstore-test-path "a.org")))))
 
 (ert-deftest orgstore-test-archive-of-a-region ()
   (orgstore-test-store '(("a.org" . "* A\n** X\n* B\n* C\n"))

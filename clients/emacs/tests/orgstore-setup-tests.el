@@ -11,7 +11,7 @@
 ;;;; Set-up
 
 (ert-deftest orgstore-test-setup-tries-a-copy-and-writes-the-init-file ()
-  (orgstore-test-store '(("a.org" . "* TODO A\n") ("b.org" . ""))
+  (orgstore-test-store '(("0.org_archive" . "* Old\n") ("a.org" . "* TODO A\n") ("b.org" . ""))
     (let ((user-init-file (expand-file-name "init.el" orgstore-test-beside))
           (orgstore-directory nil)
           (program orgstore-program)
@@ -20,7 +20,7 @@
       (cl-letf (((symbol-function 'y-or-n-p) (lambda (_) t)))
         (orgstore-setup program orgstore-test-dir))
       (with-current-buffer "*orgstore setup*"
-        (should (string-match-p "2 Org files" (buffer-string)))
+        (should (string-match-p "3 Org files" (buffer-string)))
         (should (string-match-p "(orgstore-global-mode 1)" (buffer-string))))
       ;; Nothing was done to the folder itself.
       (orgstore-test-files "a.org" "* TODO A\n" "b.org" "")
@@ -33,7 +33,18 @@
       (orgstore-test-files "a.org" "* WAIT A\n")
       ;; And by the lines in the next Emacs.
       (let ((init (with-temp-buffer (insert-file-contents user-init-file) (buffer-string))))
-        (should (string-prefix-p "(setq mine 1)\n" init)))
+        (should (string-prefix-p "(setq mine 1)\n" init))
+        ;; Done once more it leaves the lines in their place.
+        (kill-buffer (find-buffer-visiting user-init-file))
+        (write-region "(setq more 1)\n" nil user-init-file t 'quiet)
+        (let ((beside (concat orgstore-test-beside "b")))
+          (make-symbolic-link orgstore-test-dir beside)
+          (cl-letf (((symbol-function 'y-or-n-p) (lambda (_) t)))
+            (orgstore-setup program beside))
+          (should (equal (with-temp-buffer (insert-file-contents user-init-file) (buffer-string))
+                         (concat (string-replace (format "%S" (abbreviate-file-name orgstore-test-dir))
+                                                 (format "%S" (abbreviate-file-name (concat beside "/"))) init)
+                                 "(setq more 1)\n")))))
       (with-temp-buffer
         (should (equal 0 (call-process
                           (or (getenv "ORGSTORE_EMACS") (expand-file-name invocation-name invocation-directory))
@@ -122,6 +133,27 @@
       (with-current-buffer "*orgstore settings*"
         (should (string-match-p "org-log-into-drawer" (buffer-string)))
         (should (string-match-p "org-archive-location" (buffer-string)))))
+    (pcase-dolist (`(,variable . ,value)
+                   '((org-log-done) (org-log-repeat) (org-log-states-order-reversed)
+                     (org-log-note-headings (state . "%s %S")) (org-closed-keep-when-no-todo . t)
+                     (org-archive-mark-done . t) (org-archive-reversed-order . t)
+                     (org-archive-save-context-info time) (org-archive-file-header-format . "x")
+                     (org-archive-subtree-add-inherited-tags . t) (org-archive-hook ignore)
+                     (org-clock-into-drawer) (org-clock-out-remove-zero-time-clocks . t)
+                     (org-clock-in-resume . t) (org-clock-continuously . t)
+                     (org-clock-in-switch-to-state . "WAIT") (org-log-note-clock-out . t)
+                     (org-log-refile . time) (org-todo-log-states ("DONE" time))
+                     (org-todo-repeat-to-state . "WAIT") (org-todo-state-tags-triggers ("DONE"))
+                     (org-adapt-indentation . t) (org-datetree-add-timestamp . active)
+                     (org-odd-levels-only . t) (org-capture-templates ("i" "" item (file "a.org") "%?"))))
+      (cl-progv (list variable) (list value)
+        (should (assq variable (orgstore-check)))))
+    ;; The line #+ARCHIVE is followed.
+    (orgstore-test-write "r.org" "#+ARCHIVE: old.org::\n* R\n")
+    (orgstore-test-visit "r.org")
+    (should (equal org-archive-location "old.org::"))
+    (should-not (assq 'org-archive-location (orgstore-check)))
+    (orgstore-test-visit "a.org")
     ;; Warned of once.
     (let ((orgstore-check-settings t) (org-log-into-drawer t) (orgstore--warned nil) (warned 0))
       (cl-letf (((symbol-function 'display-warning) (lambda (&rest _) (setq warned (1+ warned)))))

@@ -76,16 +76,19 @@
     (set-file-modes file #o755)
     file))
 
-(defun orgstore-test-stopping (at how)
+(defun orgstore-test-stopping (at how &optional then)
   "Return a program whose first run is stopped at the call AT, by HOW.
-Each later one is the store's own.  See tests/stops.c."
-  (orgstore-test-script
-   "stopping"
-   "if mkdir \"$0.once\" 2> /dev/null; then"
-   (format "    LD_PRELOAD='%s' STOPS_AT=%d STOPS_HOW=%s exec '%s' \"$@\""
-           orgstore-test-stops at how orgstore-test-program)
-   "fi"
-   (format "exec '%s' \"$@\"" orgstore-test-program)))
+With THEN the second is stopped at that call.  Each later one is the store's
+own.  See tests/stops.c."
+  (let ((stop (lambda (at name)
+                (list (format "if mkdir \"$0.%s\" 2> /dev/null; then" name)
+                      (format "    LD_PRELOAD='%s' STOPS_AT=%d STOPS_HOW=%s exec '%s' \"$@\""
+                              orgstore-test-stops at how orgstore-test-program)
+                      "fi"))))
+    (apply #'orgstore-test-script "stopping"
+           (append (funcall stop at "once")
+                   (and then (funcall stop then "twice"))
+                   (list (format "exec '%s' \"$@\"" orgstore-test-program))))))
 
 (defun orgstore-test-left ()
   "Return the client's files that are left in the folder of temporary ones."
@@ -270,7 +273,8 @@ Where ORGSTORE_ONLY is set, run those alone that have it in their name."
                        (princ (format "skipped %s\n" name)))
                       (t
                        (setq failed (1+ failed))
-                       (princ (format "FAILED %s\n" name))
+                       ;; A question may stand in the line.
+                       (princ (format "\nFAILED %s\n" name))
                        (when (ert-test-result-with-condition-p result)
                          (let ((print-escape-newlines t) (print-length 40) (print-level 12))
                            (princ (format "    %S\n" (ert-test-result-with-condition-condition

@@ -66,6 +66,38 @@
       (orgstore-test-error "before the first heading" (orgstore-todo "WAIT"))
       (orgstore-test-files "a.org" text))))
 
+(ert-deftest orgstore-test-paths-and-parents-of-many-headings ()
+  "They are those of each one, in any order."
+  (orgstore-test-store
+      `(("a.org" . ,(concat "text\n"
+                            (mapconcat (lambda (i)
+                                         (format "%s %sH%d\n%s" (make-string (nth (% (* i 7) 11) '(1 2 3 2 5 4 4 3 6 2 3)) ?*)
+                                                 (if (= 0 (% i 3)) "TODO " "") i (if (= 0 (% i 4)) "text\n" "")))
+                                       (number-sequence 1 60) ""))))
+    (orgstore-test-visit "a.org")
+    (let* ((words '("TODO"))
+           (all (mapcar (lambda (it) (aref it 0)) (orgstore--outline words)))
+           (parents (lambda (positions)
+                      (let (found)
+                        (dolist (pos positions)
+                          (goto-char pos)
+                          (when (and (> (orgstore--level) 1) (orgstore--previous-heading (orgstore--level)))
+                            (cl-pushnew (point) found)))
+                        (sort found #'<)))))
+      (should (= 60 (length all)))
+      (dolist (step '(1 2 7 13))
+        (let ((some (seq-take (append (reverse (cl-loop for pos in all by (lambda (it) (nthcdr step it))
+                                                        collect pos))
+                                      all)
+                              40)))
+          (should (equal (orgstore--paths some words)
+                         (mapcar (lambda (it) (orgstore--path it words)) some)))
+          (let ((pairs (orgstore--parents some)))
+            (should (equal (sort (mapcar #'car pairs) #'<) (funcall parents some)))
+            (pcase-dolist (`(,parent . ,pos) pairs)
+              (should (memq pos some))
+              (should (equal (list parent) (funcall parents (list pos)))))))))))
+
 (ert-deftest orgstore-test-twins-are-told-by-their-lines ()
   (orgstore-test-store
       '(("a.org" . "* P\n** TODO Note :x:\n** Note\n* Q\n** Note\n"))
@@ -223,6 +255,8 @@
     (orgstore-test-store `(("a.org" . ,(format "* TODO A\nDEADLINE: %s\nx\n" before)))
       (orgstore-test-visit "a.org" "A")
       (orgstore-todo "DONE")
+      (should (equal (orgstore--tell-change (list (point) "TODO" "DONE") '("TODO" "DONE"))
+                     (format "Entry repeats: DEADLINE: %s" after)))
       (orgstore-test-files
        "a.org" (format (concat "* TODO A\nDEADLINE: %s\n:PROPERTIES:\n"
                                ":LAST_REPEAT: [2026-07-01 Wed 10:00]\n:END:\n"

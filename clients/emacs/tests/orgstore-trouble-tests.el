@@ -84,6 +84,40 @@ how many of them left the files after."
     (should (> kills 25))
     (should (> done 5))))
 
+(ert-deftest orgstore-test-a-store-killed-again-as-it-is-opened-again ()
+  "The buffers stay as they were until its files are whole."
+  (skip-unless orgstore-test-stops)
+  (let ((at 1) (torn 0) (ended nil))
+    (while (not ended)
+      (orgstore-test-store '(("a.org" . "* A\n** Entry\ntext\n* Z\n") ("b.org" . "* B\n"))
+        (let ((target (orgstore-test-marker "b.org" "B"))
+              (orgstore-program (orgstore-test-stopping at "kill" 3)))
+          (orgstore-test-visit "a.org" "Entry")
+          (condition-case err
+              (progn (orgstore-refile nil target) (setq ended t))
+            (user-error
+             (should (string-match-p "opened again.*orgstore-recover" (error-message-string err)))
+             (when (= 1 (orgstore-test-gate))
+               (setq torn (1+ torn))
+               (should (equal (orgstore-test-text) "* A\n** Entry\ntext\n* Z\n"))
+               (should (equal (orgstore-test-text "b.org") "* B\n")))
+             ;; Any command sees to it.
+             (if (= 0 (% at 2)) (orgstore-recover orgstore-test-dir)
+               (orgstore-test-goto "Z")
+               (orgstore-time))
+             (should (= 0 (orgstore-test-gate))))))
+        (orgstore-test-agrees)
+        (should (member (list (orgstore-test-disk "a.org") (orgstore-test-disk "b.org"))
+                        '(("* A\n** Entry\ntext\n* Z\n" "* B\n") ("* A\n* Z\n" "* B\n** Entry\ntext\n")))))
+      (setq at (1+ at))
+      (should (< at 200)))
+    (should (> torn 3)))
+  ;; Where nothing was to be done but to open it, the second time is enough.
+  (orgstore-test-store '(("a.org" . "* A\n"))
+    (let ((orgstore-program (orgstore-test-stopping 3 "kill")))
+      (orgstore-recover orgstore-test-dir)
+      (orgstore-test-files "a.org" "* A\n"))))
+
 (ert-deftest orgstore-test-a-file-that-a-crash-left-is-made-whole-when-visited ()
   "Emacs and the program die together; the next Emacs visits the files."
   (skip-unless orgstore-test-stops)
@@ -118,7 +152,8 @@ how many of them left the files after."
             "  for i in $(seq 300); do echo ok; sleep 0.1; done" "fi"
             (format "exec '%s' \"$@\"" orgstore-program)))
           (begin (float-time))
-          (debugger #'ignore))
+          ;; Else Emacs, and so ERT, catches no later failure: it takes it for the debugger's.
+          (debugger (lambda (&rest _) (setq num-nonmacro-input-events (1+ num-nonmacro-input-events)))))
       (should (condition-case nil
                   (progn (orgstore-todo "WAIT") nil)
                 ((quit user-error) t)))
