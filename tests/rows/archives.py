@@ -1,6 +1,7 @@
 """Archives: the properties, and the places that locations name."""
 from .shared import (
-    ALREADY_ARCHIVE, BAD_LOCATION, INSIDE_ITSELF, NOT_FOUND, NOT_UNIQUE, NOW, NO_SUCH_FILE, Refusal, goes)
+    ALREADY_ARCHIVE, BAD_LOCATION, INSIDE_ITSELF, NOT_FOUND, NOT_UNIQUE, NOW, NO_SUCH_FILE, Refusal, answers, goes,
+    shown)
 
 # Where an entry of x.org is archived; the texts of both files, the path of the entry, and both texts after it.
 ARCHIVED = [
@@ -119,6 +120,28 @@ TWO_B = "#+ARCHIVE: nowhere\n* A\n* B\n* B\n"
 
 FROM_AN_ARCHIVE = [("A", ALREADY_ARCHIVE), ("Q", NOT_FOUND), ("B", NOT_UNIQUE)]
 
+# Lines with archives between others, which change where archive lines are looked for, the text of x.org before them,
+# and the texts of x.org, x.org_archive and y.org after them.
+ARCHIVED_AT = ":PROPERTIES:\n:ARCHIVE_TIME: 2026-07-01 Wed 10:00\n:ARCHIVE_FILE: x.org\n:ARCHIVE_CATEGORY: x\n"
+
+SESSIONS = [
+    # A line comes behind all headings, then one before it; the first goes away with its entry, then the other one.
+    ("* A\n* B\n* C\n* D\n",
+     ["archive\tx.org\tA\t" + NOW, "capture\tx.org\ttop\tlast\t%s\t* N\\n#+ARCHIVE: y.org::\t" % NOW,
+      "archive\tx.org\tB\t" + NOW, "capture\tx.org\ttop\tfirst\t%s\t* M\\n#+ARCHIVE: ::* Old\t" % NOW,
+      "archive\tx.org\tC\t" + NOW, "refile\tx.org\tM\ty.org\tB\tlast", "archive\tx.org\tD\t" + NOW,
+      "archive\tx.org\tN\t" + NOW, "archive\tx.org\tOld\t" + NOW],
+     ("", "* A\n{0}:END:\n* Old\n{0}:END:\n** C\n{0}:END:\n",
+      "* B\n{0}:END:\n** M\n#+ARCHIVE: ::* Old\n* D\n{0}:END:\n* N\n{0}:END:\n#+ARCHIVE: y.org::\n")),
+    # The line ends the text without a newline; then it gets one, and what stands beside it changes.
+    ("* A\n* B\n#+ARCHIVE: y.org::",
+     ["archive\tx.org\tA\t" + NOW, "capture\tx.org\ttop\tlast\t%s\t* C\t" % NOW, "archive\tx.org\tC\t" + NOW,
+      "todo\tx.org\tB\tTODO\t" + NOW, "capture\tx.org\ttop\tlast\t%s\t* D\t" % NOW,
+      "archive\tx.org\tB\t" + NOW, "archive\tx.org\tD\t" + NOW],
+     ("", "* D\n{0}:END:\n",
+      "* A\n{0}:END:\n* C\n{0}:END:\n* TODO B\n{0}:ARCHIVE_TODO: TODO\n:END:\n#+ARCHIVE: y.org::\n")),
+]
+
 
 def archives(room):
     line = "archive\tx.org\t%%s\t%s\n" % NOW
@@ -134,4 +157,11 @@ def archives(room):
         goes(room, "archive\tx.org_archive\t%s\t%s\n" % (path, NOW), {"x.org_archive": TWO_B, "x.org": ""}, why)
 
 
-PARTS = (archives,)
+def between_others(room):
+    for text, lines, after in SESSIONS:
+        given = "".join(line + "\n" for line in lines) + "show\tx.org\nshow\tx.org_archive\nshow\ty.org\n"
+        wanted = "".join("ok %d\nsafe %d\n" % (k, k) for k in range(1, len(lines) + 1))
+        answers(room, {"x.org": text, "y.org": ""}, given, wanted + shown(*(t.format(ARCHIVED_AT) for t in after)))
+
+
+PARTS = (archives, between_others)

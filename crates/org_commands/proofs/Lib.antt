@@ -3,7 +3,7 @@ pub mod InOrder
 pub mod Committing
 pub mod Held
 pub mod Dirty
-pub mod Clockless
+pub mod Noted
 pub mod Commits
 pub mod Handing
 pub mod Faults
@@ -24,4 +24,6 @@ pub mod Captures
 pub mod Refiles
 pub mod Archives
 pub mod Todos
+pub mod Planning
+pub mod Questions
 pub mod Times

@@ -16,7 +16,7 @@ use Rattle.org_texts.proofs.Looking.{the_value}
 use Rattle.org_move.specs.Refile.{Moved}
 use Rattle.org_commands.specs.declared.command.RunFault.{RunFault}
 use Rattle.org_commands.specs.declared.tally.Tally.{Tally}
-use Rattle.org_commands.specs.Files.{AreBetweenCommands, AreReady, IsPlanFor, IsReady, OpenFiles, new_texts}
+use Rattle.org_commands.specs.Files.{AreReadyForCommand, AreReady, IsPlanFor, IsReady, OpenFiles, new_texts}
 use Rattle.org_commands.specs.InOrder.{is_name, text_at, texts_of}
 use Rattle.org_commands.specs.Keeping.{Plans, PlansOrStays, Reads}
 use Rattle.org_commands.specs.Outcome.{Outcome}
@@ -38,7 +38,7 @@ session_in g states files tally = session_over (λ disk. contents (g.files disk)
 
 module _ (old new : Session) (told : Outcome) (held : Holding) (fault : RunFault) where
   -- the planner answers it ..
-  plans_fault : (answer : Result Plan RunFault) → IsErrAnd answer (λ y. y ≡ fault) → Steps old told (Err fault) new → Plans old told answer held new
+  pub plans_fault : (answer : Result Plan RunFault) → IsErrAnd answer (λ y. y ≡ fault) → Steps old told (Err fault) new → Plans old told answer held new
   plans_fault answer handed steps = subst (λ (r : Result Plan RunFault). Plans old told r held new) (sym (handed_on answer fault handed)) steps
 
   -- .. or one that may have no plan
@@ -109,7 +109,7 @@ pub still_named : (file : List ℕ) {old new : List (List ℕ)} → new ≡ old 
 still_named file names there = ap (λ (ns : List (List ℕ)). is_name ns file) names ∙ there
 
 -- one file is made ready
-module _ (file : List ℕ) {D : Type 0} {old : OpenFiles D} (between : AreBetweenCommands old) where
+module _ (file : List ℕ) {D : Type 0} {old : OpenFiles D} (between : AreReadyForCommand old) where
   pub one_ready : {now : Holding} → ((names : List (List ℕ)) → AreReady names old.held → AreReady (file ∷ names) now) → AreReady (file ∷ []) now
   one_ready ready = ready [] (none_ready old.held between.unedited)
 
@@ -128,7 +128,7 @@ module _ (file : List ℕ) {D : Type 0} {old : OpenFiles D} (between : AreBetwee
   }
 
 -- two are, the second one last
-module _ (file to_file : List ℕ) {D : Type 0} {old : OpenFiles D} (between : AreBetweenCommands old) where
+module _ (file to_file : List ℕ) {D : Type 0} {old : OpenFiles D} (between : AreReadyForCommand old) where
   pub two_ready : {now : Holding} → ((names : List (List ℕ)) → AreReady names old.held → AreReady (to_file ∷ file ∷ names) now) → AreReady (to_file ∷ file ∷ []) now
   two_ready ready = ready [] (none_ready old.held between.unedited)
 

@@ -1,17 +1,20 @@
 -- Calls that only read: handed on, and one after another.
-use Rattle.std.proofs.Common.{◌≡◌, ◌∙◌, ◌⊎◌, inr, ⊎_elim, false, Result, Ok, Err, refl, sym}
+use Rattle.std.proofs.Common.{◌≡◌, ◌∙◌, ◌⊎◌, inr, ⊎_elim, Bool, false, Result, Ok, Err, refl, sym, ap, subst}
 use Rattle.org_disk.specs.declared.disk.Disk.{Ghosts}
 use Rattle.std.specs.Prelude.{◌↔◌, IsErrOf, IsTrue}
 use Rattle.std.proofs.lemmas.Bool.{false≢true}
-use Rattle.org_disk.specs.Accounts.{Accounts, LooksOver}
+use Rattle.org_disk.specs.Accounts.{Accounts, Looks, LooksOver}
 use Rattle.org_disk.proofs.Accounting.{accounts_fine, accounts_none, accounts_then, looks_none, looks_then}
 use Rattle.org_fileset.specs.declared.fault.SetFault.{SetFault}
 use Rattle.org_fileset.specs.declared.fault.SetFault.TheVariants as set
+use Rattle.org_texts.specs.Texts.{TextSet}
+use Rattle.org_commands.specs.declared.command.Refusal.{Refusal}
 use Rattle.org_commands.specs.declared.command.RunFault.{RunFault}
-use Rattle.org_commands.specs.declared.command.RunFault.TheVariants.{Device, Broken}
-use Rattle.org_commands.specs.Files.{OpenFiles}
+use Rattle.org_commands.specs.declared.command.RunFault.TheVariants.{Device, Broken, Refused}
+use Rattle.org_commands.specs.Files.{OpenFiles, StaysInMemory}
 use Rattle.org_commands.specs.Keeping.{fault_of_set}
 use Rattle.org_commands.specs.Reading.{OnlyReads}
+use Rattle.org_commands.proofs.Faults.{IsOwn, fine_is_no_fault, other_fault, refused_own}
 
 -- the accounts of a call, where another answer fails just where its own does
 accounts_as : {D : Type 0} {g : Ghosts D} {old new : D} {Failed Fails : Type 0} → (Fails → Failed) → (Failed → Fails)
@@ -34,6 +37,23 @@ only_reads_none {g = g} {old = old} unbroken works stays = record {
   works = works;
   breaks = (λ fell. absurd (stays fell), λ broken. absurd (false≢true (sym unbroken ∙ broken)));
   accounts = accounts_as stays (λ no. absurd no) (accounts_none g old.disk);
+}
+
+-- .. and answered a refusal
+pub only_reads_refused : {D A : Type 0} {g : Ghosts D} {old : OpenFiles D} → old.broken ≡ false → (why : Refusal) (answer : Result A RunFault) → answer ≡ Err (Refused why) → OnlyReads g old old answer
+only_reads_refused unbroken why answer given =
+    only_reads_none unbroken (other_fault answer (Refused why) Broken given (refused_own why).0) (other_fault answer (Refused why) Device given (refused_own why).1)
+
+-- a call whose edits are taken back
+pub only_reads_undone : {D A : Type 0} {g : Ghosts D} {old mid new : OpenFiles D} {answer : Result A RunFault} → StaysInMemory mid new → new.held.before ≡ mid.held.before → OnlyReads g old mid answer
+    → OnlyReads g old new answer
+only_reads_undone {D = D} {g = g} {old = old} {answer = answer} memory before call = record {
+  looks = subst (λ (disk : D). Looks g old.disk disk) (sym memory.disk) call.looks;
+  names = memory.names ∙ call.names;
+  dirty_files = ap (λ (s : TextSet). s.dirty) before ∙ call.dirty_files;
+  works = call.works;
+  breaks = subst (λ (b : Bool). IsErrOf answer Device ↔ IsTrue b) (sym memory.broken) call.breaks;
+  accounts = subst (λ (disk : D). Accounts g old.disk disk (IsErrOf answer Device)) (sym memory.disk) call.accounts;
 }
 
 -- a call of the set of files that only looks at the disk, and an answer that is the device's fault
@@ -96,6 +116,14 @@ module _ {D : Type 0} {g : Ghosts D} {A B : Type 0} where
   pub only_reads_fine : {old new : OpenFiles D} {x : A} {answer : Result B RunFault} → (IsErrOf answer Broken → ⊥) → (IsErrOf answer Device → ⊥)
       → OnlyReads g old new (Ok x) → OnlyReads g old new answer
   only_reads_fine works stays call = only_reads_as (λ broken. absurd (works broken)) (λ fell. absurd (stays fell)) (λ fell. absurd (cc)) call
+
+  -- an answer that is Ok, or a fault of its own, behind a call that didn't fail
+  pub only_reads_ok : {old new : OpenFiles D} {x : A} {y : B} → OnlyReads g old new (Ok x) → OnlyReads g old new (Ok y)
+  only_reads_ok {y = y} call = only_reads_fine (fine_is_no_fault (Ok y) y Broken refl) (fine_is_no_fault (Ok y) y Device refl) call
+
+  pub only_reads_own : {old new : OpenFiles D} {x : A} (answer : Result B RunFault) (fault : RunFault) → answer ≡ Err fault → IsOwn fault → OnlyReads g old new (Ok x)
+      → OnlyReads g old new answer
+  only_reads_own answer fault given own call = only_reads_fine (other_fault answer fault Broken given own.0) (other_fault answer fault Device given own.1) call
 
   -- a call that didn't fail, and one after it
   pub only_reads_then : {old mid new : OpenFiles D} {x : A} {answer : Result B RunFault} → OnlyReads g old mid (Ok x)

@@ -12,7 +12,8 @@ pub record SameCounts (old new : Session) : Type 0 where
   pub acknowledged : new.acknowledged ≡ old.acknowledged
   pub group : new.group ≡ old.group
 
--- a command got this answer
+-- A command got this answer. Where it is Device, the command may be counted as accepted; nothing
+-- more is acknowledged.
 abbrev pub Counts : Session → Result Reply RunFault → Session → Type 0
 Counts old (Ok (Done n)) new =
     (n ≡ old.accepted + 1)

@@ -1,6 +1,7 @@
 -- What runs commands, as callers see it, and what a command makes of it.
 use Rattle.std.specs.Prelude.{◌≡◌, [], Result, IsErrOf}
 use Rattle.org_disk.specs.declared.disk.Disk.{Ghosts}
+use Rattle.org_disk.specs.Accounts.{Accounts}
 use Rattle.org_journal.specs.Recovered.{contents}
 use Rattle.org_commands.specs.declared.command.Command.{Command}
 use Rattle.org_commands.specs.declared.command.Reply.{Reply}
@@ -29,16 +30,27 @@ abbrev pub ExecutesAs : {D : Type 0} → Ghosts D → Executor D → (Session �
 ExecutesAs g old to_do answer new =
     ExecutesTo g (view_of g old) (to_do (view_of g old).session) answer (view_of g new)
 
--- A command was executed, and got this answer.
+-- A command was executed, and got this answer. Where the disk is honest after it, texts and crashes
+-- are as `Store::run` says.
 abbrev pub Executes : {D : Type 0} → Ghosts D → Executor D → Command → Result Reply RunFault
     → Executor D → Type 0
 Executes g old command answer new = ExecutesAs g old (λ s. outcome s command) answer new
 
--- .. and these files are dirty behind it
-abbrev pub LeavesDirty : {D : Type 0} → Ghosts D → Executor D → Command → Result Reply RunFault
+-- .. and once it is accepted, at most the files that were dirty, and those that it gives new texts,
+-- are dirty behind it; none where it settled
+abbrev pub DirtiesAtMost : {D : Type 0} → Ghosts D → Executor D → Command → Result Reply RunFault
     → Executor D → Type 0
-LeavesDirty g old command answer new =
+DirtiesAtMost g old command answer new =
     DirtyAfter (view_of g old) (outcome (view_of g old).session command) answer (view_of g new)
+
+-- A question was executed, and got this answer: no count and no text changes.
+pub record AnswersQuestion {D : Type 0} (g : Ghosts D) (old : Executor D) (question : Command)
+    (answer : Result Reply RunFault) (new : Executor D) : Type 0 where
+  pub executes : Executes g old question answer new
+  pub dirty_files : DirtiesAtMost g old question answer new
+  pub tally : new.tally ≡ old.tally
+  pub unedited : IsUnedited new
+  pub accounts : Accounts g old.files.disk new.files.disk (IsErrOf answer Device)
 
 -- What counting one more command does, which made the texts what they are: they are kept, or all
 -- that is dirty is settled.

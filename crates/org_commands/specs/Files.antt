@@ -46,7 +46,7 @@ AreOpened g given files = (files.broken ≡ false)
 
 -- Files that work, between commands: no call of the disk failed, and the texts are as the last
 -- command left them.
-pub record AreBetweenCommands {D : Type 0} (files : OpenFiles D) : Type 0 where
+pub record AreReadyForCommand {D : Type 0} (files : OpenFiles D) : Type 0 where
   pub unbroken : files.broken ≡ false
   pub unedited : files.held.now ≡ files.held.before
 

@@ -18,7 +18,7 @@ use Rattle.org_commands.specs.declared.command.RunFault.{RunFault}
 use Rattle.org_commands.specs.declared.command.RunFault.TheVariants.{Refused, OutOfMemory, Device, Broken}
 use Rattle.org_commands.specs.Files.{new_texts}
 use Rattle.org_commands.specs.Session.{Session, StoreView}
-use Rattle.org_commands.specs.Outcome.{Accepts, Outcome, changed, refusal_of, refusal_of_move, refusal_of_path, refusal_of_state}
+use Rattle.org_commands.specs.Outcome.{Outcome, changed, refusal_of, refusal_of_move, refusal_of_path, refusal_of_state}
 use Rattle.org_commands.specs.Step.{Steps, done, failed_in_read, torn_in, fills}
 use Rattle.org_commands.specs.Left.{IsLeft, IsLeftAlone}
 use Rattle.org_commands.specs.Counts.{Counts, SameCounts}

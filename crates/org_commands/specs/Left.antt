@@ -8,7 +8,7 @@ use Rattle.org_commands.specs.declared.command.RunFault.{RunFault}
 use Rattle.org_commands.specs.declared.command.RunFault.TheVariants.{Device}
 use Rattle.org_commands.specs.InOrder.{is_name}
 use Rattle.org_commands.specs.Session.{Session, Holds}
-use Rattle.org_commands.specs.Outcome.{Outcome, Accepts, Shows, Tells, AsksToSettle, Refuses}
+use Rattle.org_commands.specs.Outcome.{Outcome, Accepts, AsksToSettle}
 use Rattle.org_commands.specs.Step.{fills}
 
 -- A call with this outcome puts these texts on the disk, where so many commands are accepted when

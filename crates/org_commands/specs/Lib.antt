@@ -6,10 +6,11 @@ pub mod Capture
 pub mod Refile
 pub mod Todo
 pub mod Clocks
-pub mod Clockless
+pub mod Noted
 pub mod Clocking
 pub mod Kinds
 pub mod Outcome
+pub mod Planning
 pub mod Step
 pub mod Dirty
 pub mod Left

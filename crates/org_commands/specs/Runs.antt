@@ -38,9 +38,9 @@ pub record LeavesDisk {D : Type 0} (g : Ghosts D) (old new : StoreView D) (Left 
   pub recoverable : IsAtRest (g.files old.disk) → IsRecoverable (g.files new.disk)
   pub alone : LeavesAlone g Alone old.disk new.disk
 
--- Where a call of a store does nothing, whatever its disk does: `Asks` says that it asks for a
--- settling and no more.
-pub record IsIdle {D A : Type 0} (Asks : Type 0) (old : StoreView D) (answer : Result A RunFault)
+-- A call that has nothing to do leaves the store as it is, whatever its disk does: a broken store
+-- stays so, and so does one with nothing pending that is asked to settle, and no more (`Asks`).
+pub record StaysWhereNeedless {D A : Type 0} (Asks : Type 0) (old : StoreView D) (answer : Result A RunFault)
     (new : StoreView D) : Type 0 where
   -- the store was broken before
   pub untouched : IsErrOf answer Broken → new ≡ old
@@ -51,7 +51,7 @@ pub record IsIdle {D A : Type 0} (Asks : Type 0) (old : StoreView D) (answer : R
 
 -- When a store is broken, whatever its disk does: Broken is answered exactly where it was so
 -- before, and behind the call it is so where it was or where Device is answered.
-pub record IsBrokenBy {A : Type 0} (old : Session) (answer : Result A RunFault) (new : Session)
+pub record SaysBroken {A : Type 0} (old : Session) (answer : Result A RunFault) (new : Session)
     : Type 0 where
   pub before : IsErrOf answer Broken ↔ IsTrue old.broken
   pub behind : IsTrue new.broken ↔ (IsTrue old.broken ⊎ IsErrOf answer Device)
@@ -68,7 +68,7 @@ pub record RunsOver {D : Type 0} (g : Ghosts D) (old : StoreView D) (command : C
       (outcome old.session command) answer new.session.accepted)
       (IsErrOf answer Device)
   pub dirty_files : DirtyAfter old (outcome old.session command) answer new
-  pub idle : IsIdle (command ≡ Settle) old answer new
+  pub idle : StaysWhereNeedless (command ≡ Settle) old answer new
 
 -- The same of settling.
 pub record SettlesOver {D : Type 0} (g : Ghosts D) (old : StoreView D)
@@ -79,7 +79,7 @@ pub record SettlesOver {D : Type 0} (g : Ghosts D) (old : StoreView D)
       (IsLeftAlone old.session old.dirty AsksToSettle answer new.session.accepted)
       (IsErrOf answer Device)
   pub dirty_files : DirtyAfterSettled old.dirty answer new.dirty
-  pub idle : IsIdle (Unit {0}) old answer new
+  pub idle : StaysWhereNeedless (Unit {0}) old answer new
 
 -- What `Store::run` and `Store::settle` promise: this of a disk that is honest after the call.
 abbrev pub Runs : {D : Type 0} → Ghosts D → StoreView D → Command → Result Reply RunFault

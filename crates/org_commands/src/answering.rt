@@ -1,8 +1,6 @@
 //! How a question is answered: from held texts, of which nothing is changed.
-ghost use Rattle.std.specs.Prelude.{◌≡◌, IsErrOf};
-ghost use Rattle.org_disk.specs.Accounts.{Accounts};
-ghost use Rattle.org_commands.specs.Executing.{Executes, IsUnedited, LeavesDirty};
-ghost use Rattle.org_commands.specs.Files.{AreBetweenCommands};
+ghost use Rattle.org_commands.specs.Executing.{AnswersQuestion};
+ghost use Rattle.org_commands.specs.Files.{AreReadyForCommand};
 ghost use Rattle.org_commands.specs.Kinds.{asking};
 
 use crate::command::{Reply, RunFault};
@@ -20,13 +18,8 @@ impl<D: Disk> Executor<D> {
     /// - `Device`: the disk counted a failure in this call; the files are broken.
     /// - `OutOfMemory`.
     pub fn answer(&mut self, question: &Question<'_>) -> Result<Reply, RunFault>
-        requires between { AreBetweenCommands self.old.files }
-        ensures executes { Executes D.Disk self.old (asking question.now) result self.new }
-        ensures dirty_files { LeavesDirty D.Disk self.old (asking question.now) result self.new }
-        ensures tally { self.new.tally ≡ self.old.tally }
-        ensures unedited { IsUnedited self.new }
-        ensures accounts { Accounts D.Disk self.old.files.disk self.new.files.disk
-            (IsErrOf result RunFault.Device) }
+        requires between { AreReadyForCommand self.old.files }
+        ensures { AnswersQuestion D.Disk self.old (asking question.now) result self.new }
     {
         match *question {
             Question::Time { file, path } => self.time(file, path),

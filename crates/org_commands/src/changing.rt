@@ -2,16 +2,13 @@
 //!
 //! A planner edits nothing. From the first edit to the count a command can be taken back, which
 //! takes no memory.
-ghost use Rattle.std.specs.Prelude.{◌≡◌, ◌<◌, ◌+◌, ◌^◌, ◌↔◌, ℕ, List, [], IfOk, IsErrOf, IsTrue, false};
-ghost use Rattle.std.specs.Option.{ForSome};
+ghost use Rattle.std.specs.Prelude.{◌≡◌, ◌<◌, ◌+◌, ◌^◌, ◌↔◌, ℕ, List, [], IsErrOf, IsTrue, false};
 ghost use Rattle.org_disk.specs.Accounts.{Accounts};
-ghost use Rattle.org_commands.specs.Executing.{Executes, ExecutesAs, IsUnedited, KeepsOrSettles, LeavesDirty, Tallies};
-ghost use Rattle.org_commands.specs.Files.{AreBetweenCommands, AreSmallToWrite, IsPlanFor, files_of, new_texts, texts_now};
-ghost use Rattle.org_commands.specs.Keeping.{PlansOrStays};
+ghost use Rattle.org_commands.specs.Executing.{Executes, ExecutesAs, IsUnedited, KeepsOrSettles, DirtiesAtMost, Tallies};
+ghost use Rattle.org_commands.specs.Files.{AreReadyForCommand, AreSmallToWrite, IsPlanFor, files_of, new_texts, texts_now};
 ghost use Rattle.org_commands.specs.Kinds.{changing};
 ghost use Rattle.org_commands.specs.Outcome.{changed, counted, outcome};
-ghost use Rattle.org_commands.specs.Reading.{OnlyReads};
-ghost use Rattle.org_commands.specs.Session.{BetweenSessions};
+ghost use Rattle.org_commands.specs.Planning.{PlansOrStaysAs};
 ghost use Rattle.org_commands.specs.Step.{fills_tally};
 ghost use Rattle.org_commands.specs.Dirty.{Dirties, DirtyAfterAccepted, DirtyAfterCounted};
 
@@ -36,13 +33,9 @@ fn plan<'a, D: Disk>(
     states: &States,
     change: &Change<'a>,
 ) -> Result<Option<Plan<'a>>, RunFault>
-    requires between { AreBetweenCommands files.old }
-    ensures plan { IfOk result (λ plan. ForSome plan
-        (λ plan. IsPlanFor files.new.names files.new.held plan)) }
-    ensures plans { BetweenSessions D.Disk states.now files.old files.new
-        (λ old new. PlansOrStays old (outcome old (changing change.now)) result
-        files.new.held new) }
-    ensures disk { OnlyReads D.Disk files.old files.new result }
+    requires between { AreReadyForCommand files.old }
+    ensures { PlansOrStaysAs D.Disk states.now files.old
+        (λ s. outcome s (changing change.now)) result files.new }
 {
     match *change {
         Change::Capture(command) => plan_capture(files, states, command).map(Some),
@@ -159,10 +152,10 @@ impl<D: Disk> Executor<D> {
     ///   memory, this command is undone.
     /// - `Device`: the disk counted a failure in this call; the files are broken.
     pub fn change(&mut self, asked: &Change<'_>) -> Result<Reply, RunFault>
-        requires between { AreBetweenCommands self.old.files }
+        requires between { AreReadyForCommand self.old.files }
         ensures executes { Executes D.Disk self.old (changing asked.now) result self.new }
         ensures dirty_files { D.honest self.new.files.disk
-            → LeavesDirty D.Disk self.old (changing asked.now) result self.new }
+            → DirtiesAtMost D.Disk self.old (changing asked.now) result self.new }
         ensures unedited { IsUnedited self.new }
         ensures accounts { Accounts D.Disk self.old.files.disk self.new.files.disk
             (IsErrOf result RunFault.Device) }

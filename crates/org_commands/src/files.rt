@@ -2,36 +2,34 @@
 //!
 //! Each file is read once, when a command first names it, and edited in memory from then on. What
 //! the disk has is what was read, and what was committed since: nobody else writes it.
-ghost use Rattle.std.specs.Prelude.{◌≡◌, ◌⊎◌, ◌↔◌, ◌+◌, ◌<◌, ◌≤◌, ◌∷◌, [], List, ℕ, None, Some, nat_lt, length, slice_get, true, false, IfOk, IfErr, MatchResult, OnOk, OnErr, IsErrOf, IsSome, IsTrue};
+ghost use Rattle.std.specs.Prelude.{◌≡◌, ◌⊎◌, ◌↔◌, ◌+◌, ◌<◌, ◌≤◌, ◌∷◌, [], List, ℕ, None, Some, nat_lt, length, slice_get, true, false, IfOk, IfSome, MatchResult, OnOk, OnErr, IsErrOf, IsSome, IsTrue};
 ghost use Rattle.std.specs.List.{All};
 ghost use Rattle.std.specs.Map.{lookup};
 ghost use Rattle.std.specs.Option.{ForSome, option_map};
 ghost use Rattle.std.specs.Str.{bytes_eq};
 ghost use Rattle.org_disk.specs.Accounts.{Accounts};
 ghost use Rattle.org_disk.specs.Names.{IsOrgFile};
-ghost use Rattle.org_fileset.specs.Opening.{IsDeviceRefusal, IsRefusedFor};
-ghost use Rattle.org_fileset.specs.Recovery.{Reopens};
+ghost use Rattle.org_fileset.specs.Opening.{Opens};
 ghost use Rattle.org_fileset.specs.Names.{limit};
 ghost use Rattle.org_outline.specs.States.{Keywords};
 ghost use Rattle.org_splice.specs.Edits.{applied};
 ghost use Rattle.org_splice.specs.Lines.{terminated};
-ghost use Rattle.org_state.specs.Searched.{IsSearched};
-ghost use Rattle.org_state.specs.declared.searched.Searched.TheVariants.{Clockless};
+ghost use Rattle.org_splice.specs.declared.searched.Searched.TheVariants.{Nowhere};
 ghost use Rattle.org_texts.specs.Plan.{IsPlan, planned};
 ghost use Rattle.org_texts.specs.Texts.{TextSet, bytes_or, text_of};
 ghost use Rattle.org_commands.specs.Clocks.{RunsIn};
 ghost use Rattle.org_commands.specs.Files.{AreOpened, AreReady, AreSmallToWrite, CommitsHeld, HoldsCommitted, IsPlanFor, IsReady, KeepsFiles, KeepsHeld, PutsPlan, StaysInMemory, disk_of, files_of, has_large, texts_in};
 ghost use Rattle.org_commands.specs.InOrder.{is_name};
 ghost use Rattle.org_commands.specs.Keeping.{Reads};
-ghost use Rattle.org_commands.specs.Clockless.{AreKnown, FollowsEdits, IsKnown, Lowers, StaysKnown};
+ghost use Rattle.org_commands.specs.Noted.{AreKnown, AreSearched, FollowsEdits, IsKnown, Lowers, LowersNote, StaysKnown};
 ghost use Rattle.org_commands.specs.Reading.{OnlyReads};
 ghost use Rattle.org_commands.specs.Session.{BetweenSessions};
 
 use crate::command::{Refusal, RunFault};
+use crate::searches::Searches;
 use org_disk::{Disk, FileName};
 use org_fileset::{FileSet, LIMIT, OpenRefused, SetFault};
-use org_splice::Edit;
-use org_state::Searched;
+use org_splice::{Edit, Searched};
 use org_texts::{Edits, Held, Plan, Texts};
 use std::alloc::{AllocError, Global};
 use std::marker::Model;
@@ -46,16 +44,15 @@ pub struct Files<D: Disk> {
     alloc: Global,
     set: FileSet<D>,
     texts: Texts,
-    // Where the files are known to have no clock that runs, by the numbers of their names; it may
-    // end early.
-    searched: Vec<Searched>,
+    // What is known of the files behind searches, by the numbers of their names; it may end early.
+    searched: Vec<Option<Searches>>,
 }
 
 impl<D: Disk> Model for Files<D> {
     ghost use Rattle.std.specs.Prelude.{◌≡◌, false};
     ghost use Rattle.org_journal.specs.Recovered.{contents};
     ghost use Rattle.org_commands.specs.Files.{OpenFiles, IsSound};
-    ghost use Rattle.org_commands.specs.Clockless.{IsNoted};
+    ghost use Rattle.org_commands.specs.Noted.{IsNoted};
 
     ghost Value = { OpenFiles D };
 
@@ -71,20 +68,12 @@ impl<D: Disk> Model for Files<D> {
 }
 
 impl<D: Disk> Files<D> {
-    /// The files of the given names and of their archive files, with nothing held. No name is an
-    /// archive file's or the journal's; a repeated one counts once. What a crash cut short is
-    /// finished first.
-    ///
-    /// # Errors
-    ///
-    /// Those of `FileSet::open`.
+    /// The files of the given names and of their archive files, with nothing held: see
+    /// `FileSet::open`, whose errors it has.
     pub fn open(alloc: Global, disk: D, names: Vec<FileName>) -> Result<Files<D>, OpenRefused<D>>
         requires { All IsOrgFile names.items }
         ensures opened { IfOk result (λ files. AreOpened D.Disk names.items files) }
-        ensures reopens { Reopens D.Disk disk (disk_of result) result }
-        ensures refused { IfErr result (λ refused.
-            IsRefusedFor D.Disk names.items disk refused.disk refused.fault) }
-        ensures accounts { Accounts D.Disk disk (disk_of result) (IsDeviceRefusal result) }
+        ensures opens { Opens D.Disk names.items disk (disk_of result) result }
     {
         match FileSet::open(alloc, disk, names) {
             Ok(set) => Ok(Files {
@@ -104,6 +93,20 @@ impl<D: Disk> Files<D> {
     {
         // Mostly it is one that is held, and there may be hundreds of names.
         self.texts.get(name).is_some() || self.set.names().contains(name)
+    }
+
+    /// Tests that it is the name of one of the files: see `has`. Else it is refused as
+    /// `NoSuchFile`.
+    pub(crate) fn check_name(&self, name: &FileName) -> Result<(), RunFault>
+        ensures { MatchResult result (λ _. is_name self.now.names name.now ≡ true)
+            (λ fault. (fault ≡ RunFault.Refused Refusal.NoSuchFile)
+            × (is_name self.now.names name.now ≡ false)) }
+    {
+        if self.has(name) {
+            Ok(())
+        } else {
+            Err(RunFault::Refused(Refusal::NoSuchFile))
+        }
     }
 
     /// How many files there are: those of the given names, and their archive files.
@@ -227,27 +230,24 @@ impl<D: Disk> Files<D> {
         is_clockless(&self.searched, index)
     }
 
-    /// Where the text of the file of this number is known to have no clock that runs.
-    pub(crate) fn searched(&self, index: usize) -> Searched
-        ensures { (name : List ℕ) → slice_get self.now.names index ≡ Some name
-            → ForSome (text_of self.now.held.now name)
-            (λ text. IsSearched result (terminated text.bytes)) }
+    /// What is known of the text of this file behind searches.
+    pub(crate) fn searched(&self, file: &FileName) -> Searches
+        ensures { ForSome (text_of self.now.held.now file.now)
+            (λ text. AreSearched result (terminated text.bytes)) }
     {
-        match self.searched.get(index) {
-            Some(searched) => *searched,
-            None => Searched::nothing(),
-        }
+        noted(&self.searched, self.set.names(), file)
     }
 
-    /// Notes where the text of the file of this number is known to have no clock that runs. Nothing
-    /// else changes.
-    pub(crate) fn note(&mut self, index: usize, searched: Searched)
-        requires unedited { self.old.held.now ≡ self.old.held.before }
-        requires known { (name : List ℕ) → slice_get self.old.names index ≡ Some name
-            → IsKnown searched self.old.held.before name }
+    /// Notes what is known of the text of this file, as it is and as it was before the command that
+    /// runs. Nothing else changes.
+    pub(crate) fn note(&mut self, file: &FileName, searches: Searches)
+        requires now { IsKnown searches self.old.held.now file.now }
+        requires before { IsKnown searches self.old.held.before file.now }
         ensures { self.new ≡ self.old }
     {
-        note(&mut self.searched, index, searched);
+        if let Some(index) = number_of(self.set.names(), file) {
+            note(&mut self.searched, index, searches);
+        }
     }
 
     /// Makes the edits of a plan, in memory. `TooLarge` where one of the texts would be past the
@@ -341,23 +341,57 @@ fn is_large(texts: &Texts, plan: &Plan<'_>) -> bool
     }
 }
 
-/// Whether it is known that no clock runs in the file of this number.
-fn is_clockless(notes: &[Searched], index: usize) -> bool
-    ensures { IsTrue result → slice_get notes.now index ≡ Some Clockless }
+/// The number of the file of this name, in byte order of the names.
+fn number_of(names: &[FileName], file: &FileName) -> Option<usize>
+    ensures { IfSome result (λ index. slice_get names.now index ≡ Some file.now) }
 {
-    matches!(notes.get(index), Some(Searched::Clockless))
+    for (index, name) in names.iter().enumerate() {
+        if name == file {
+            return Some(index);
+        }
+    }
+    None
 }
 
-/// Notes what is known of the file of this number, where it is noted already or is the next one.
-/// Without memory it isn't noted.
-fn note(notes: &mut Vec<Searched>, index: usize, searched: Searched)
-    ensures { (i : ℕ) (new : Searched) → slice_get notes.new.items i ≡ Some new
-        → ((i ≡ index) × (new ≡ searched)) ⊎ (slice_get notes.old.items i ≡ Some new) }
+/// What is noted of this file.
+fn noted(notes: &[Option<Searches>], names: &[FileName], file: &FileName) -> Searches
+    ensures { (set : TextSet) → AreKnown names.now notes.now set → ForSome (text_of set file.now)
+        (λ text. AreSearched result (terminated text.bytes)) }
 {
+    let Some(index) = number_of(names, file) else {
+        return Searches::nothing();
+    };
+    match notes.get(index) {
+        Some(Some(searches)) => *searches,
+        _ => Searches::nothing(),
+    }
+}
+
+/// Whether it is known that no clock runs in the file of this number.
+fn is_clockless(notes: &[Option<Searches>], index: usize) -> bool
+    ensures { IsTrue result → (searches : Searches)
+        × (slice_get notes.now index ≡ Some (Some searches)) × (searches.clocks ≡ Nowhere) }
+{
+    match notes.get(index) {
+        Some(Some(searches)) => matches!(searches.clocks, Searched::Nowhere),
+        _ => false,
+    }
+}
+
+/// Notes what is known of the file of this number. Without memory it isn't noted.
+fn note(notes: &mut Vec<Option<Searches>>, index: usize, searches: Searches)
+    ensures { (i : ℕ) (new : Searches) → slice_get notes.new.items i ≡ Some (Some new)
+        → ((i ≡ index) × (new ≡ searches)) ⊎ (slice_get notes.old.items i ≡ Some (Some new)) }
+{
+    for _number in notes.len()..index {
+        if notes.push(None).is_err() {
+            return;
+        }
+    }
     if index < notes.len() {
-        notes[index] = searched;
+        notes[index] = Some(searches);
     } else if index == notes.len() {
-        let _ = notes.push(searched);
+        let _ = notes.push(Some(searches));
     }
 }
 
@@ -372,18 +406,25 @@ fn size_of(texts: &Texts, name: &FileName) -> usize
 }
 
 /// What is known of a text of this size, or of a larger one, behind edits.
-fn lowered(searched: Searched, size: usize, edits: &Edits) -> Searched
-    ensures stays { StaysKnown searched result }
-    ensures follows { FollowsEdits size edits.now.items searched result }
+fn lowered(searches: Searches, size: usize, edits: &Edits) -> Searches
+    ensures stays { StaysKnown searches result }
+    ensures follows { FollowsEdits size edits.now.items searches result }
 {
     let (first, rest) = edits.parts();
-    let mut searched = searched.behind(size, first);
+    let mut searches = searches.behind(size, first);
     let mut size = size_behind(size, first);
     for edit in rest {
-        searched = searched.behind(size, edit);
+        searches = searches.behind(size, edit);
         size = size_behind(size, edit);
     }
-    searched
+    searches
+}
+
+/// The same of what is noted, if anything is.
+fn lowered_note(note: Option<Searches>, size: usize, edits: &Edits) -> Option<Searches>
+    ensures { LowersNote size edits.now.items note result }
+{
+    Some(lowered(note?, size, edits))
 }
 
 /// The size of a text behind an edit, or a smaller one.
@@ -398,18 +439,24 @@ fn size_behind(size: usize, edit: &Edit) -> usize
 
 /// Lowers what is noted of one file, whose text has this size, or a larger one, to what is known
 /// behind edits.
-fn lower(notes: &mut Vec<Searched>, names: &[FileName], file: &FileName, size: usize, edits: &Edits)
+fn lower(
+    notes: &mut Vec<Option<Searches>>,
+    names: &[FileName],
+    file: &FileName,
+    size: usize,
+    edits: &Edits,
+)
     ensures { Lowers names.now file.now size edits.now.items notes.old.items notes.new.items }
 {
     for (index, name) in names.iter().enumerate() {
         if index < notes.len() && file == name {
-            notes[index] = lowered(notes[index], size, edits);
+            notes[index] = lowered_note(notes[index], size, edits);
         }
     }
 }
 
 /// Lowers what is noted of the files that a plan changes.
-fn lower_plan(notes: &mut Vec<Searched>, names: &[FileName], texts: &Texts, plan: &Plan<'_>)
+fn lower_plan(notes: &mut Vec<Option<Searches>>, names: &[FileName], texts: &Texts, plan: &Plan<'_>)
     requires plan { IsPlan plan.now texts.now.now }
     requires ready { AreReady (files_of plan.now) texts.now }
     ensures stays { (set : TextSet) → AreKnown names.now notes.old.items set

@@ -18,6 +18,7 @@ mod commands;
 mod executor;
 mod files;
 mod kind;
+mod searches;
 mod tally;
 
 pub use command::{

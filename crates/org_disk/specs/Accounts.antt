@@ -8,8 +8,8 @@ use Rattle.org_disk.specs.Calls.{LooksInCall, PassesInCall}
 use Rattle.org_disk.specs.Disk.{LeavesOnly, HasRisen}
 use Rattle.org_disk.specs.declared.disk.Disk.{Ghosts}
 
--- What a call makes of a disk's honesty and of its count of failures; `Failed` is that it answers
--- the disk's fault.
+-- What a call makes of a disk's honesty and of its count of failures: the count rises, or is at its
+-- greatest, where the call answers the disk's fault (`Failed`), and stays where it doesn't.
 pub record Accounts {D : Type 0} (g : Ghosts D) (old new : D) (Failed : Type 0) : Type 0 where
   -- a wrong answer may end honesty, and nothing brings it back
   pub was_honest : g.honest new → g.honest old

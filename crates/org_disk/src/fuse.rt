@@ -57,9 +57,10 @@ impl<D: Disk> Fuse<D> {
 
 impl<D: Disk> Disk for Fuse<D> {
     ghost use Rattle.std.specs.Prelude.{◌<◌, ◌≤◌, length, take, drop, IfOk};
+    ghost use Rattle.org_disk.specs.Accounts.{Looks};
     ghost use Rattle.org_disk.specs.Disk.{AreLeftBy, Changes, cut, sync, write};
-    ghost use Rattle.org_disk.specs.Calls.{AccountsOfCall, LooksInCall, PassesInCall};
-    ghost use Rattle.org_disk.specs.Fuse.{fuse_failures, Burns};
+    ghost use Rattle.org_disk.specs.Calls.{PassesInCall};
+    ghost use Rattle.org_disk.specs.Fuse.{fuse_failures, AccountsOfFuse, Burns};
 
     ghost honest = { λ fuse. D.honest fuse.disk };
 
@@ -83,10 +84,8 @@ impl<D: Disk> Disk for Fuse<D> {
     fn length(&mut self, name: &FileName) -> Result<u64, DiskFault>
         ensures value { IfOk result (λ n. D.honest self.new.disk →
             n ≡ length (D.files self.old.disk name.now).content) }
-        ensures looks { D.honest self.new.disk →
-            LooksInCall D.files D.instant D.left_since self.old.disk self.new.disk }
-        ensures accounts { AccountsOfCall D.truthful (λ fuse. D.honest fuse.disk)
-            (λ fuse. fuse_failures fuse.failures (D.failures fuse.disk)) self.old self.new result }
+        ensures looks { Looks D.Disk self.old.disk self.new.disk }
+        ensures accounts { AccountsOfFuse D.Disk self.old self.new result }
         ensures burns { Burns self.old self.new result }
     {
         if !self.burn() {
@@ -100,10 +99,8 @@ impl<D: Disk> Disk for Fuse<D> {
             from + length into.old ≤ length (D.files self.old.disk name.now).content }
         ensures bytes { OnOk result (D.honest self.new.disk → into.new ≡
             take (length into.old) (drop from (D.files self.old.disk name.now).content)) }
-        ensures looks { D.honest self.new.disk →
-            LooksInCall D.files D.instant D.left_since self.old.disk self.new.disk }
-        ensures accounts { AccountsOfCall D.truthful (λ fuse. D.honest fuse.disk)
-            (λ fuse. fuse_failures fuse.failures (D.failures fuse.disk)) self.old self.new result }
+        ensures looks { Looks D.Disk self.old.disk self.new.disk }
+        ensures accounts { AccountsOfFuse D.Disk self.old self.new result }
         ensures burns { Burns self.old self.new result }
     {
         if !self.burn() {
@@ -122,8 +119,7 @@ impl<D: Disk> Disk for Fuse<D> {
         ensures time { D.honest self.new.disk →
             PassesInCall D.instant D.left_since self.old.disk self.new.disk
             (AreLeftBy (write from bytes.now) name.now (D.files self.old.disk)) }
-        ensures accounts { AccountsOfCall D.truthful (λ fuse. D.honest fuse.disk)
-            (λ fuse. fuse_failures fuse.failures (D.failures fuse.disk)) self.old self.new result }
+        ensures accounts { AccountsOfFuse D.Disk self.old self.new result }
         ensures burns { Burns self.old self.new result }
     {
         if !self.burn() {
@@ -139,8 +135,7 @@ impl<D: Disk> Disk for Fuse<D> {
         ensures time { D.honest self.new.disk →
             PassesInCall D.instant D.left_since self.old.disk self.new.disk
             (AreLeftBy (cut to) name.now (D.files self.old.disk)) }
-        ensures accounts { AccountsOfCall D.truthful (λ fuse. D.honest fuse.disk)
-            (λ fuse. fuse_failures fuse.failures (D.failures fuse.disk)) self.old self.new result }
+        ensures accounts { AccountsOfFuse D.Disk self.old self.new result }
         ensures burns { Burns self.old self.new result }
     {
         if !self.burn() {
@@ -155,8 +150,7 @@ impl<D: Disk> Disk for Fuse<D> {
         ensures time { D.honest self.new.disk →
             PassesInCall D.instant D.left_since self.old.disk self.new.disk
             (AreLeftBy sync name.now (D.files self.old.disk)) }
-        ensures accounts { AccountsOfCall D.truthful (λ fuse. D.honest fuse.disk)
-            (λ fuse. fuse_failures fuse.failures (D.failures fuse.disk)) self.old self.new result }
+        ensures accounts { AccountsOfFuse D.Disk self.old self.new result }
         ensures burns { Burns self.old self.new result }
     {
         if !self.burn() {

@@ -164,12 +164,7 @@ fn is_org_name(name: &[u8]) -> bool
 fn has_name_bytes(name: &[u8]) -> bool
     ensures { result ≡ list_all is_name_byte name.now }
 {
-    for byte in name {
-        if !is_name_byte(*byte) {
-            return false;
-        }
-    }
-    true
+    name.iter().all(|byte| is_name_byte(*byte))
 }
 
 fn is_name_byte(byte: u8) -> bool

@@ -73,16 +73,18 @@ fn reads(
     set.read(&name).expect(rt, "not read").as_slice() == text
 }
 
+// A file, or the journal, its text, and that of inbox.org.
+type Texts<'a> = (&'a str, &'a [u8], &'a [u8]);
+
 // The disk of a set that is opened over this one, and whether the set has its names in order and
-// reads these texts of a file, or of the journal, and of inbox.org.
+// reads these texts.
 fn read_once(
     rt: &impl Abort,
     alloc: Global,
     disk: MemoryDisk,
-    name: &str,
-    text: &[u8],
-    inbox: &[u8],
+    texts: Texts<'_>,
 ) -> (MemoryDisk, bool) {
+    let (name, text, inbox) = texts;
     let mut set = open(rt, alloc, disk, FILES);
     let is_read = are_texts(set.names(), IN_ORDER)
         && reads(rt, alloc, &mut set, name, text)
@@ -90,16 +92,9 @@ fn read_once(
     (set.into_disk(), is_read)
 }
 
-// Whether a set that is opened over the disk reads both texts.
-fn opens_with(
-    rt: &impl Abort,
-    alloc: Global,
-    disk: MemoryDisk,
-    name: &str,
-    text: &[u8],
-    inbox: &[u8],
-) -> bool {
-    let (disk, is_read) = read_once(rt, alloc, disk, name, text, inbox);
+// Whether a set that is opened over the disk reads these texts.
+fn opens_with(rt: &impl Abort, alloc: Global, disk: MemoryDisk, texts: Texts<'_>) -> bool {
+    let (disk, is_read) = read_once(rt, alloc, disk, texts);
     drop(disk);
     is_read
 }

@@ -70,7 +70,7 @@ fn is_text(patch: &Patch) -> bool {
 
 // The record has the one entry of the capture.
 fn is_capture(record: &Record) -> bool {
-    match record.entries() {
+    match record.as_slice() {
         [entry] => match entry.patches.as_slice() {
             [patch] => entry.name.as_str() == "inbox.org" && entry.length == 16 && is_text(patch),
             _ => false,

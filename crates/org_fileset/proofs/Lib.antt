@@ -17,6 +17,7 @@ pub mod Lookups
 mod Recorded
 pub mod Recovering
 mod Reopening
+pub mod Openings
 mod Committing
 mod Kept
 pub mod Crashed

@@ -1,8 +1,9 @@
 -- What opening a set of files answers.
-use Rattle.std.specs.Prelude.{◌≡◌, ◌≢◌, ◌≤◌, ℕ, List, length, Some, None, IsSomeAnd, Result, Ok, Err, Vec}
+use Rattle.std.specs.Prelude.{◌≡◌, ◌≢◌, ◌≤◌, ℕ, List, length, Some, None, IfErr, IsSomeAnd, Result, Ok, Err, Vec}
 use Rattle.org_disk.specs.declared.disk.Disk.{Ghosts}
 use Rattle.std.specs.Global.{Global}
 use Rattle.std.specs.List.{AllByRecursion}
+use Rattle.org_disk.specs.Accounts.{Accounts}
 use Rattle.org_disk.specs.Names.{journal_name}
 use Rattle.org_disk.specs.declared.name.FileName.{FileName}
 use Rattle.org_journal.specs.Record.{most_entries}
@@ -13,7 +14,7 @@ use Rattle.org_fileset.specs.declared.open.OpenFault.{OpenFault}
 use Rattle.org_fileset.specs.declared.open.OpenFault.TheVariants.{TooManyFiles, BadJournal, TooLarge, Device, OutOfMemory}
 use Rattle.org_fileset.specs.declared.open.OpenRefused.{OpenRefused}
 use Rattle.org_fileset.specs.Names.{with_archives, AreSorted, AreFew, AreTooMany, first_large}
-use Rattle.org_fileset.specs.Recovery.{closed_journal}
+use Rattle.org_fileset.specs.Recovery.{Reopens, closed_journal}
 
 -- the disk that is in what was opened, or handed back
 abbrev pub disk_in : {S D : Type 0} → Result S (OpenRefused D) → (S → D) → D
@@ -96,3 +97,12 @@ pub record IsRefusedFor {D : Type 0} (g : Ghosts D) (given : List (List ℕ)) (b
   pub reason : IsReason given (g.honest now) (contents (g.files before)) (contents (g.files now))
       fault
   pub unused : fault ≡ TooManyFiles → now ≡ before
+
+-- What an opening with the given names does to the disk `before`, whatever is opened: it finishes
+-- what a crash cut short, or is refused, and answers each failure of the disk. `now` is the disk in
+-- what was opened, or the one that was handed back.
+pub record Opens {S D : Type 0} (g : Ghosts D) (given : List (List ℕ)) (before now : D)
+    (result : Result S (OpenRefused D)) : Type 0 where
+  pub reopens : Reopens g before now result
+  pub refused : IfErr result (λ refused. IsRefusedFor g given before refused.disk refused.fault)
+  pub accounts : Accounts g before now (IsDeviceRefusal result)

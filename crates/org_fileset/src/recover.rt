@@ -59,7 +59,7 @@ fn finish<D: Disk>(disk: &mut D, journal: &FileName, found: &Found) -> Result<()
     ensures accounts { Accounts D.Disk disk.old disk.new (IsErr result) }
 {
     match found {
-        Found::Armed(record) => replay(disk, journal, record.entries()),
+        Found::Armed(record) => replay(disk, journal, record.as_slice()),
         Found::Closed => give_gate(disk, journal),
     }
 }

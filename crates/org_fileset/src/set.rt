@@ -1,13 +1,12 @@
 //! The files of a store as one: read one by one, changed all or none.
 //!
-//! All files are at rest between two calls, but after a failure of the disk: from then on the set
-//! is broken, and makes no call. It holds no text; what files held is the caller's to keep.
-ghost use Rattle.std.specs.Prelude.{◌≡◌, ◌≢◌, [], true, false, IsFalse, IfOk, IfErr, IsErrOf, IsOk};
+//! Between two calls the journal's gate is closed, but after a failure of the disk: from then on the
+//! set is broken, and makes no call. It holds no text; what files held is the caller's to keep.
+ghost use Rattle.std.specs.Prelude.{◌≡◌, ◌≢◌, [], true, false, IsFalse, IfOk, IsErrOf, IsOk};
 ghost use Rattle.std.specs.List.{All};
 ghost use Rattle.org_disk.specs.Accounts.{Accounts, Looks};
 ghost use Rattle.org_disk.specs.Names.{IsOrgFile};
-ghost use Rattle.org_fileset.specs.Opening.{IsDeviceRefusal, IsRefusedFor};
-ghost use Rattle.org_fileset.specs.Recovery.{Reopens};
+ghost use Rattle.org_fileset.specs.Opening.{Opens};
 ghost use Rattle.org_fileset.specs.Set.{CanCommit, CommitsSet, GivesBytes, IsOpenedSet, KeepsSet, disk_of};
 
 use crate::commit::commit_entries;
@@ -46,7 +45,8 @@ impl<D: Disk> Model for FileSet<D> {
 impl<D: Disk> FileSet<D> {
     /// A set of the files of the given names and of their archive files. No name is an archive
     /// file's or the journal's; a repeated one counts once. What a crash cut short is finished
-    /// first.
+    /// first; after Ok a whole journal whose gate was closed is as it was. No file is written but
+    /// the journal and those that the record of an open one names.
     ///
     /// On a disk that is recoverable, of which each image recovers to files, every image at every
     /// moment since the call began recovers to what an image at the start recovered to, whatever is
@@ -65,10 +65,7 @@ impl<D: Disk> FileSet<D> {
     pub fn open(alloc: Global, disk: D, names: Vec<FileName>) -> Result<FileSet<D>, OpenRefused<D>>
         requires { All IsOrgFile names.items }
         ensures opened { IfOk result (λ set. IsOpenedSet D.Disk names.items set) }
-        ensures reopens { Reopens D.Disk disk (disk_of result) result }
-        ensures refused { IfErr result (λ refused.
-            IsRefusedFor D.Disk names.items disk refused.disk refused.fault) }
-        ensures accounts { Accounts D.Disk disk (disk_of result) (IsDeviceRefusal result) }
+        ensures opens { Opens D.Disk names.items disk (disk_of result) result }
     {
         let mut disk = disk;
         let (journal, names) = match journal_and_names(alloc, names) {
@@ -105,13 +102,7 @@ impl<D: Disk> FileSet<D> {
     pub fn into_disk(self) -> D
         ensures { result ≡ self.disk }
     {
-        let FileSet {
-            disk,
-            journal: _,
-            names: _,
-            broken: _,
-        } = self;
-        disk
+        self.disk
     }
 
     /// The bytes of a file, one of the set's or not.
@@ -143,7 +134,8 @@ impl<D: Disk> FileSet<D> {
     }
 
     /// Gives all of the changed files their texts at once. The texts are edits of what the files
-    /// hold, and within `LIMIT`; the names are the set's.
+    /// hold, and within `LIMIT`; the names are the set's. What is asked and said of what files hold
+    /// is so of an honest disk alone.
     ///
     /// Where all is on the disk when the call begins, then at every moment since what a crash
     /// leaves recovers to all files as they were, or to all files with the changed texts; after Ok
@@ -155,8 +147,8 @@ impl<D: Disk> FileSet<D> {
     ///
     /// - `Broken`: a call of the disk has failed before. No call is made.
     /// - `OutOfMemory`: before the first call of the disk. Nothing was changed.
-    /// - `Device`: a call of the disk failed. The set is broken from then on, and the disk can be
-    ///   opened anew.
+    /// - `Device`: a call of the disk failed. The set is broken from then on, and the disk, where it
+    ///   was at rest before, can be opened anew.
     pub fn commit<C: Changes<FileName>>(&mut self, changes: &C) -> Result<(), SetFault>
         requires { CanCommit D.Disk self.old (C.pairs changes.now) }
         ensures commits { CommitsSet D.Disk self.old (C.pairs changes.now) result self.new }
@@ -182,7 +174,7 @@ impl<D: Disk> FileSet<D> {
         let alloc = *self.names.allocator();
         let record = Record::new(entries_of(alloc, changes)?);
         let body = record.encode(alloc)?;
-        match commit_entries(&mut self.disk, &self.journal, record.entries(), &body) {
+        match commit_entries(&mut self.disk, &self.journal, record.as_slice(), &body) {
             Ok(()) => Ok(()),
             Err(_) => {
                 self.broken = true;

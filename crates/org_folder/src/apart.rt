@@ -11,7 +11,7 @@ ghost use Rattle.org_folder.specs.declared.apart.AliasFault.TheVariants.{Device,
 
 use crate::lock::LockedFolder;
 use org_disk::FileName;
-use std::alloc::{AllocError, AllocFailed};
+use std::alloc::AllocError;
 use std::fs::{self, Files, Metadata};
 use std::io::{self, ErrorKind};
 use std::os::unix::fs::MetadataExt;
@@ -32,29 +32,10 @@ pub enum AliasFault {
     OutOfMemory,
 }
 
-impl From<io::Error> for AliasFault {
-    ghost from_gives = { λ error fault. IsReportedAs (error_kind error) OutOfMemory Device fault };
-
-    fn from(error: io::Error) -> AliasFault {
-        match error.kind() {
-            ErrorKind::OutOfMemory => AliasFault::OutOfMemory,
-            _ => AliasFault::Device,
-        }
-    }
-}
-
 impl From<AllocError> for AliasFault {
     ghost from_gives = { λ _ fault. fault ≡ OutOfMemory };
 
     fn from(_: AllocError) -> AliasFault {
-        AliasFault::OutOfMemory
-    }
-}
-
-impl<T: Drop> From<AllocFailed<T>> for AliasFault {
-    ghost from_gives = { λ _ fault. fault ≡ OutOfMemory };
-
-    fn from(_: AllocFailed<T>) -> AliasFault {
         AliasFault::OutOfMemory
     }
 }
@@ -96,7 +77,9 @@ fn nodes_of<R: Files + AllocGlobal>(
 {
     let mut nodes = Vec::new(rt.alloc());
     for name in names {
-        nodes.push(node_of(rt, path, name)?)?;
+        if nodes.push(node_of(rt, path, name)?).is_err() {
+            return Err(AliasFault::OutOfMemory);
+        }
     }
     Ok(nodes)
 }
@@ -114,15 +97,20 @@ fn node_of<R: Files + AllocGlobal>(
 
 // The file that the system answered, none where there is no such file.
 fn node_in(answer: io::Result<Metadata>) -> Result<Option<Node>, AliasFault>
-    ensures { IfErr result (MayReport []) }
+    ensures fault { IfErr result (MayReport []) }
+    ensures reported { IfErr answer (λ error. IfErr result
+        (IsReportedAs (error_kind error) OutOfMemory Device)) }
 {
     match answer {
         Ok(metadata) => Ok(Some(Node {
             device: metadata.dev(),
             number: metadata.ino(),
         })),
-        Err(error) if error.kind() == ErrorKind::NotFound => Ok(None),
-        Err(error) => Err(error.into()),
+        Err(error) => match error.kind() {
+            ErrorKind::NotFound => Ok(None),
+            ErrorKind::OutOfMemory => Err(AliasFault::OutOfMemory),
+            _ => Err(AliasFault::Device),
+        },
     }
 }
 

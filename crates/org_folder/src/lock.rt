@@ -4,7 +4,6 @@
 //! has none. It keeps off this program alone.
 ghost use Rattle.std.specs.Prelude.{◌≡◌, IfOk};
 ghost use Rattle.org_folder.specs.Locks.{held};
-ghost use Rattle.org_folder.specs.declared.lock.LockFault.TheVariants.{OutOfMemory};
 
 use std::alloc::AllocError;
 use std::fs::{File, Files, TryLockError};
@@ -20,14 +19,6 @@ pub enum LockFault {
     /// There was no memory for its path.
     #[error("out of memory")]
     OutOfMemory,
-}
-
-impl From<AllocError> for LockFault {
-    ghost from_gives = { λ _ fault. fault ≡ OutOfMemory };
-
-    fn from(_: AllocError) -> LockFault {
-        LockFault::OutOfMemory
-    }
 }
 
 /// A folder that may be looked at: no other store is open on it, as far as the system locks it.
@@ -64,7 +55,9 @@ pub fn lock_folder<'a, R: Files<File = File> + AllocGlobal>(
     ensures { IfOk result (λ folder. folder.path.now ≡ path.now) }
 {
     // A path that ends in a slash opens a folder or nothing: a pipe would wait for its writer.
-    let inside = Path::new(path).join(rt.alloc(), "")?;
+    let Ok(inside) = Path::new(path).join(rt.alloc(), "") else {
+        return Err(LockFault::OutOfMemory);
+    };
     let lock = match opened(rt, inside.as_path()) {
         Some(folder) => {
             let tried = folder.try_lock();

@@ -58,6 +58,21 @@ fn name_of(alloc: Global, text: &str) -> Result<FileName, RecordFault>
     }
 }
 
+// The entry of a file of this name.
+fn named(alloc: Global, name: &str, length: u64, patches: Vec<Patch>) -> Result<Entry, RecordFault>
+    ensures entry { IfOk result (λ entry. entry
+        ≡ record { name = name.now; length = length; patches = patches.items }) }
+    ensures malformed { IsErrOf result RecordFault.Malformed → IsFalse (is_file_name name.now) }
+{
+    let name = name_of(alloc, name)?;
+    let patches = Patches::new(patches);
+    Ok(Entry {
+        name,
+        length,
+        patches,
+    })
+}
+
 // An entry of version 1, and the bytes behind it.
 #[tactic(auto, unfolding(crate::specs::Reading::entry_at))]
 fn old_entry_of(alloc: Global, bytes: &[u8]) -> Result<(Entry, &[u8]), RecordFault>
@@ -72,16 +87,8 @@ fn old_entry_of(alloc: Global, bytes: &[u8]) -> Result<(Entry, &[u8]), RecordFau
         from: entry.patch.from,
         bytes,
     })?;
-    let patches = Patches::new(patches);
-    let name = name_of(alloc, entry.name)?;
-    Ok((
-        Entry {
-            name,
-            length: entry.length,
-            patches,
-        },
-        rest,
-    ))
+    let entry = named(alloc, entry.name, entry.length, patches)?;
+    Ok((entry, rest))
 }
 
 // An entry of version 2, and the bytes behind it.
@@ -93,16 +100,8 @@ fn new_entry_of(alloc: Global, bytes: &[u8]) -> Result<(Entry, &[u8]), RecordFau
         return Err(RecordFault::Malformed);
     };
     let (patches, rest) = patches_of(alloc, head.length, head.count, rest)?;
-    let patches = Patches::new(patches);
-    let name = name_of(alloc, head.name)?;
-    Ok((
-        Entry {
-            name,
-            length: head.length,
-            patches,
-        },
-        rest,
-    ))
+    let entry = named(alloc, head.name, head.length, patches)?;
+    Ok((entry, rest))
 }
 
 // An entry, and the bytes behind it.

@@ -104,7 +104,7 @@ impl Record {
         ensures read { IfOk result (λ bytes. (rest : List ℕ)
             → journal_at (bytes.items ++ rest) ≡ Some self.now) }
     {
-        let entries = self.entries();
+        let entries = self.as_slice();
         let mut out = Vec::new(alloc);
         out.extend_from_slice(b"ORGJ\x02\x00\x00")?;
         put_u64(&mut out, 0)?;

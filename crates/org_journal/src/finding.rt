@@ -175,7 +175,7 @@ pub fn find<D: Disk>(alloc: Global, disk: &mut D, journal: &FileName) -> Result<
         return Ok(Found::Closed);
     };
     let record = record_of(alloc, disk, journal, size)?;
-    if !all_fit(disk, record.entries())? {
+    if !all_fit(disk, record.as_slice())? {
         return Err(FindFault::BadJournal);
     }
     Ok(Found::Armed(record))

@@ -2,12 +2,11 @@
 //!
 //! The gate is the journal's first byte. While other bytes are written it is closed on the disk; it
 //! is opened and closed by a write of its own, synced before anything else is done.
-ghost use Rattle.std.specs.Prelude.{◌≤◌, ◌<◌, length, drop, ◌∷◌, OnOk, IsErr, IsTrue, is_some};
+ghost use Rattle.std.specs.Prelude.{◌≤◌, ◌<◌, length, drop, ◌∷◌, OnOk, IsTrue, is_some};
 ghost use Rattle.org_splice.specs.Overwritten.{overwritten};
 ghost use Rattle.org_disk.specs.Disk.{IsStable};
-ghost use Rattle.org_disk.specs.Accounts.{Accounts, PassesOver};
 ghost use Rattle.org_journal.specs.Reading.{journal_at};
-ghost use Rattle.org_journal.specs.Gate.{front_size, is_open, HasClosedGate, LeavesClosed, LeavesBody, Puts};
+ghost use Rattle.org_journal.specs.Gate.{front_size, is_open, HasClosedGate, LeavesClosed, LeavesBody, PutsOnDisk};
 
 use org_disk::{Disk, DiskFault, FileName};
 
@@ -26,12 +25,9 @@ pub fn prepare<D: Disk>(disk: &mut D, journal: &FileName) -> Result<(), DiskFaul
     requires stable { D.honest disk.old → IsStable (D.files disk.old journal.now) }
     requires short { D.honest disk.old → length (D.files disk.old journal.now).content <
         front_size }
-    ensures any_moment { D.honest disk.new → PassesOver D.Disk disk.old disk.new
-        (LeavesClosed journal.now (D.files disk.old)) }
-    ensures puts { D.honest disk.new → Puts journal.now
+    ensures { PutsOnDisk D.Disk journal.now
         (0 ∷ drop 1 (D.files disk.old journal.now).content)
-        (D.files disk.old) (D.files disk.new) result }
-    ensures accounts { Accounts D.Disk disk.old disk.new (IsErr result) }
+        (LeavesClosed journal.now (D.files disk.old)) disk.old disk.new result }
 {
     set_gate(disk, journal, CLOSED)
 }
@@ -44,12 +40,9 @@ pub fn prepare<D: Disk>(disk: &mut D, journal: &FileName) -> Result<(), DiskFaul
 /// `DiskFault`: a call of the disk failed.
 pub fn arm<D: Disk>(disk: &mut D, journal: &FileName, body: &[u8]) -> Result<(), DiskFault>
     requires { D.honest disk.old → HasClosedGate (D.files disk.old journal.now) }
-    ensures any_moment { D.honest disk.new → PassesOver D.Disk disk.old disk.new
-        (LeavesClosed journal.now (D.files disk.old)) }
-    ensures puts { D.honest disk.new → Puts journal.now
+    ensures { PutsOnDisk D.Disk journal.now
         (overwritten 1 body.now (D.files disk.old journal.now).content)
-        (D.files disk.old) (D.files disk.new) result }
-    ensures accounts { Accounts D.Disk disk.old disk.new (IsErr result) }
+        (LeavesClosed journal.now (D.files disk.old)) disk.old disk.new result }
 {
     disk.write_at(journal, 1, body)?;
     disk.sync(journal)
@@ -63,15 +56,12 @@ pub fn arm<D: Disk>(disk: &mut D, journal: &FileName, body: &[u8]) -> Result<(),
 /// `DiskFault`: a call of the disk failed.
 pub fn open_gate<D: Disk>(disk: &mut D, journal: &FileName) -> Result<(), DiskFault>
     requires { D.honest disk.old → IsStable (D.files disk.old journal.now) }
-    ensures any_moment { D.honest disk.new → PassesOver D.Disk disk.old disk.new
-        (LeavesBody journal.now (D.files disk.old)) }
-    ensures puts { D.honest disk.new → Puts journal.now
+    ensures put { PutsOnDisk D.Disk journal.now
         (1 ∷ drop 1 (D.files disk.old journal.now).content)
-        (D.files disk.old) (D.files disk.new) result }
+        (LeavesBody journal.now (D.files disk.old)) disk.old disk.new result }
     ensures opened { D.honest disk.new → OnOk result
         (IsTrue (is_some (journal_at (drop 1 (D.files disk.old journal.now).content)))
         → IsTrue (is_open (D.files disk.new journal.now).content)) }
-    ensures accounts { Accounts D.Disk disk.old disk.new (IsErr result) }
 {
     set_gate(disk, journal, OPEN)
 }
@@ -85,12 +75,9 @@ pub fn open_gate<D: Disk>(disk: &mut D, journal: &FileName) -> Result<(), DiskFa
 pub fn close_gate<D: Disk>(disk: &mut D, journal: &FileName) -> Result<(), DiskFault>
     requires stable { D.honest disk.old → IsStable (D.files disk.old journal.now) }
     requires nonempty { D.honest disk.old → 1 ≤ length (D.files disk.old journal.now).content }
-    ensures any_moment { D.honest disk.new → PassesOver D.Disk disk.old disk.new
-        (LeavesBody journal.now (D.files disk.old)) }
-    ensures puts { D.honest disk.new → Puts journal.now
+    ensures { PutsOnDisk D.Disk journal.now
         (0 ∷ drop 1 (D.files disk.old journal.now).content)
-        (D.files disk.old) (D.files disk.new) result }
-    ensures accounts { Accounts D.Disk disk.old disk.new (IsErr result) }
+        (LeavesBody journal.now (D.files disk.old)) disk.old disk.new result }
 {
     set_gate(disk, journal, CLOSED)
 }
@@ -98,12 +85,9 @@ pub fn close_gate<D: Disk>(disk: &mut D, journal: &FileName) -> Result<(), DiskF
 // Writes the gate alone, and syncs it.
 fn set_gate<D: Disk>(disk: &mut D, journal: &FileName, gate: u8) -> Result<(), DiskFault>
     requires { D.honest disk.old → IsStable (D.files disk.old journal.now) }
-    ensures any_moment { D.honest disk.new → PassesOver D.Disk disk.old disk.new
-        (LeavesBody journal.now (D.files disk.old)) }
-    ensures puts { D.honest disk.new → Puts journal.now
+    ensures { PutsOnDisk D.Disk journal.now
         (gate ∷ drop 1 (D.files disk.old journal.now).content)
-        (D.files disk.old) (D.files disk.new) result }
-    ensures accounts { Accounts D.Disk disk.old disk.new (IsErr result) }
+        (LeavesBody journal.now (D.files disk.old)) disk.old disk.new result }
 {
     disk.write_at(journal, 0, &[gate])?;
     disk.sync(journal)

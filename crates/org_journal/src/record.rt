@@ -7,36 +7,38 @@ use org_disk::FileName;
 use org_splice::Patch;
 use std::marker::Model;
 
-/// The patches of one file, which a clause sees as a list.
+/// A vector, which a clause sees as the list of its items.
 #[derive(Drop)]
-pub struct Patches {
-    patches: Vec<Patch>,
+pub struct Items<T> {
+    items: Vec<T>,
 }
 
-impl Model for Patches {
+impl<T> Model for Items<T> {
     ghost use Rattle.std.specs.Prelude.{List};
-    ghost use Rattle.org_splice.specs.declared.patch.Patch.{Patch};
 
-    ghost Value = { List Patch };
+    ghost Value = { List T };
 
-    ghost view = { λ held. held.patches.items };
+    ghost view = { λ held. held.items.items };
 }
 
-impl Patches {
-    /// The patches of a vector. Takes no memory.
-    pub fn new(patches: Vec<Patch>) -> Patches
-        ensures { result ≡ patches.items }
+impl<T> Items<T> {
+    /// The items of a vector. Takes no memory.
+    pub fn new(items: Vec<T>) -> Items<T>
+        ensures { result ≡ items.items }
     {
-        Patches { patches }
+        Items { items }
     }
 
-    /// The patches as a slice.
-    pub fn as_slice(&self) -> &[Patch]
+    /// The items as a slice.
+    pub fn as_slice(&self) -> &[T]
         ensures { result.now ≡ self.now }
     {
-        self.patches.as_slice()
+        self.items.as_slice()
     }
 }
+
+/// The patches of one file.
+pub type Patches = Items<Patch>;
 
 /// What becomes of one file: its patches are applied to it in order, and it has `length` bytes
 /// then.
@@ -50,36 +52,8 @@ pub struct Entry {
     pub patches: Patches,
 }
 
-/// The entries of all files of a commit. A clause sees it as their list.
-#[derive(Drop)]
-pub struct Record {
-    entries: Vec<Entry>,
-}
-
-impl Model for Record {
-    ghost use Rattle.std.specs.Prelude.{List};
-    ghost use Rattle.org_journal.specs.declared.record.Entry.{Entry};
-
-    ghost Value = { List Entry };
-
-    ghost view = { λ held. held.entries.items };
-}
-
-impl Record {
-    /// The record of these entries. Takes no memory.
-    pub fn new(entries: Vec<Entry>) -> Record
-        ensures { result ≡ entries.items }
-    {
-        Record { entries }
-    }
-
-    /// The entries as a slice.
-    pub fn entries(&self) -> &[Entry]
-        ensures { result.now ≡ self.now }
-    {
-        self.entries.as_slice()
-    }
-}
+/// The entries of all files of a commit.
+pub type Record = Items<Entry>;
 
 /// The version of a journal's format.
 #[derive(Clone, Copy)]

@@ -20,7 +20,7 @@ use Rattle.org_stamp.specs.Stamp.{Part, StampValue, IsStampText, HasParts, is_co
 use Rattle.org_stamp.specs.Repeat.{is_hour, in_range, moved, restarted, repeated, repeated_as, repeated_by}
 use Rattle.org_meta.specs.declared.entry.Word.{Word}
 use Rattle.org_meta.specs.declared.entry.Word.TheVariants.{Closed, Deadline, Scheduled}
-use Rattle.org_meta.specs.declared.fault.PlanningFault.{PlanningFault}
+use Rattle.org_meta.specs.declared.fault.MetaFault.{MetaFault}
 use Rattle.org_meta.specs.Moments.{moment_text}
 use Rattle.org_meta.specs.Notes.{quoted, note_line}
 use Rattle.org_meta.specs.Planning.{PlanningEntry, PlanningLine, AreRepeated, replanned, replanned_line, clear_closed, set_closed, has_repeater, word_text, entry_at, entries_at, planning_of, is_closed, is_repeating, has_others, entry_text, entry_with, kept_text, without_closed, closed_text, with_closed, fault_of, behind_first, repeated_entry, repeated_entries}
@@ -292,7 +292,7 @@ repeated_entry_line now e text is p = by_tests (is_closed e) (is_repeating e) is
     by_tests false true is = repeated_stamp_line now e text (repeated e.stamp now) refl is p
     by_tests false false is = let same : entry_text e ≡ text = cc in subst Flat same (entry_line e p)
 
-both_texts : (first more : Result (List ℕ) PlanningFault) (text : List ℕ) → behind_first first more ≡ Ok text → ((t : List ℕ) → first ≡ Ok t → Flat t) → ((t : List ℕ) → more ≡ Ok t → Flat t) → Flat text
+both_texts : (first more : Result (List ℕ) MetaFault) (text : List ℕ) → behind_first first more ≡ Ok text → ((t : List ℕ) → first ≡ Ok t → Flat t) → ((t : List ℕ) → more ≡ Ok t → Flat t) → Flat text
 both_texts (Ok a) (Ok b) text is front back = let whole : a ++ b ≡ text = cc in subst Flat whole (both_lines a b (front a refl) (back b refl))
 both_texts (Ok a) (Err fault) text is front back = absurd cc
 both_texts (Err fault) more text is front back = absurd cc

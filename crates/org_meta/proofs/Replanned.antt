@@ -10,7 +10,7 @@ use Rattle.org_stamp.specs.Stamp.{StampValue, stamp_text}
 use Rattle.org_stamp.specs.declared.fault.RepeatFault.{RepeatFault}
 use Rattle.org_meta.specs.declared.entry.Word.{Word}
 use Rattle.org_meta.specs.declared.entry.Word.TheVariants.{Closed, Deadline, Scheduled}
-use Rattle.org_meta.specs.declared.fault.PlanningFault.{PlanningFault}
+use Rattle.org_meta.specs.declared.fault.MetaFault.{MetaFault}
 use Rattle.org_meta.specs.Sections.{is_planning}
 use Rattle.org_meta.specs.Planning.{word_text, PlanningEntry, PlanningLine, planning_of, is_closed, has_others, is_repeating, has_repeater, entry_text, entry_with, behind_text, fault_of, IsRepeatedEntry, AreRepeated}
 use Rattle.org_meta.specs.Replans.{repeated_line}
@@ -48,18 +48,18 @@ indented_word indentation w more blank =
 -- ---- repetition
 
 abbrev Texts : Type 0
-Texts = Result (List ℕ) PlanningFault
+Texts = Result (List ℕ) MetaFault
 
 abbrev made : List ℕ → Texts
 made text = Ok text
 
-abbrev failed : PlanningFault → Texts
+abbrev failed : MetaFault → Texts
 failed fault = Err fault
 
 ok_is : (x y : List ℕ) → made x ≡ made y → x ≡ y
 ok_is x y e = cc
 
-ok_err : (x : List ℕ) (y : PlanningFault) → made x ≡ failed y → ⊥
+ok_err : (x : List ℕ) (y : MetaFault) → made x ≡ failed y → ⊥
 ok_err x y e = cc
 
 if_true : (b : Bool) (P Q : Type 0) → MatchBool b P Q → b ≡ true → P

@@ -8,8 +8,8 @@ use Rattle.org_splice.specs.Lines.{terminated, print_lines, IsLine, lines_of}
 use Rattle.org_splice.specs.declared.edit.Edit.{Edit}
 use Rattle.org_stamp.specs.Calendar.{Moment}
 use Rattle.org_meta.specs.declared.parts.Sections.{Sections}
-use Rattle.org_meta.specs.declared.fault.PlanningFault.{PlanningFault}
-use Rattle.org_meta.specs.declared.fault.PlanningFault.TheVariants.{OddPlanning, OutOfMemory}
+use Rattle.org_meta.specs.declared.fault.MetaFault.{MetaFault}
+use Rattle.org_meta.specs.declared.fault.MetaFault.TheVariants.{OddPlanning, OutOfMemory}
 use Rattle.org_meta.specs.Lines.{BeginsWith}
 use Rattle.org_meta.specs.Edits.{Gives, ChangesNothing}
 use Rattle.org_meta.specs.Sections.{SectionParts, AreSections, split, joined, is_planning, planning_size}
@@ -37,8 +37,8 @@ planning_gives e section slices new whole are at removed bytes =
     ∙ ap (λ (t : List ℕ). print_lines new ++ (slices.drawer.now ++ t)) (sym are.rest) in
     gives_at e section [] slices.planning.now c (print_lines new) (new ++ (p.drawer ++ p.rest)) (section_bytes section slices whole are) at removed bytes print
 
-with_gives : (section : List ℕ) (e : Edit) (r : Result SectionParts PlanningFault) (parts : SectionParts) → r ≡ Ok parts → Gives e section (joined parts) → GivesOk r section e
-with_gives section e r parts is gives = let P : Result SectionParts PlanningFault → Type 0 = λ r. GivesOk r section e in subst P (sym is) gives
+with_gives : (section : List ℕ) (e : Edit) (r : Result SectionParts MetaFault) (parts : SectionParts) → r ≡ Ok parts → Gives e section (joined parts) → GivesOk r section e
+with_gives section e r parts is gives = let P : Result SectionParts MetaFault → Type 0 = λ r. GivesOk r section e in subst P (sym is) gives
 
 pub planning_terminated : (section : List ℕ) (slices : Sections) → AreSections slices (split (lines_of section)) → terminated slices.planning.now ≡ slices.planning.now
 planning_terminated section slices are = ap terminated are.planning ∙ terminated-print_lines (split (lines_of section)).planning ∙ sym are.planning
@@ -63,7 +63,7 @@ module _ (section : List ℕ) (slices : Sections) (whole : terminated section �
       let first : p.planning ≡ line ∷ lines_of rest = sym (planning_is section slices are) ∙ b.lines in
       ap (replanned none some p) first ∙ ap (replanned_line some p) is
 
-  pub plan_fault : (line rest : List ℕ) (fault : PlanningFault) → BeginsWith slices.planning.now line rest → (fault ≡ OutOfMemory) ⊎ ((fault ≡ OddPlanning) × (planning_of line ≡ None))
+  pub plan_fault : (line rest : List ℕ) (fault : MetaFault) → BeginsWith slices.planning.now line rest → (fault ≡ OutOfMemory) ⊎ ((fault ≡ OddPlanning) × (planning_of line ≡ None))
       → FaultIn (replanned none some (split (lines_of section)) (split (lines_of section)).planning) fault
   plan_fault line rest fault b (inl is) = inl is
   plan_fault line rest fault b (inr is) = inr (plan_odd line rest b is.1 ∙ ap (λ f. Err f) (sym is.0))
@@ -148,7 +148,7 @@ without_closed_bytes o0 o1 p e0 e1 others =
 repeated_shape : (i r t : List ℕ) → (i ++ r) ++ (t ++ 10 ∷ []) ≡ (i ++ (r ++ t)) ++ 10 ∷ []
 repeated_shape i r t = simp append_assoc
 
-pub same_fault : (now : Moment) (es fs : List PlanningEntry) (fault : PlanningFault) → es ≡ fs → (fault ≡ OutOfMemory) ⊎ AreRepeated es now (Err fault) → (fault ≡ OutOfMemory) ⊎ AreRepeated fs now (Err fault)
+pub same_fault : (now : Moment) (es fs : List PlanningEntry) (fault : MetaFault) → es ≡ fs → (fault ≡ OutOfMemory) ⊎ AreRepeated es now (Err fault) → (fault ≡ OutOfMemory) ⊎ AreRepeated fs now (Err fault)
 same_fault now es fs fault same wrong = let P : List PlanningEntry → Type 0 = λ es. (fault ≡ OutOfMemory) ⊎ AreRepeated es now (Err fault) in subst P same wrong
 
 pub repeated_bytes : (now : Moment) (p : PlanningLine) (es : List PlanningEntry) (o0 o1 o2 : List ℕ) → es ≡ p.entries → o0 ≡ p.indentation → PutsAllRepeated es now o0 o1 → o2 ≡ o1 ++ (p.tail ++ 10 ∷ [])
@@ -161,7 +161,7 @@ module _ (section : List ℕ) (slices : Sections) (whole : terminated section �
   pub repeat_none : slices.planning.now ≡ [] → HasNoRepeater (split (lines_of section)).planning
   repeat_none empty = subst HasNoRepeater (sym (sym (planning_is section slices are) ∙ ap lines_of empty)) tt
 
-  pub repeat_odd : (line rest : List ℕ) (fault : PlanningFault) → BeginsWith slices.planning.now line rest → (fault ≡ OutOfMemory) ⊎ ((fault ≡ OddPlanning) × (planning_of line ≡ None))
+  pub repeat_odd : (line rest : List ℕ) (fault : MetaFault) → BeginsWith slices.planning.now line rest → (fault ≡ OutOfMemory) ⊎ ((fault ≡ OddPlanning) × (planning_of line ≡ None))
       → (fault ≡ OutOfMemory) ⊎ FaultRepeated now (split (lines_of section)).planning fault
   repeat_odd line rest fault b (inl memory) = inl memory
   repeat_odd line rest fault b (inr odd) =
@@ -171,7 +171,7 @@ module _ (section : List ℕ) (slices : Sections) (whole : terminated section �
   pub repeat_nothing : (line rest : List ℕ) (plan : PlanningLine) → BeginsWith slices.planning.now line rest → planning_of line ≡ Some plan → has_repeater plan.entries ≡ false → HasNoRepeater (split (lines_of section)).planning
   repeat_nothing line rest plan b is none = subst HasNoRepeater (sym b.lines ∙ planning_is section slices are) (plan, is, none)
 
-  pub repeat_fault : (line rest : List ℕ) (plan : PlanningLine) (fault : PlanningFault) → BeginsWith slices.planning.now line rest → planning_of line ≡ Some plan → has_repeater plan.entries ≡ true
+  pub repeat_fault : (line rest : List ℕ) (plan : PlanningLine) (fault : MetaFault) → BeginsWith slices.planning.now line rest → planning_of line ≡ Some plan → has_repeater plan.entries ≡ true
       → (fault ≡ OutOfMemory) ⊎ AreRepeated plan.entries now (Err fault) → (fault ≡ OutOfMemory) ⊎ FaultRepeated now (split (lines_of section)).planning fault
   repeat_fault line rest plan fault b is some (inl memory) = inl memory
   repeat_fault line rest plan fault b is some (inr wrong) =

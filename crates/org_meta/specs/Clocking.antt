@@ -9,8 +9,8 @@ use Rattle.org_stamp.specs.Calendar.{Moment}
 use Rattle.org_stamp.specs.Parts.{◌>>=◌}
 use Rattle.org_stamp.specs.Stamp.{duration_text}
 use Rattle.org_meta.specs.declared.clock.Running.{Running}
-use Rattle.org_meta.specs.declared.fault.ClockFault.{ClockFault}
-use Rattle.org_meta.specs.declared.fault.ClockFault.TheVariants.{ClockBackwards, OutOfMemory}
+use Rattle.org_meta.specs.declared.fault.MetaFault.{MetaFault}
+use Rattle.org_meta.specs.declared.fault.MetaFault.TheVariants.{ClockBackwards, OutOfMemory}
 use Rattle.org_meta.specs.Edits.{Gives}
 use Rattle.org_meta.specs.Moments.{moment_text}
 use Rattle.org_meta.specs.Sections.{SectionParts, is_mark, is_end}
@@ -48,17 +48,17 @@ closing_text now minutes =
 
 -- an open clock line that runs for so many minutes, closed; none where the moment is before its
 -- start
-abbrev pub closed_after : Moment → List ℕ → Option ℕ → Result (List ℕ) ClockFault
+abbrev pub closed_after : Moment → List ℕ → Option ℕ → Result (List ℕ) MetaFault
 closed_after now head (Some minutes) = Ok (head ++ closing_text now minutes)
 closed_after now head None = Err ClockBackwards
 
-abbrev pub closed_clock : Moment → List ℕ → Option Running → Result (List ℕ) ClockFault
+abbrev pub closed_clock : Moment → List ℕ → Option Running → Result (List ℕ) MetaFault
 closed_clock now line (Some running) =
     closed_after now (take running.head line) (minutes_between running.start now)
 closed_clock now line None = Ok line
 
 -- the line, closed where it is an open clock, unless the moment is before its start
-abbrev pub closed_line : Moment → List ℕ → Result (List ℕ) ClockFault
+abbrev pub closed_line : Moment → List ℕ → Result (List ℕ) MetaFault
 closed_line now line = closed_clock now line (running_clock line)
 
 -- how many minutes an open clock line has run at a moment, where that isn't before its start
@@ -74,13 +74,14 @@ Closes now section span edit =
     (λ fault. ⊥)
 
 -- why a line isn't closed: it can't be, or it can, and memory was refused
-abbrev pub IsWhyNot : Result (List ℕ) ClockFault → ClockFault → Type 0
+abbrev pub IsWhyNot : Result (List ℕ) MetaFault → MetaFault → Type 0
 IsWhyNot closed OutOfMemory = (new : List ℕ) × (closed ≡ Ok new)
 IsWhyNot closed ClockBackwards = closed ≡ Err ClockBackwards
+IsWhyNot closed _ = ⊥
 
 -- The open clock line at the span isn't closed: the moment is before its start, or it isn't, and
 -- memory was refused.
-abbrev pub ClosesNot : Moment → List ℕ → Span → ClockFault → Type 0
+abbrev pub ClosesNot : Moment → List ℕ → Span → MetaFault → Type 0
 ClosesNot now section span fault =
     (before : List (List ℕ)) (line : List ℕ) (after : List (List ℕ))
     → IsOpenAt section span before line after → IsWhyNot (closed_line now line) fault

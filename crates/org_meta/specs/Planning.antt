@@ -13,8 +13,8 @@ use Rattle.org_stamp.specs.declared.fault.RepeatFault.{RepeatFault}
 use Rattle.org_stamp.specs.declared.fault.RepeatFault.TheVariants.{BadRepeat as TheBadRepeat, DateRange as TheDateRange}
 use Rattle.org_meta.specs.declared.entry.Word.{Word}
 use Rattle.org_meta.specs.declared.entry.Word.TheVariants.{Closed, Deadline, Scheduled}
-use Rattle.org_meta.specs.declared.fault.PlanningFault.{PlanningFault}
-use Rattle.org_meta.specs.declared.fault.PlanningFault.TheVariants.{OddPlanning, BadRepeat, DateRange}
+use Rattle.org_meta.specs.declared.fault.MetaFault.{MetaFault}
+use Rattle.org_meta.specs.declared.fault.MetaFault.TheVariants.{OddPlanning, BadRepeat, DateRange}
 use Rattle.org_splice.specs.Blanks.{is_blank, is_trailing, front, behind}
 use Rattle.org_meta.specs.Moments.{moment_text}
 use Rattle.org_meta.specs.Sections.{SectionParts}
@@ -140,12 +140,12 @@ with_closed now p =
 -- the parts with another planning, made of theirs, unless it is odd; `none` is what takes the place
 -- of no planning
 abbrev pub replanned_line : (PlanningLine → List (List ℕ)) → SectionParts → Option PlanningLine
-    → Result SectionParts PlanningFault
+    → Result SectionParts MetaFault
 replanned_line some parts None = Err OddPlanning
 replanned_line some parts (Some p) = Ok (record parts { planning = some p })
 
 abbrev pub replanned : List (List ℕ) → (PlanningLine → List (List ℕ)) → SectionParts → List (List ℕ)
-    → Result SectionParts PlanningFault
+    → Result SectionParts MetaFault
 replanned none some parts [] = Ok (record parts { planning = none })
 replanned none some parts (l ∷ ls) = replanned_line some parts (planning_of l)
 
@@ -155,11 +155,11 @@ has_closed_entry [] = false
 has_closed_entry (l ∷ ls) = option_map_or (λ p. has_closed p.entries) (planning_of l) false
 
 -- an entry that isn't done any more has no CLOSED
-abbrev pub clear_closed : SectionParts → Result SectionParts PlanningFault
+abbrev pub clear_closed : SectionParts → Result SectionParts MetaFault
 clear_closed parts = replanned [] without_closed parts parts.planning
 
 -- one that turns done has that of the moment
-abbrev pub set_closed : Moment → SectionParts → Result SectionParts PlanningFault
+abbrev pub set_closed : Moment → SectionParts → Result SectionParts MetaFault
 set_closed now parts =
     replanned (closed_text now ∷ []) (λ p. with_closed now p ∷ []) parts parts.planning
 
@@ -176,17 +176,17 @@ has_repeater entries = list_any is_repeating entries
 abbrev pub entry_with : PlanningEntry → StampValue → List ℕ
 entry_with e s = word_text e.word ++ (e.gap ++ (stamp_text s ++ e.after))
 
-abbrev pub fault_of : RepeatFault → PlanningFault
+abbrev pub fault_of : RepeatFault → MetaFault
 fault_of TheBadRepeat = BadRepeat
 fault_of TheDateRange = DateRange
 
-abbrev pub behind_text : List ℕ → Result (List ℕ) PlanningFault → Result (List ℕ) PlanningFault
+abbrev pub behind_text : List ℕ → Result (List ℕ) MetaFault → Result (List ℕ) MetaFault
 behind_text text (Ok more) = Ok (text ++ more)
 behind_text text (Err fault) = Err fault
 
 -- the text of one entry at its next repetition, or the fault; what doesn't repeat stays, and CLOSED
 -- goes
-abbrev pub IsRepeatedEntry : PlanningEntry → Moment → Result (List ℕ) PlanningFault → Type 0
+abbrev pub IsRepeatedEntry : PlanningEntry → Moment → Result (List ℕ) MetaFault → Type 0
 IsRepeatedEntry e now r =
     MatchBool (is_closed e) (r ≡ Ok [])
     (MatchBool (is_repeating e)
@@ -196,30 +196,30 @@ IsRepeatedEntry e now r =
     (r ≡ Ok (entry_text e)))
 
 -- the texts of all, or the first fault
-abbrev pub AreRepeated : List PlanningEntry → Moment → Result (List ℕ) PlanningFault → Type 0
+abbrev pub AreRepeated : List PlanningEntry → Moment → Result (List ℕ) MetaFault → Type 0
 AreRepeated [] now r = r ≡ Ok []
 AreRepeated (e ∷ es) now r =
-    (first : Result (List ℕ) PlanningFault) × IsRepeatedEntry e now first
+    (first : Result (List ℕ) MetaFault) × IsRepeatedEntry e now first
     × MatchResult first
-    (λ text. (more : Result (List ℕ) PlanningFault)
+    (λ text. (more : Result (List ℕ) MetaFault)
     × AreRepeated es now more
     × (r ≡ behind_text text more))
     (λ fault. r ≡ Err fault)
 
 -- ---- the same, computed
 
-abbrev pub repeated_entry : Moment → PlanningEntry → Result (List ℕ) PlanningFault
+abbrev pub repeated_entry : Moment → PlanningEntry → Result (List ℕ) MetaFault
 repeated_entry now e =
     if is_closed e then Ok []
     else (if is_repeating e then result_map_both (entry_with e) fault_of (repeated e.stamp now)
     else Ok (entry_text e))
 
-abbrev pub behind_first : Result (List ℕ) PlanningFault → Result (List ℕ) PlanningFault
-    → Result (List ℕ) PlanningFault
+abbrev pub behind_first : Result (List ℕ) MetaFault → Result (List ℕ) MetaFault
+    → Result (List ℕ) MetaFault
 behind_first (Ok text) more = behind_text text more
 behind_first (Err fault) more = Err fault
 
 -- the texts of all, or the first fault
-abbrev pub repeated_entries : Moment → List PlanningEntry → Result (List ℕ) PlanningFault
+abbrev pub repeated_entries : Moment → List PlanningEntry → Result (List ℕ) MetaFault
 repeated_entries now [] = Ok []
 repeated_entries now (e ∷ es) = behind_first (repeated_entry now e) (repeated_entries now es)

@@ -1,19 +1,19 @@
 -- Edits of planning lines.
 use Rattle.std.specs.Prelude.{◌≡◌, ◌⊎◌, ℕ, true, false, Option, None, Some, Result, Ok, Err, MatchResult, List, [], ◌∷◌, ◌++◌}
 use Rattle.org_splice.specs.declared.edit.Edit.{Edit}
-use Rattle.org_meta.specs.declared.fault.PlanningFault.{PlanningFault}
-use Rattle.org_meta.specs.declared.fault.PlanningFault.TheVariants.{OddPlanning, OutOfMemory}
+use Rattle.org_meta.specs.declared.fault.MetaFault.{MetaFault}
+use Rattle.org_meta.specs.declared.fault.MetaFault.TheVariants.{OddPlanning, OutOfMemory}
 use Rattle.org_meta.specs.Edits.{GivesParts}
 use Rattle.org_meta.specs.Sections.{SectionParts}
 use Rattle.org_stamp.specs.Calendar.{Moment}
 use Rattle.org_meta.specs.Planning.{PlanningEntry, PlanningLine, planning_of, has_repeater, IsRepeatedEntry, AreRepeated}
 
 -- the parts are no fault, and the edit gives their section
-abbrev pub GivesOk : Result SectionParts PlanningFault → List ℕ → Edit → Type 0
+abbrev pub GivesOk : Result SectionParts MetaFault → List ℕ → Edit → Type 0
 GivesOk parts section edit = MatchResult parts (GivesParts edit section) (λ fault. ⊥)
 
 -- memory was refused, or the parts are this fault
-abbrev pub FaultIn : Result SectionParts PlanningFault → PlanningFault → Type 0
+abbrev pub FaultIn : Result SectionParts MetaFault → MetaFault → Type 0
 FaultIn parts fault = (fault ≡ OutOfMemory) ⊎ (parts ≡ Err fault)
 
 -- ---- repetition
@@ -61,7 +61,7 @@ GivesRepeated now parts section None = HasNoRepeater parts.planning
 GivesRepeated now parts section (Some edit) = GivesRepeatedIn now parts section edit parts.planning
 
 -- the planning line is odd, or the fault is the first of its repetitions
-abbrev pub FaultRepeated : Moment → List (List ℕ) → PlanningFault → Type 0
+abbrev pub FaultRepeated : Moment → List (List ℕ) → MetaFault → Type 0
 FaultRepeated now [] fault = ⊥
 FaultRepeated now (l ∷ ls) fault =
     ((fault ≡ OddPlanning) × (planning_of l ≡ None))

@@ -11,7 +11,7 @@ ghost use Rattle.org_meta.specs.Clocks.{HasOpenAt};
 ghost use Rattle.org_meta.specs.Clocking.{in_logbook, logged, opened, closing_text, Closes, ClosesNot};
 
 use crate::clock::{minutes_between, running_clock};
-use crate::fault::ClockFault;
+use crate::fault::MetaFault;
 use crate::lines::{Place, first_line};
 use crate::moments::{moment_bytes, push_moment};
 use crate::split::{is_end, is_mark, sections};
@@ -105,7 +105,7 @@ pub fn close_clock(
     section: &[u8],
     line: Span,
     now: Moment,
-) -> Result<Edit, ClockFault>
+) -> Result<Edit, MetaFault>
     requires terminated { terminated section.now ≡ section.now }
     requires stands { HasOpenAt section.now line }
     ensures ok { IfOk result (Closes now section.now line) }
@@ -116,7 +116,7 @@ pub fn close_clock(
         unreachable!();
     };
     let Some(minutes) = minutes_between(running.start, now) else {
-        return Err(ClockFault::ClockBackwards);
+        return Err(MetaFault::ClockBackwards);
     };
     let mut bytes = Vec::new(alloc);
     push_closing(&mut bytes, now, minutes)?;

@@ -2,11 +2,11 @@
 //!
 //! A line that isn't well formed is odd, and never edited. Entries that an edit doesn't mean keep
 //! their bytes.
-ghost use Rattle.std.specs.Prelude.{◌≡◌, ◌⊎◌, ◌<◌, ◌≤◌, ℕ, List, length, None, Some, Ok, Err, IfOk, IfErr, OnOk, true, false, [], ◌∷◌, ◌++◌};
+ghost use Rattle.std.specs.Prelude.{◌≡◌, ◌⊎◌, ◌<◌, ◌≤◌, ℕ, List, length, None, Some, Ok, Err, IfOk, IfErr, OnOk, MatchOption, true, false, [], ◌∷◌, ◌++◌};
 ghost use Rattle.org_splice.specs.Lines.{terminated, print_lines, lines_of};
 ghost use Rattle.org_meta.specs.Edits.{ChangesNothing};
 ghost use Rattle.org_meta.specs.Sections.{parts_of, split};
-ghost use Rattle.org_meta.specs.declared.fault.PlanningFault.TheVariants.{OddPlanning, OutOfMemory};
+ghost use Rattle.org_meta.specs.declared.fault.MetaFault.TheVariants.{OddPlanning, OutOfMemory};
 ghost use Rattle.org_meta.specs.Planning.{entries_at, each_once, planning_of, is_closed, has_closed_entry, entry_text, kept_text, closed_text, without_closed, with_closed, clear_closed, set_closed, is_repeating, has_repeater, AreRepeated, IsRepeatedEntry};
 ghost use Rattle.org_meta.specs.Replans.{GivesOk, FaultIn, PutsRepeated, PutsAllRepeated, GivesRepeated, FaultRepeated, repeated_line};
 
@@ -14,54 +14,55 @@ use crate::entry::{
     Entry, Planning, Word, entry_at, has_closed, has_others, is_closed, is_line_end, is_once,
     split_blanks, word_text,
 };
-use crate::fault::PlanningFault;
+use crate::fault::MetaFault;
 use crate::lines::first_line;
 use crate::moments::{moment_bytes, push_moment};
 use crate::split::sections;
 use crate::texts::push_all;
 use org_splice::{Bytes, Edit};
-use org_stamp::Moment;
+use org_stamp::{Moment, RepeatFault};
 use std::alloc::{AllocError, Global};
 
 /// The entries of a planning line from its first word on, at most three, and what is left of the
-/// line: blanks and carriage returns, unless the line is odd.
+/// line: blanks and carriage returns. None where the line is odd.
 fn read_entries<'a>(
     alloc: Global,
     text: &'a [u8],
-) -> Result<(Vec<Entry<'a>>, &'a [u8]), PlanningFault>
-    ensures ok { IfOk result (λ r. entries_at 3 text.now ≡ Some (r.0.items, r.1.now)) }
-    ensures err { IfErr result (λ fault.
-        (fault ≡ OutOfMemory) ⊎ ((fault ≡ OddPlanning) × (entries_at 3 text.now ≡ None))) }
+) -> Result<Option<(Vec<Entry<'a>>, &'a [u8])>, AllocError>
+    ensures { IfOk result (λ found. MatchOption found (entries_at 3 text.now ≡ None)
+        (λ r. entries_at 3 text.now ≡ Some (r.0.items, r.1.now))) }
 {
     let mut entries = Vec::new(alloc);
     let mut left = text;
     for _ in 0..3usize {
         if is_line_end(left) {
-            return Ok((entries, left));
+            return Ok(Some((entries, left)));
         }
         let Some((entry, rest)) = entry_at(left) else {
-            return Err(PlanningFault::OddPlanning);
+            return Ok(None);
         };
         entries.push(entry)?;
         left = rest;
     }
     if is_line_end(left) {
-        Ok((entries, left))
+        Ok(Some((entries, left)))
     } else {
-        Err(PlanningFault::OddPlanning)
+        Ok(None)
     }
 }
 
 /// The planning line, if it is well formed.
-fn read_planning(alloc: Global, line: &[u8]) -> Result<Planning<'_>, PlanningFault>
+fn read_planning(alloc: Global, line: &[u8]) -> Result<Planning<'_>, MetaFault>
     ensures ok { IfOk result (λ p. planning_of line.now ≡ Some p) }
     ensures err { IfErr result (λ fault.
         (fault ≡ OutOfMemory) ⊎ ((fault ≡ OddPlanning) × (planning_of line.now ≡ None))) }
 {
     let (indentation, text) = split_blanks(line);
-    let (entries, tail) = read_entries(alloc, text)?;
+    let Some((entries, tail)) = read_entries(alloc, text)? else {
+        return Err(MetaFault::OddPlanning);
+    };
     if !each_once(&entries) {
-        return Err(PlanningFault::OddPlanning);
+        return Err(MetaFault::OddPlanning);
     }
     Ok(Planning {
         indentation,
@@ -160,7 +161,7 @@ fn is_repeating(entry: &Entry) -> bool
 }
 
 /// The entry's text at its next repetition; one that doesn't repeat stays, and CLOSED has none.
-fn push_repeated(out: &mut Vec<u8>, entry: &Entry, now: Moment) -> Result<(), PlanningFault>
+fn push_repeated(out: &mut Vec<u8>, entry: &Entry, now: Moment) -> Result<(), MetaFault>
     ensures ok { OnOk result (PutsRepeated entry.now now out.old.items out.new.items) }
     ensures err { IfErr result (λ fault.
         (fault ≡ OutOfMemory) ⊎ IsRepeatedEntry entry.now now (Err fault)) }
@@ -172,14 +173,18 @@ fn push_repeated(out: &mut Vec<u8>, entry: &Entry, now: Moment) -> Result<(), Pl
         push_entry(out, entry)?;
         return Ok(());
     }
-    let stamp = entry.stamp.repeat(now)?;
+    let stamp = match entry.stamp.repeat(now) {
+        Ok(stamp) => stamp,
+        Err(RepeatFault::BadRepeat) => return Err(MetaFault::BadRepeat),
+        Err(RepeatFault::DateRange) => return Err(MetaFault::DateRange),
+    };
     let text = stamp.print(*out.allocator())?;
     push_with_stamp(out, entry, &text)?;
     Ok(())
 }
 
 /// The texts of all entries at their next repetition.
-fn push_all_repeated(out: &mut Vec<u8>, entries: &[Entry], now: Moment) -> Result<(), PlanningFault>
+fn push_all_repeated(out: &mut Vec<u8>, entries: &[Entry], now: Moment) -> Result<(), MetaFault>
     ensures ok { OnOk result (PutsAllRepeated entries.now now out.old.items out.new.items) }
     ensures err { IfErr result (λ fault.
         (fault ≡ OutOfMemory) ⊎ AreRepeated entries.now now (Err fault)) }
@@ -191,7 +196,7 @@ fn push_all_repeated(out: &mut Vec<u8>, entries: &[Entry], now: Moment) -> Resul
 }
 
 /// The planning line with each entry at its next repetition, with its newline.
-fn repeated(alloc: Global, planning: &Planning, now: Moment) -> Result<Vec<u8>, PlanningFault>
+fn repeated(alloc: Global, planning: &Planning, now: Moment) -> Result<Vec<u8>, MetaFault>
     ensures ok { IfOk result (λ bytes. (text : List ℕ)
         × AreRepeated planning.now.entries now (Ok text)
         × (bytes.items ≡ repeated_line planning.now text ++ 10 ∷ [])) }
@@ -234,7 +239,7 @@ fn replacing(line: &[u8], bytes: Vec<u8>) -> Edit
 ///
 /// - `OddPlanning`: the planning line isn't well formed (Org Syntax, "Planning").
 /// - `OutOfMemory`.
-pub fn clear_closed(alloc: Global, section: &[u8]) -> Result<Edit, PlanningFault>
+pub fn clear_closed(alloc: Global, section: &[u8]) -> Result<Edit, MetaFault>
     requires { terminated section.now ≡ section.now }
     ensures ok { IfOk result (GivesOk (clear_closed (parts_of section.now)) section.now) }
     ensures nothing { IfOk result (λ edit.
@@ -259,7 +264,7 @@ pub fn clear_closed(alloc: Global, section: &[u8]) -> Result<Edit, PlanningFault
 ///
 /// - `OddPlanning`: the planning line isn't well formed.
 /// - `OutOfMemory`.
-pub fn set_closed(alloc: Global, section: &[u8], now: Moment) -> Result<Edit, PlanningFault>
+pub fn set_closed(alloc: Global, section: &[u8], now: Moment) -> Result<Edit, MetaFault>
     requires { terminated section.now ≡ section.now }
     ensures ok { IfOk result (GivesOk (set_closed now (parts_of section.now)) section.now) }
     ensures err { IfErr result (FaultIn (set_closed now (parts_of section.now))) }
@@ -285,7 +290,7 @@ pub fn repeat_planning(
     alloc: Global,
     section: &[u8],
     now: Moment,
-) -> Result<Option<Edit>, PlanningFault>
+) -> Result<Option<Edit>, MetaFault>
     requires { terminated section.now ≡ section.now }
     ensures ok { IfOk result (GivesRepeated now (parts_of section.now) section.now) }
     ensures err { IfErr result (λ fault.

@@ -1,6 +1,6 @@
 -- Where an archived subtree goes (Org manual, "Moving a tree to an archive file"; Org Syntax,
 -- "Keywords").
-use Rattle.std.specs.Prelude.{◌≡◌, ◌<◌, ℕ, nat_lt, ◌==◌, Bool, ◌&&◌, if◌then◌else◌, List, [], ◌∷◌, ◌++◌, codes, length, take, drop, Option, None, Some, Result, Ok, Err}
+use Rattle.std.specs.Prelude.{◌≡◌, ◌⊎◌, ◌<◌, ◌≤◌, ℕ, nat_lt, ◌==◌, Bool, false, ◌&&◌, if◌then◌else◌, List, [], ◌∷◌, ◌++◌, codes, length, take, drop, Option, None, Some, is_some, Result, Ok, Err}
 use Rattle.std.specs.Borrow.{Bor}
 use Rattle.std.specs.List.{find}
 use Rattle.std.specs.Option.{option_map, option_and_then, option_or, unwrap_or}
@@ -8,6 +8,7 @@ use Rattle.std.specs.Str.{str_eq_ignore_ascii_case, is_utf8}
 use Rattle.org_splice.specs.Blanks.{is_blank, behind, trimmed}
 use Rattle.org_splice.specs.Lines.{terminated, lines_of}
 use Rattle.org_disk.specs.Names.{is_archive_name, is_file_name}
+use Rattle.org_meta.specs.Lines.{BeginsWith}
 use Rattle.org_outline.specs.States.{Keywords}
 use Rattle.org_outline.specs.Text.{level_of}
 use Rattle.org_outline.specs.Tree.{tree}
@@ -35,12 +36,33 @@ is_archive_line l = str_eq_ignore_ascii_case (take 10 (behind is_blank l)) (code
 abbrev pub value_behind : List ℕ → List ℕ
 value_behind l = trimmed (drop 10 (behind is_blank l))
 
--- the first such line of a text is this line, or it is that of the rest behind it
+-- the text has such a line
+abbrev pub has_archive_line : List ℕ → Bool
+has_archive_line text = is_some (find is_archive_line (lines_of text))
+
+-- what is left of a text behind whole lines, none of which is such a line
+pub record IsBehindOthers (text left : List ℕ) : Type 0 where
+  pub before : List ℕ
+  pub parts : text ≡ before ++ left
+  pub terminated_before : terminated before ≡ before
+  pub terminated_left : terminated left ≡ left
+  pub none : has_archive_line before ≡ false
+
+-- .. of which this is the first line, and this the rest
 pub record ComesTo (text line rest : List ℕ) : Type 0 where
-  pub terminated_rest : terminated rest ≡ rest
-  pub shorter : length rest < length text
-  pub first : find is_archive_line (lines_of text)
-      ≡ (if is_archive_line line then Some line else find is_archive_line (lines_of rest))
+  pub left : List ℕ
+  pub behind : IsBehindOthers text left
+  pub begins : BeginsWith left line rest
+
+-- the lines of a text between those that stand whole within its first `front` bytes and those that
+-- begin within its last `back` bytes, maybe with the first of these, and what follows them
+pub record LeavesLines (text : List ℕ) (front back : ℕ) (lines rest : List ℕ) : Type 0 where
+  pub before : List ℕ
+  pub parts : text ≡ before ++ (lines ++ rest)
+  pub terminated_before : terminated before ≡ before
+  pub terminated_lines : terminated lines ≡ lines
+  pub short : length before ≤ front
+  pub last : (rest ≡ []) ⊎ (length rest < back)
 
 -- the value of the first such line: a later one doesn't count, even where the first one is empty
 abbrev pub value_of_lines : List (List ℕ) → Option (List ℕ)

@@ -2,26 +2,28 @@
 //!
 //! A property of the entry or above it comes before the file's first `#+ARCHIVE:` line, and that
 //! before the file's own archive.
-ghost use Rattle.std.specs.Prelude.{◌≡◌, ◌⊎◌, ◌<◌, ◌≤◌, ◌^◌, ◌+◌, ◌++◌, ◌∷◌, [], ℕ, List, IfOk, IfSome, IfNone, None, codes, length, take, drop};
+ghost use Rattle.std.specs.Prelude.{◌≡◌, ◌⊎◌, ◌<◌, ◌≤◌, ◌^◌, ◌+◌, ◌++◌, ◌∷◌, [], ℕ, List, true, false, IfOk, IfSome, IfNone, None, codes, length, take, drop};
 ghost use Rattle.std.specs.List.{find};
 ghost use Rattle.std.specs.Option.{option_map};
 ghost use Rattle.org_splice.specs.Lines.{terminated, lines_of};
+ghost use Rattle.org_splice.specs.Searched.{IsSearched};
 ghost use Rattle.org_outline.specs.Parts.{AreParts, Parts};
 ghost use Rattle.org_outline.specs.Paths.{titles_of};
 ghost use Rattle.org_outline.specs.Tree.{node_count, tree};
 ghost use Rattle.org_move.specs.Answers.{GivesName, GivesPlace};
-ghost use Rattle.org_move.specs.Location.{ComesTo, location, file_named, halves_made, halves_of, heading_made, heading_of, is_archive_line, is_title_alone, value_for, value_of_lines, with_file, with_name};
+ghost use Rattle.org_move.specs.Location.{ComesTo, LeavesLines, location, file_named, halves_made, halves_of, has_archive_line, heading_made, heading_of, is_archive_line, is_title_alone, value_for, value_of_lines, with_file, with_name};
 ghost use Rattle.org_splice.specs.Blanks.{is_blank, behind};
 
 use crate::MoveFault;
 use crate::destination::Location;
 use crate::inherited::{nearest, nonempty};
 use memchr::memmem::Finder;
-use memchr::{memchr, memrchr};
+use memchr::memrchr;
 use org_disk::{FileName, NameFault};
+use org_meta::first_line;
 use org_outline::{HeadParts, Node, Outline, States, heading_level};
-use org_splice::Bytes;
 use org_splice::blanks::{behind_blanks, trimmed};
+use org_splice::{Bytes, Searched};
 use std::alloc::{AllocError, Global};
 use std::str;
 
@@ -62,45 +64,88 @@ fn marked_line<'a>(finder: &Finder<'_>, text: &'a [u8]) -> Option<(&'a [u8], &'a
     requires mark { finder.now ≡ codes "#+" }
     requires terminated { terminated text.now ≡ text.now }
     ensures some { IfSome result (λ r. ComesTo text.now r.0.now r.1.now) }
-    ensures none { IfNone result (find is_archive_line (lines_of text.now) ≡ None) }
+    ensures none { IfNone result (has_archive_line text.now ≡ false) }
 {
-    let left = from_line(text, finder.find(text)?);
-    let (line, rest) = left.split_at(memchr(b'\n', left)?);
-    Some((line, rest.split_at(1).1))
+    first_line(from_line(text, finder.find(text)?))
 }
 
-/// The first line of the text that begins with `#+ARCHIVE:`. Lines without `#+` aren't read.
-fn archive_line(text: &[u8]) -> Option<&[u8]>
+/// The first line of the text that begins with `#+ARCHIVE:`, and what follows it. Lines without
+/// `#+` aren't read.
+fn first_archive_line(text: &[u8]) -> Option<(&[u8], &[u8])>
     requires { terminated text.now ≡ text.now }
-    ensures { option_map (λ line. line.now) result ≡ find is_archive_line (lines_of text.now) }
+    ensures some { IfSome result (λ r. ComesTo text.now r.0.now r.1.now
+        × (is_archive_line r.0.now ≡ true)) }
+    ensures none { IfNone result (has_archive_line text.now ≡ false) }
 {
     let finder = Finder::new(b"#+");
     let mut left = text;
     while let Some((line, rest)) = marked_line(&finder, left) {
         if is_archive_line(line) {
-            return Some(line);
+            return Some((line, rest));
         }
         left = rest;
     }
     None
 }
 
-/// The value of the text's first `#+ARCHIVE:` line, where that isn't empty.
-fn value_of_text(text: &[u8]) -> Option<&[u8]>
+/// The lines of which nothing is known, and what follows them.
+fn unknown_lines(text: &[u8], front: usize, back: usize) -> (&[u8], &[u8])
     requires { terminated text.now ≡ text.now }
-    ensures { option_map (λ value. value.now) result ≡ value_of_lines (lines_of text.now) }
+    ensures { LeavesLines text.now front back result.0.now result.1.now }
 {
-    nonempty(trimmed(mark_and_value(archive_line(text)?).1))
+    let left = from_line(text, front.min(text.len()));
+    let (_, end) = left.split_at(left.len().saturating_sub(back));
+    match first_line(end) {
+        Some((_, rest)) => left.split_at(left.len() - rest.len()),
+        None => (left, end),
+    }
+}
+
+/// The first line of the text that begins with `#+ARCHIVE:`, and what is known behind the search.
+/// Only the lines of which nothing was known are read.
+fn archive_line(text: &[u8], searched: Searched) -> (Option<&[u8]>, Searched)
+    requires terminated { terminated text.now ≡ text.now }
+    requires searched { IsSearched has_archive_line searched text.now }
+    ensures line { option_map (λ line. line.now) result.0
+        ≡ find is_archive_line (lines_of text.now) }
+    ensures searched { IsSearched has_archive_line result.1 text.now }
+{
+    let (front, back) = match searched {
+        Searched::Nowhere => return (None, Searched::Nowhere),
+        Searched::Ends { front, back } => (front, back),
+    };
+    let (lines, behind) = unknown_lines(text, front, back);
+    match first_archive_line(lines) {
+        None => (None, Searched::Nowhere),
+        Some((line, rest)) => {
+            let front = text.len() - behind.len() - rest.len() - line.len() - 1;
+            (Some(line), Searched::Ends { front, back })
+        }
+    }
+}
+
+/// The value of the text's first `#+ARCHIVE:` line, where that isn't empty.
+fn value_of_text<'a>(text: &'a [u8], searched: &mut Searched) -> Option<&'a [u8]>
+    requires terminated { terminated text.now ≡ text.now }
+    requires searched { IsSearched has_archive_line searched.old text.now }
+    ensures value { option_map (λ value. value.now) result ≡ value_of_lines (lines_of text.now) }
+    ensures searched { IsSearched has_archive_line searched.new text.now }
+{
+    let (line, known) = archive_line(text, *searched);
+    *searched = known;
+    nonempty(trimmed(mark_and_value(line?).1))
 }
 
 /// The value that counts for a heading: that of the nearest property, of the text, or the default.
-fn value_for<'a>(outline: &Outline<'a>, node: Node) -> &'a [u8]
-    requires { node < node_count (tree outline.now.text) }
-    ensures { result.now ≡ value_for outline.now.text node }
+fn value_for<'a>(outline: &Outline<'a>, node: Node, searched: &mut Searched) -> &'a [u8]
+    requires node { node < node_count (tree outline.now.text) }
+    requires searched { IsSearched has_archive_line searched.old outline.now.text }
+    ensures value { result.now ≡ value_for outline.now.text node }
+    ensures searched { IsSearched has_archive_line searched.new outline.now.text }
 {
     match nearest(outline, node, b"ARCHIVE") {
         Some(value) => value,
-        None => value_of_text(outline.text()).unwrap_or(b"%s_archive::"),
+        None => value_of_text(outline.text(), searched).unwrap_or(b"%s_archive::"),
     }
 }
 
@@ -235,11 +280,32 @@ pub fn location(
     ensures { let states = outline.now.states in
         GivesPlace (location states name.now (titles_of path.now) outline.now.text) result }
 {
+    location_searched(alloc, outline, name, path, &mut Searched::nothing())
+}
+
+/// The same, where the text is searched for such a line only where it isn't known to have none.
+/// What is known behind the search is noted.
+///
+/// # Errors
+///
+/// Those of `location`.
+pub fn location_searched(
+    alloc: Global,
+    outline: &Outline<'_>,
+    name: &FileName,
+    path: &[Vec<u8>],
+    searched: &mut Searched,
+) -> Result<Location, MoveFault>
+    requires { IsSearched has_archive_line searched.old outline.now.text }
+    ensures place { let states = outline.now.states in
+        GivesPlace (location states name.now (titles_of path.now) outline.now.text) result }
+    ensures searched { IsSearched has_archive_line searched.new outline.now.text }
+{
     let node = outline.find(path)?;
     if name.is_archive() {
         return Err(MoveFault::AlreadyArchive);
     }
-    let Some((file, line)) = halves(value_for(outline, node)) else {
+    let Some((file, line)) = halves(value_for(outline, node, searched)) else {
         return Err(MoveFault::BadLocation);
     };
     let Some((level, title)) = heading(outline.states(), line) else {

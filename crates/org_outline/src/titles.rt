@@ -1,10 +1,7 @@
-//! Paths that values of other types hold: lists of titles, compared byte by byte.
-ghost use Rattle.std.specs.Prelude.{◌≡◌, nat_eq};
-ghost use Rattle.std.specs.Cmp.Lexicographic.{pointwise, lists_equiv, nat_list_eq_equiv};
-ghost use Rattle.std.specs.Cmp.{partial_equiv_from_equiv};
+//! Paths that values of other types hold: lists of titles.
+ghost use Rattle.std.specs.Prelude.{◌≡◌};
 ghost use Rattle.org_outline.specs.Paths.{titles_of};
 
-use std::alloc::AllocError;
 use std::marker::Model;
 
 /// A path: a list of titles, which a clause sees as a list of lists of bytes.
@@ -36,27 +33,4 @@ impl Titles {
     {
         self.titles.as_slice()
     }
-}
-
-impl Clone for Titles {
-    ghost is_clone = { λ path copy. copy ≡ path };
-
-    fn clone(&self) -> Result<Titles, AllocError> {
-        let titles = self.titles.clone()?;
-        Ok(Titles { titles })
-    }
-}
-
-impl PartialEq for Titles {
-    ghost eq = { pointwise (pointwise nat_eq) };
-
-    ghost laws = { partial_equiv_from_equiv (lists_equiv nat_list_eq_equiv) };
-
-    fn eq(&self, other: &Self) -> bool {
-        self.titles == other.titles
-    }
-}
-
-impl Eq for Titles {
-    ghost laws = { lists_equiv nat_list_eq_equiv };
 }

@@ -4,7 +4,7 @@ use Rattle.std.specs.Str.Parse.{IsNumeral, digits_value}
 use Rattle.clap.specs.Words.{App, Rule, Row, new_app, new_rule, with_rule, matches_of, first_of, all_of, fault_of}
 use Rattle.clap.specs.declared.builder.action.ArgAction.TheVariants.{Append}
 use Rattle.org_fileset.specs.declared.open.OpenFault.TheVariants.{OutOfMemory, Device, TooManyFiles, BadJournal, TooLarge}
-use Rattle.org_store.specs.Group.{IsGroup}
+use Rattle.org_store.specs.Group.{IsGroupSize}
 use Rattle.org_program.specs.declared.arguments.Arguments.{Arguments}
 use Rattle.org_program.specs.declared.fault.Fault.{Fault}
 use Rattle.org_program.specs.declared.fault.Fault.TheVariants.{Usage, BadName, BadStates, Locked, SameFile, Open, Ended}
@@ -63,7 +63,7 @@ group_in words = unwrap_or (first_of (codes "group") (given words)) (codes "1")
 
 -- decimal digits, without a sign, that write a group
 abbrev pub IsGroupText : List ℕ → Type 0
-IsGroupText text = IsNumeral 10 text × IsGroup (digits_value 10 text)
+IsGroupText text = IsNumeral 10 text × IsGroupSize (digits_value 10 text)
 
 -- clap refuses nothing of the words, and their group is one
 abbrev pub AreTaken : List (List ℕ) → Type 0

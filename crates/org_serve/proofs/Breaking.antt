@@ -11,8 +11,8 @@ use Rattle.org_commands.specs.declared.command.RunFault.TheVariants as run
 use Rattle.org_commands.specs.Session.{Session, StoreView}
 use Rattle.org_serve.specs.declared.end.ServeEnd.{ServeEnd}
 use Rattle.org_serve.specs.declared.end.ServeEnd.TheVariants.{End, Unsettled, Device, Read, Write}
-use Rattle.org_serve.specs.Serving.{HasBroken, EndsBroken, end_of}
-use Rattle.org_serve.specs.Whole.{HasFailed}
+use Rattle.org_serve.specs.Serving.{HasBroken, EndSaysBroken, end_of}
+use Rattle.org_serve.specs.Whole.{SaysFailure}
 use Rattle.org_serve.proofs.Counting.{HasRisen-later, HasRisen-before}
 
 broken_or_not : (b : Bool) → (b ≡ true) ⊎ (b ≡ false)
@@ -47,7 +47,7 @@ breaks_then {D} {g = g} {old = old} {mid = mid} {new = new} kept_first kept_seco
 
 -- whether the store is broken after a settling, by how serving ends then
 pub ends_broken : (answer : Result (Unit {0}) RunFault) (old new : Session) → old.broken ≡ false → (IsTrue new.broken → IsTrue old.broken ⊎ IsErrOf answer run.Device)
-    → (IsTrue old.broken ⊎ IsErrOf answer run.Device → IsTrue new.broken) → (IsErrOf answer run.Broken → IsTrue old.broken) → EndsBroken (end_of answer) new
+    → (IsTrue old.broken ⊎ IsErrOf answer run.Device → IsTrue new.broken) → (IsErrOf answer run.Broken → IsTrue old.broken) → EndSaysBroken (end_of answer) new
 ends_broken (Ok done) old new sound only_so so was = elim (broken_or_not new.broken) [
   | inl broke ↦ absurd (elim (only_so broke) [
     | inl before ↦ both_ways before sound
@@ -86,11 +86,11 @@ breaks_by_count {D} {g = g} {disk = disk} store after opened served sound is =
 -- a store that was opened and served, as its disk's count tells it
 pub served_accounts : {D : Type 0} {g : Ghosts D} {disk new : D} (end : ServeEnd) (store after : StoreView D)
     → Accounts g disk store.disk ⊥ → Accounts g store.disk after.disk (HasBroken store.session after.session)
-    → store.session.broken ≡ false → EndsBroken end after.session → new ≡ after.disk
-    → Accounts g disk new (HasFailed (Ok end) (g.failures disk) (g.failures new))
+    → store.session.broken ≡ false → EndSaysBroken end after.session → new ≡ after.disk
+    → Accounts g disk new (SaysFailure (Ok end) (g.failures disk) (g.failures new))
 served_accounts {D} {g} {disk} end store after opened served sound ends is =
     let whole = accounts_then opened served in
-    subst (λ (d : D). Accounts g disk d (HasFailed (Ok end) (g.failures disk) (g.failures d))) (sym is) (record {
+    subst (λ (d : D). Accounts g disk d (SaysFailure (Ok end) (g.failures disk) (g.failures d))) (sym is) (record {
       was_honest = whole.was_honest;
       stays_honest = whole.stays_honest;
       no_less = whole.no_less;
@@ -98,16 +98,16 @@ served_accounts {D} {g} {disk} end store after opened served sound ends is =
       equal = equal end ends whole.risen whole.equal;
     })
   where
-    risen : (end : ServeEnd) → EndsBroken end after.session → (HasBroken store.session after.session → HasRisen (g.failures disk) (g.failures after.disk))
-        → HasFailed (Ok end) (g.failures disk) (g.failures after.disk) → HasRisen (g.failures disk) (g.failures after.disk)
+    risen : (end : ServeEnd) → EndSaysBroken end after.session → (HasBroken store.session after.session → HasRisen (g.failures disk) (g.failures after.disk))
+        → SaysFailure (Ok end) (g.failures disk) (g.failures after.disk) → HasRisen (g.failures disk) (g.failures after.disk)
     risen End ends rises failed = absurd failed
     risen Unsettled ends rises failed = absurd failed
     risen Device ends rises failed = rises (sound, ends)
     risen Read ends rises failed = failed
     risen Write ends rises failed = failed
 
-    equal : (end : ServeEnd) → EndsBroken end after.session → (HasBroken store.session after.session → HasRisen (g.failures disk) (g.failures after.disk))
-        → ((HasBroken store.session after.session → ⊥) → g.failures after.disk ≡ g.failures disk) → (HasFailed (Ok end) (g.failures disk) (g.failures after.disk) → ⊥) → g.failures after.disk ≡ g.failures disk
+    equal : (end : ServeEnd) → EndSaysBroken end after.session → (HasBroken store.session after.session → HasRisen (g.failures disk) (g.failures after.disk))
+        → ((HasBroken store.session after.session → ⊥) → g.failures after.disk ≡ g.failures disk) → (SaysFailure (Ok end) (g.failures disk) (g.failures after.disk) → ⊥) → g.failures after.disk ≡ g.failures disk
     equal End ends rises stays fine = stays (λ broke. both_ways broke.1 ends)
     equal Unsettled ends rises stays fine = stays (λ broke. both_ways broke.1 ends)
     equal Device ends rises stays fine = absurd (fine tt)

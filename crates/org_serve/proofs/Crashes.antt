@@ -13,7 +13,7 @@ use Rattle.org_serve.specs.declared.end.ServeEnd.{ServeEnd}
 use Rattle.org_serve.specs.declared.end.ServeEnd.TheVariants.{End, Unsettled, Device, Read, Write}
 use Rattle.org_serve.specs.declared.fault.LineFault.{LineFault}
 use Rattle.org_serve.specs.declared.pending.Pending.{Pending}
-use Rattle.org_serve.specs.Serving.{Answers, AnswersLine, AnswersRead, EndsBy, EndsText, EndsWith, Finishes, HasSettled, KeepsDisk, Runs, RunsAndWrites, RunsSome, WritesSome, end_of, honest_stores}
+use Rattle.org_serve.specs.Serving.{Answers, AnswersLine, AnswersRead, EndsBy, EndsText, EndsWith, Finishes, HasSettled, LeavesServedDisk, RunsLines, RunsAndWrites, RunsSome, WritesSome, end_of, stores_while_honest}
 use Rattle.org_serve.specs.Lines.{cut}
 use Rattle.org_serve.specs.Replies.{answer_text, settled_text}
 use Rattle.org_serve.proofs.Honest.{sound_stores}
@@ -33,7 +33,7 @@ write_or_not Write = inl refl
 -- no line is left of what was read
 pub runs_whole : {S : Type 0} {m : Machine S} {old mid : S} (io : Exchange) {among : Option (List ℕ)} {pending : Pending}
     → Served m old mid io.before.left io.after.left io.before.written among pending → (new : S) (end : ServeEnd)
-    → (new ≡ mid) ⊎ HasSettled m mid new → (end ≢ Write → (tail : List ℕ) × Appends among io.after.written tail) → Runs m old new end io
+    → (new ≡ mid) ⊎ HasSettled m mid new → (end ≢ Write → (tail : List ℕ) × Appends among io.after.written tail) → RunsLines m old new end io
 runs_whole {mid = mid} io {among = among} s new end ends wrote = record {
   input = s.input;
   ran = (cut s.input).lines;
@@ -115,7 +115,7 @@ module _ {D : Type 0} (g : Ghosts D) where
   -- What is said where the disk is honest.
 
   abbrev Said : Machine (StoreView D)
-  Said = honest_stores g
+  Said = stores_while_honest g
 
   settled_or_not : (fell pending : Bool) (old : StoreView D) (end : ServeEnd) (out : List ℕ) (new : StoreView D) → EndsBy Said fell pending old end out new → (new ≡ old) ⊎ HasSettled Said old new
   settled_or_not true pending old end out new f = inl f.2
@@ -178,9 +178,9 @@ module _ {D : Type 0} (g : Ghosts D) where
       (λ settled. course_settle g mid new settled.0 (λ s. Unit {0}) settled.1.0 tt)
       ends
 
-  module _ {old new : StoreView D} {end : ServeEnd} {io : Exchange} (run : Runs (sound_stores g) old new end io) where
+  module _ {old new : StoreView D} {end : ServeEnd} {io : Exchange} (run : RunsLines (sound_stores g) old new end io) where
     course_runs : Goes old new
     course_runs = course_lines old run.mid new run.ran run.out run.answered (course_end run.mid new run.ends)
 
-    pub runs_keep : KeepsDisk g.files old new
+    pub runs_keep : LeavesServedDisk g.files old new
     runs_keep = record { recoverable = course_runs.recoverable; rest = course_runs.rest; others = λ disk sound. course_runs.others sound disk; untouched = course_runs.stays }

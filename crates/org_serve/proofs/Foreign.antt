@@ -22,7 +22,7 @@ use Rattle.org_serve.specs.declared.whole.Setup.{Setup}
 use Rattle.org_serve.specs.Pipes.{Exchange}
 use Rattle.org_serve.specs.declared.end.ServeEnd.{ServeEnd}
 use Rattle.org_serve.specs.declared.fault.LineFault.{LineFault}
-use Rattle.org_serve.specs.Serving.{Answers, AnswersRead, HasSettled, Runs}
+use Rattle.org_serve.specs.Serving.{Answers, AnswersRead, HasSettled, RunsLines}
 use Rattle.org_serve.specs.Syncing.{IsNotStored}
 use Rattle.org_serve.specs.Whole.{IsForeign, LeavesForeign, ServesOver}
 use Rattle.org_serve.proofs.Honest.{sound_traced, sound_traces, up_to}
@@ -53,7 +53,7 @@ module _ {D : Type 0} (g : Ghosts D) where
       (λ settled. own_settling g mid.store last.store settled.0 ready settled.1.0.0)
       ends
 
-  pub own_runs : {first last : Trace D} {end : ServeEnd} {io : Exchange} → Runs (sound_traces g) first last end io → Ready first → Own first last
+  pub own_runs : {first last : Trace D} {end : ServeEnd} {io : Exchange} → RunsLines (sound_traces g) first last end io → Ready first → Own first last
   own_runs {first} {last} run ready =
       own_then g first.store run.mid.store last.store (own_lines first run.mid run.ran run.out run.answered ready) (λ ready. own_end run.mid last run.ends ready)
 

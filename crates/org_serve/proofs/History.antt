@@ -21,7 +21,7 @@ use Rattle.org_store.proofs.Runs.{Course, HaveTexts, IsBetween, course_none, cou
 use Rattle.org_store.specs.Calls.{Call, Machine, StepsBy, model, traces}
 use Rattle.org_store.specs.Calls.Call.{Grouped, Ran, Settled}
 use Rattle.org_serve.specs.Pipes.{Exchange}
-use Rattle.org_serve.specs.Serving.{Answers, AnswersRead, HasSettled, Runs, RunsAndWrites, honest_stores, honest_traces}
+use Rattle.org_serve.specs.Serving.{Answers, AnswersRead, HasSettled, RunsLines, RunsAndWrites, stores_while_honest, traces_while_honest}
 use Rattle.org_serve.specs.declared.fault.LineFault.{LineFault}
 use Rattle.org_serve.specs.declared.end.ServeEnd.{ServeEnd}
 use Rattle.org_serve.specs.History.{HoldsSince, Reaches}
@@ -30,8 +30,8 @@ use Rattle.org_serve.proofs.Crashes.{lines_by}
 
 -- A run of stores has a trace.
 module _ {D : Type 0} (g : Ghosts D) where
-  lift_read : (old : Trace D) (read : Result Command LineFault) (out : List ℕ) (new : StoreView D) → AnswersRead (honest_stores g) old.store read out new
-      → (texts : Texts) × AnswersRead (honest_traces g) old read out (record { store = new; texts = texts })
+  lift_read : (old : Trace D) (read : Result Command LineFault) (out : List ℕ) (new : StoreView D) → AnswersRead (stores_while_honest g) old.store read out new
+      → (texts : Texts) × AnswersRead (traces_while_honest g) old read out (record { store = new; texts = texts })
   lift_read old (Err fault) out new ran = (old.texts, (ran.0, ap (λ (k : StoreView D). record { store = k; texts = old.texts }) ran.1))
   lift_read old (Ok command) out new ran = (
     texts_after (outcome old.store.session command) old.store.session.accepted new.session.accepted old.texts,
@@ -42,8 +42,8 @@ module _ {D : Type 0} (g : Ghosts D) where
     ),
   )
 
-  lift_lines : (old : Trace D) (lines : List (List ℕ)) (out : List ℕ) (new : StoreView D) → Answers (honest_stores g) old.store lines out new
-      → (texts : Texts) × Answers (honest_traces g) old lines out (record { store = new; texts = texts })
+  lift_lines : (old : Trace D) (lines : List (List ℕ)) (out : List ℕ) (new : StoreView D) → Answers (stores_while_honest g) old.store lines out new
+      → (texts : Texts) × Answers (traces_while_honest g) old lines out (record { store = new; texts = texts })
   lift_lines old [] out new a = (old.texts, (a.0, ap (λ (k : StoreView D). record { store = k; texts = old.texts }) a.1))
   lift_lines old (line ∷ lines) out new a =
       let one = lift_read old a.3.0 a.1 a.0 a.3.2 in
@@ -51,16 +51,16 @@ module _ {D : Type 0} (g : Ghosts D) where
       let rest = lift_lines mid lines a.2 new a.5 in
       (rest.0, (mid, a.1, a.2, (a.3.0, a.3.1, one.1), a.4, rest.1))
 
-  lift_end : (mid : Trace D) (new : StoreView D) → (new ≡ mid.store) ⊎ HasSettled (honest_stores g) mid.store new
-      → let last : Trace D = record { store = new; texts = mid.texts } in (last ≡ mid) ⊎ HasSettled (honest_traces g) mid last
+  lift_end : (mid : Trace D) (new : StoreView D) → (new ≡ mid.store) ⊎ HasSettled (stores_while_honest g) mid.store new
+      → let last : Trace D = record { store = new; texts = mid.texts } in (last ≡ mid) ⊎ HasSettled (traces_while_honest g) mid last
   lift_end mid new ends = ⊎_elim
       (λ same. inl (ap (λ (k : StoreView D). record { store = k; texts = mid.texts }) same))
       (λ settled. inr (settled.0, record { before = settled.1.before; did = λ here. (settled.1.did here, refl) }))
       ends
 
   -- the whole run
-  pub lift_run : (first : Trace D) {after : StoreView D} {end : ServeEnd} {io : Exchange} → Runs (honest_stores g) first.store after end io
-      → (texts : Texts) × Runs (honest_traces g) first (record { store = after; texts = texts }) end io
+  pub lift_run : (first : Trace D) {after : StoreView D} {end : ServeEnd} {io : Exchange} → RunsLines (stores_while_honest g) first.store after end io
+      → (texts : Texts) × RunsLines (traces_while_honest g) first (record { store = after; texts = texts }) end io
   lift_run first {after} run =
       let lines = lift_lines first run.ran run.out run.mid run.answered in
       let mid : Trace D = record { store = run.mid; texts = lines.0 } in (
@@ -80,8 +80,8 @@ module _ {D : Type 0} (g : Ghosts D) where
       )
 
   -- .. in which what was written is the same
-  pub lift_wrote : (first : Trace D) {after : StoreView D} {end : ServeEnd} {io : Exchange} → (run : RunsAndWrites (honest_stores g) first.store after end io)
-      → RunsAndWrites (honest_traces g) first (record { store = after; texts = (lift_run first run.0).0 }) end io
+  pub lift_wrote : (first : Trace D) {after : StoreView D} {end : ServeEnd} {io : Exchange} → (run : RunsAndWrites (stores_while_honest g) first.store after end io)
+      → RunsAndWrites (traces_while_honest g) first (record { store = after; texts = (lift_run first run.0).0 }) end io
   unfolding lift_run
   lift_wrote first run = ((lift_run first run.0).1, run.1)
 
@@ -219,7 +219,7 @@ module _ {D : Type 0} (g : Ghosts D) where
 
   -- What a crash leaves since each intermediate store of a run, and at its end.
   module _ (only_now : (disk : D) (image : Image) → g.honest disk → g.left_since disk (g.instant disk) image → AreImages (g.files disk) image)
-      {first last : Trace D} {end : ServeEnd} {io : Exchange} (run : Runs Sound first last end io)
+      {first last : Trace D} {end : ServeEnd} {io : Exchange} (run : RunsLines Sound first last end io)
       (honest_first : g.honest first.store.disk) (honest_last : g.honest last.store.disk) (rest : IsAtRest (g.files first.store.disk)) (disk : IsOnDisk first.store.session (contents (g.files first.store.disk)))
       (lists : Lists first.store.session first.texts) where
     course_to_last : Goes first last (Counts last first)
@@ -280,9 +280,9 @@ pub run_leaves : {D : Type 0} (g : Ghosts D)
     → ((disk : D) (image : Image) → g.honest disk → g.left_since disk (g.instant disk) image → AreImages (g.files disk) image)
     → (first : Trace D) (new : StoreView D) (end : ServeEnd) (io : Exchange) → g.honest new.disk → IsAtRest (g.files first.store.disk)
     → IsOnDisk first.store.session (contents (g.files first.store.disk)) → first.store.session.broken ≡ false → Lists first.store.session first.texts
-    → Runs (honest_stores g) first.store new end io
+    → RunsLines (stores_while_honest g) first.store new end io
     → (last : Trace D) × (last.store ≡ new) × Lists last.store.session last.texts
-    × Runs (honest_traces g) first last end io
+    × RunsLines (traces_while_honest g) first last end io
     × LeavesOnly (g.instant first.store.disk) (g.instant last.store.disk) (g.left_since first.store.disk) (g.left_since last.store.disk)
     (HoldsSince first.store.session (contents (g.files first.store.disk)) first last)
 run_leaves g only_now first new end io honestly rest disk sound lists run =

@@ -13,7 +13,7 @@ use Rattle.org_serve.specs.declared.fault.LineFault.{LineFault}
 use Rattle.org_serve.specs.declared.pending.Pending.{Pending}
 use Rattle.org_serve.specs.History.{Reaches}
 use Rattle.org_serve.specs.Lines.{cut}
-use Rattle.org_serve.specs.Serving.{Answers, AnswersRead, EndsBy, EndsWith, HasSettled, Runs, RunsSome, honest_stores, honest_traces, if_good}
+use Rattle.org_serve.specs.Serving.{Answers, AnswersRead, EndsBy, EndsWith, HasSettled, RunsLines, RunsSome, stores_while_honest, traces_while_honest, if_good}
 use Rattle.org_serve.proofs.Inputs.{Served}
 
 -- the same machine, where the state after each call is good
@@ -71,7 +71,7 @@ module _ {S : Type 0} (good : S → Type 0) (m : Machine S) where
   pub honest_some : (old new : S) (io : Exchange) → RunsSome Said old new io → good new → RunsSome Sound old new io
   honest_some old new io some here = (some.0, some.1, some.2, some.3, some.4, some.5, (honest_lines old some.1 some.3 new some.6 here).0)
 
-  abbrev pub honest_runs : {old new : S} {end : ServeEnd} {io : Exchange} → Runs Said old new end io → good new → Runs Sound old new end io × good old
+  abbrev pub honest_runs : {old new : S} {end : ServeEnd} {io : Exchange} → RunsLines Said old new end io → good new → RunsLines Sound old new end io × good old
   honest_runs {old} {new} run here =
       let ends = honest_last run.mid new run.ends here in
       let lines = honest_lines old run.ran run.out run.mid run.answered ends.1 in (
@@ -107,7 +107,7 @@ module _ {S : Type 0} (good : S → Type 0) (m : Machine S) where
       )
 
 -- The run up to an intermediate state, as one in which a write failed there.
-abbrev pub up_to : {S : Type 0} {m : Machine S} {first last : S} {end : ServeEnd} {io : Exchange} → (run : Runs m first last end io) (here : S) (way : Reaches m first run.ran run.out run.mid here) → Runs m first here Write io
+abbrev pub up_to : {S : Type 0} {m : Machine S} {first last : S} {end : ServeEnd} {io : Exchange} → (run : RunsLines m first last end io) (here : S) (way : Reaches m first run.ran run.out run.mid here) → RunsLines m first here Write io
 up_to run here way = record {
   input = run.input;
   ran = way.answered;
@@ -129,31 +129,31 @@ module _ {D : Type 0} (g : Ghosts D) where
   abbrev pub sound_traces : Machine (Trace D)
   sound_traces = and_good (λ trace. g.honest trace.store.disk) (traces g)
 
-  pub sound_served : {old new : StoreView D} {left left' written written' : Option (List ℕ)} {pending : Pending} → Served (honest_stores g) old new left left' written written' pending → g.honest new.disk
+  pub sound_served : {old new : StoreView D} {left left' written written' : Option (List ℕ)} {pending : Pending} → Served (stores_while_honest g) old new left left' written written' pending → g.honest new.disk
       → Served sound_stores old new left left' written written' pending
   sound_served s here = honest_served (λ (store : StoreView D). g.honest store.disk) (stores g) s here
 
-  pub sound_some : (old new : StoreView D) (io : Exchange) → RunsSome (honest_stores g) old new io → g.honest new.disk → RunsSome sound_stores old new io
+  pub sound_some : (old new : StoreView D) (io : Exchange) → RunsSome (stores_while_honest g) old new io → g.honest new.disk → RunsSome sound_stores old new io
   sound_some old new io some here = honest_some (λ (store : StoreView D). g.honest store.disk) (stores g) old new io some here
 
-  pub sound_end : (part : List ℕ) (old : StoreView D) (end : ServeEnd) (new : StoreView D) (output : Output) → EndsWith (honest_stores g) part old end new output → g.honest new.disk → EndsWith sound_stores part old end new output
+  pub sound_end : (part : List ℕ) (old : StoreView D) (end : ServeEnd) (new : StoreView D) (output : Output) → EndsWith (stores_while_honest g) part old end new output → g.honest new.disk → EndsWith sound_stores part old end new output
   sound_end part old end new output e here = honest_end (λ (store : StoreView D). g.honest store.disk) (stores g) part old end new output e here
 
-  pub sound_settled : (old new : StoreView D) → HasSettled (honest_stores g) old new → g.honest new.disk → HasSettled sound_stores old new
+  pub sound_settled : (old new : StoreView D) → HasSettled (stores_while_honest g) old new → g.honest new.disk → HasSettled sound_stores old new
   sound_settled old new settled here = (honest_settled (λ (store : StoreView D). g.honest store.disk) (stores g) old new settled here).0
 
-  pub sound_runs : {old new : StoreView D} {end : ServeEnd} {io : Exchange} → Runs (honest_stores g) old new end io → g.honest new.disk → Runs sound_stores old new end io
+  pub sound_runs : {old new : StoreView D} {end : ServeEnd} {io : Exchange} → RunsLines (stores_while_honest g) old new end io → g.honest new.disk → RunsLines sound_stores old new end io
   sound_runs run here = (honest_runs (λ (store : StoreView D). g.honest store.disk) (stores g) run here).0
 
-  abbrev pub sound_traced : {old new : Trace D} {end : ServeEnd} {io : Exchange} → Runs (honest_traces g) old new end io → g.honest new.store.disk → Runs sound_traces old new end io × g.honest old.store.disk
+  abbrev pub sound_traced : {old new : Trace D} {end : ServeEnd} {io : Exchange} → RunsLines (traces_while_honest g) old new end io → g.honest new.store.disk → RunsLines sound_traces old new end io × g.honest old.store.disk
   sound_traced run here = honest_runs (λ (trace : Trace D). g.honest trace.store.disk) (traces g) run here
 
-  pub sound_reaches : (old : Trace D) (lines : List (List ℕ)) (out : List ℕ) (new here : Trace D) → Reaches (honest_traces g) old lines out new here → g.honest new.store.disk → Reaches sound_traces old lines out new here
+  pub sound_reaches : (old : Trace D) (lines : List (List ℕ)) (out : List ℕ) (new here : Trace D) → Reaches (traces_while_honest g) old lines out new here → g.honest new.store.disk → Reaches sound_traces old lines out new here
   sound_reaches old lines out new here reaches honestly = (honest_reaches (λ (trace : Trace D). g.honest trace.store.disk) (traces g) old lines out new here reaches honestly).0
 
   -- the store before the settling at the end
-  pub sound_last : (mid new : Trace D) → (new ≡ mid) ⊎ HasSettled (honest_traces g) mid new → g.honest new.store.disk → g.honest mid.store.disk
+  pub sound_last : (mid new : Trace D) → (new ≡ mid) ⊎ HasSettled (traces_while_honest g) mid new → g.honest new.store.disk → g.honest mid.store.disk
   sound_last mid new ends here = (honest_last (λ (trace : Trace D). g.honest trace.store.disk) (traces g) mid new ends here).1
 
-  pub sound_lines : (old : Trace D) (lines : List (List ℕ)) (out : List ℕ) (new : Trace D) → Answers (honest_traces g) old lines out new → g.honest new.store.disk → Answers sound_traces old lines out new × g.honest old.store.disk
+  pub sound_lines : (old : Trace D) (lines : List (List ℕ)) (out : List ℕ) (new : Trace D) → Answers (traces_while_honest g) old lines out new → g.honest new.store.disk → Answers sound_traces old lines out new × g.honest old.store.disk
   sound_lines old lines out new a here = honest_lines (λ (trace : Trace D). g.honest trace.store.disk) (traces g) old lines out new a here

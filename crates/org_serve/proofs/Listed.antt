@@ -33,7 +33,7 @@ use Rattle.org_serve.specs.Pipes.{Exchange}
 use Rattle.org_serve.specs.declared.end.ServeEnd.{ServeEnd}
 use Rattle.org_serve.specs.declared.fault.LineFault.{LineFault}
 use Rattle.org_serve.specs.History.{OnlyRefiles}
-use Rattle.org_serve.specs.Serving.{Answers, AnswersRead, IsReadAs, Runs, honest_traces}
+use Rattle.org_serve.specs.Serving.{Answers, AnswersRead, IsReadAs, RunsLines, traces_while_honest}
 use Rattle.org_serve.specs.Whole.{ServesOver, IsIntermediate}
 use Rattle.org_serve.proofs.Honest.{sound_traced, sound_traces, up_to}
 use Rattle.org_serve.proofs.Opened.{lists_first}
@@ -93,7 +93,7 @@ module _ (names : List (List ℕ)) (Q : List (List ℕ) → Type 0) (Allowed : L
     each_lines old new (line ∷ lines) out allowed a each = each_lines a.0 new lines a.2 allowed.1 a.5 (each_read old line a.3.0 a.1 a.0 allowed.0 a.3.1 a.3.2 each)
 
     pub each_run : {first last : Trace D} {end : ServeEnd} {io : Exchange}
-        (run : Runs (sound_traces g) first last end io)
+        (run : RunsLines (sound_traces g) first last end io)
         → AllByRecursion Allowed run.ran → Each first.store.session first.texts → All Q last.texts
     each_run {first} run allowed each =
         let all = (each_lines first run.mid run.ran run.out allowed run.answered each).all in
@@ -139,7 +139,7 @@ line_keeps names base apart s line command files same only read kept accepts = �
 
 -- a run of a store that has such a list as it begins
 module _ {D : Type 0} (g : Ghosts D) (given : List (List ℕ)) (first last : Trace D) {end : ServeEnd}
-    {io : Exchange} (run : Runs (honest_traces g) first last end io)
+    {io : Exchange} (run : RunsLines (traces_while_honest g) first last end io)
     (of : IsSessionOf given first.store.session) (lists : Lists first.store.session first.texts) (small : All (AreSmall first.store.session.names) first.texts) (honestly : g.honest last.store.disk)
     (others image : Image) (least : ℕ) where
   abbrev names : List (List ℕ)

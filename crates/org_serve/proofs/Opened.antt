@@ -28,7 +28,7 @@ use Rattle.org_serve.specs.declared.end.ServeEnd.{ServeEnd}
 use Rattle.org_serve.specs.declared.end.ServeEnd.TheVariants.{End, Device, Read, Write}
 use Rattle.org_store.specs.History.{Trace, Lists}
 use Rattle.org_serve.specs.History.{Reaches}
-use Rattle.org_serve.specs.Serving.{EndsBy, Finishes, Runs, RunsAndWrites, Serves, end_of, honest_stores}
+use Rattle.org_serve.specs.Serving.{EndsBy, Finishes, RunsLines, RunsAndWrites, Serves, end_of, stores_while_honest}
 use Rattle.org_serve.specs.Whole.{Begins, ServesOver, ServesDisk, HoldsServed, IsForeign, IsIntermediate, IsIntermediateTo, IsDurable}
 use Rattle.org_serve.proofs.Foreign.{leaves_foreign}
 use Rattle.org_serve.proofs.History.{at_first, lift_run, lift_wrote, session_of_traced, since, whole_prefix}
@@ -69,7 +69,7 @@ module _ {D : Type 0} (g : Ghosts D) (setup : Setup) (disk : D) (store begun : S
       → (g.honest begun.disk → g.honest disk) → (g.honest begun.disk → IsReopened (g.files disk) (g.files begun.disk))
       → store.dirty ≡ [] → (g.honest begun.disk → LeavesAlone g (IsUnconcerned (contents (g.files disk) journal_name)) disk begun.disk)
       → {end : ServeEnd} {io : Exchange} (after : StoreView D) (now : D) → now ≡ after.disk
-      → (ran : RunsAndWrites (honest_stores g) begun after end io)
+      → (ran : RunsAndWrites (stores_while_honest g) begun after end io)
       → (g.honest now → Serves begun.session end after.session io)
       → ServesOver g setup disk now end io
   serves few sorted sized began reopened dirty_files alone after now given_up run told =
@@ -150,7 +150,7 @@ module _ {D : Type 0} {g : Ghosts D}
 
   -- What a crash leaves of a run up to one store, over a disk that is honest there, where the
   -- opening left it at rest.
-  module _ (later : Trace D) {crashes : ServeEnd} (run : Runs (sound_traces g) served.first later crashes io) (began : g.honest served.first.store.disk) (honestly : g.honest later.store.disk)
+  module _ (later : Trace D) {crashes : ServeEnd} (run : RunsLines (sound_traces g) served.first later crashes io) (began : g.honest served.first.store.disk) (honestly : g.honest later.store.disk)
       (rest : IsAtRest (g.files served.first.store.disk)) where
     since_in : (here : Trace D) → Reaches (sound_traces g) served.first run.ran run.out run.mid here ⊎ (here ≡ later) → here.store.session.broken ≡ false
         → LeavesOnly (g.instant here.store.disk) (g.instant later.store.disk) (g.left_since here.store.disk) (g.left_since later.store.disk) (HoldsServed served here later)
@@ -268,7 +268,7 @@ module _ {D : Type 0} (g : Ghosts D)
       → (g.honest begun.disk → g.honest disk) → (g.honest begun.disk → IsReopened (g.files disk) (g.files begun.disk))
       → store.dirty ≡ [] → (g.honest begun.disk → LeavesAlone g (IsUnconcerned (contents (g.files disk) journal_name)) disk begun.disk)
       → {end : ServeEnd} {io : Exchange} (after : StoreView D) (now : D) → now ≡ after.disk
-      → (ran : RunsAndWrites (honest_stores g) begun after end io)
+      → (ran : RunsAndWrites (stores_while_honest g) begun after end io)
       → (g.honest now → Serves begun.session end after.session io)
       → (IsRecoverable (g.files disk) → EachRecovers (g.files disk) → g.honest begun.disk → LeavesOnly (g.instant disk) (g.instant begun.disk) (g.left_since disk) (g.left_since begun.disk) (RecoversAsBefore (g.files disk)))
       → (IsTrue after.session.broken → HasRisen (g.failures disk) (g.failures now)) × (IsFalse after.session.broken → g.failures now ≡ g.failures disk)

@@ -20,7 +20,7 @@ use Rattle.org_serve.specs.Pipes.{Exchange}
 use Rattle.org_serve.specs.declared.end.ServeEnd.{ServeEnd}
 use Rattle.org_store.specs.History.{Trace}
 use Rattle.org_serve.specs.Syncing.{AreSynced, IsNotStored, OutsideStable, IsAsFound, IsSyncFault, stored}
-use Rattle.org_serve.specs.Whole.{ServesOver, BreaksByCount, IsForeign, IsIntermediate, IsIntermediateTo, IsDurable, DurableFrom, LeavesDiskAtEnd, LeavesSyncedDisk}
+use Rattle.org_serve.specs.Whole.{ServesOver, BreaksByCount, IsForeign, IsIntermediate, IsIntermediateTo, IsDurable, DurableFrom, LeavesDiskOfRun, LeavesSyncedDisk}
 use Rattle.org_serve.proofs.Foreign.{synced_alone}
 use Rattle.org_serve.proofs.Honest.{sound_traced, up_to}
 use Rattle.org_serve.proofs.Syncs.{all_images, each_image, some_or_none, still_recoverable, still_recovers, still_outside, as_at_first, as_read, now_recoverable, now_recovers, some_recovers}
@@ -182,8 +182,8 @@ module _ {D : Type 0} (g : Ghosts D)
         (λ h image before. let m = served.began h in inr (as_read (g.files disk) (g.files mid) (own m) (images m) setup.names.items (synced m) outside image before))
 
   -- what is setup.names.items back of a run behind the syncs
-  module _ {now : D} {end : Result ServeEnd OpenFault} (h : g.honest mid) (later : LeavesDiskAtEnd g setup mid now end) where
-    still_leaves_disk : LeavesDiskAtEnd g setup disk now end
+  module _ {now : D} {end : Result ServeEnd OpenFault} (h : g.honest mid) (later : LeavesDiskOfRun g setup mid now end) where
+    still_leaves_disk : LeavesDiskOfRun g setup disk now end
     still_leaves_disk = record {
       unopened = λ fit each. if_err end (λ fault left. leaves_behind (time h) left (as_before (g.files disk) each) (as_at_first (g.files disk) (g.files mid) (own h) (images h)))
           (later.unopened (still_recoverable (g.files disk) (g.files mid) (own h) (images h) fit) (still_recovers (g.files disk) (g.files mid) (own h) (images h) each));

@@ -43,12 +43,13 @@ if_good good m =
       makes = λ old call new. IfGood good old new (m.makes old call new);
     }
 
--- stores over a disk, and these with their traces: said where the disk is honest after the call
-abbrev pub honest_stores : {D : Type 0} → Ghosts D → Machine (StoreView D)
-honest_stores g = if_good (λ store. g.honest store.disk) (stores g)
+-- The machine of the stores over a disk, and of these with their traces: what a call did is said
+-- where the disk is honest after it.
+abbrev pub stores_while_honest : {D : Type 0} → Ghosts D → Machine (StoreView D)
+stores_while_honest g = if_good (λ store. g.honest store.disk) (stores g)
 
-abbrev pub honest_traces : {D : Type 0} → Ghosts D → Machine (Trace D)
-honest_traces g = if_good (λ trace. g.honest trace.store.disk) (traces g)
+abbrev pub traces_while_honest : {D : Type 0} → Ghosts D → Machine (Trace D)
+traces_while_honest g = if_good (λ trace. g.honest trace.store.disk) (traces g)
 
 -- One line.
 
@@ -120,7 +121,7 @@ pub record EndsLine {D W A E : Type 0} (g : Ghosts D) (w : sinks.Ghosts W) (pend
     : Type 0 where
   pub step : (part : List ℕ) → Stands pending part
       → (out : List ℕ)
-      × AnswersLine (honest_stores g) old (part ++ last) out new
+      × AnswersLine (stores_while_honest g) old (part ++ last) out new
       × Writes w writer writer' result out
   pub counts : CountsFailure w writer writer' result
   -- a store that was broken is left
@@ -143,11 +144,11 @@ end_of (Err fault) = Unsettled
 
 -- A store is broken where serving ends with Device, and isn't where the input was read to its end
 -- and it ends otherwise.
-abbrev pub EndsBroken : ServeEnd → Session → Type 0
-EndsBroken End new = IsFalse new.broken
-EndsBroken Unsettled new = IsFalse new.broken
-EndsBroken Device new = IsTrue new.broken
-EndsBroken end new = Unit {0}
+abbrev pub EndSaysBroken : ServeEnd → Session → Type 0
+EndSaysBroken End new = IsFalse new.broken
+EndSaysBroken Unsettled new = IsFalse new.broken
+EndSaysBroken Device new = IsTrue new.broken
+EndSaysBroken end new = Unit {0}
 
 -- the settling was made, with whatever answer
 abbrev pub HasSettled : {S : Type 0} → Machine S → S → S → Type 0
@@ -240,7 +241,7 @@ pub record Serves (old : Session) (end : ServeEnd) (new : Session) (io : Exchang
 
 -- Some of the lines of what was read, from the first on, were run, and then the settling was made
 -- or wasn't. Unless a write failed, what was written begins with the replies to these lines.
-pub record Runs {S : Type 0} (m : Machine S) (old new : S) (end : ServeEnd) (io : Exchange)
+pub record RunsLines {S : Type 0} (m : Machine S) (old new : S) (end : ServeEnd) (io : Exchange)
     : Type 0 where
   pub input : List ℕ
   pub ran : List (List ℕ)
@@ -263,10 +264,11 @@ WritesSome input others out acknowledged output =
     × EndsText (cut input).rest acknowledged text
     × AddsSome output (out ++ text))
 
--- .. and where one ended it, what it had written
+-- Some lines were run, then perhaps the settling; where a write failed, what was written begins
+-- their answers.
 abbrev pub RunsAndWrites : {S : Type 0} → Machine S → S → S → ServeEnd → Exchange → Type 0
 RunsAndWrites m old new end io =
-    (run : Runs m old new end io)
+    (run : RunsLines m old new end io)
     × (end ≡ Write
     → WritesSome run.input run.others run.out (m.session new).acknowledged (output_of io))
 
@@ -274,7 +276,7 @@ RunsAndWrites m old new end io =
 -- and at rest again where the store isn't broken then; in that case the store's files have the
 -- texts that are settled, where they had them before, and all others are as they were. A store that
 -- was broken leaves it as it is.
-pub record KeepsDisk {D : Type 0} (files : D → List ℕ → FileState) (old new : StoreView D)
+pub record LeavesServedDisk {D : Type 0} (files : D → List ℕ → FileState) (old new : StoreView D)
     : Type 0 where
   pub recoverable : IsAtRest (files old.disk) → IsRecoverable (files new.disk)
   pub rest : IsFalse new.session.broken → IsAtRest (files old.disk) → IsAtRest (files new.disk)

@@ -22,7 +22,7 @@ use Rattle.org_serve.specs.declared.end.ServeEnd.TheVariants.{End, Unsettled, De
 use Rattle.org_serve.specs.declared.whole.Setup.{Setup}
 use Rattle.org_serve.specs.History.{HoldsSince, Reaches}
 use Rattle.org_serve.specs.Pipes.{EndsForCause, Exchange, output_of}
-use Rattle.org_serve.specs.Serving.{Answers, Runs, Serves, WritesSome, honest_traces}
+use Rattle.org_serve.specs.Serving.{Answers, RunsLines, Serves, WritesSome, traces_while_honest}
 use Rattle.org_serve.specs.Syncing.{IsNotStored, OutsideStable, IsAsFound}
 
 -- The session of a store that was just opened over these files, as it was set up: it has the given
@@ -66,7 +66,7 @@ pub record ServesOver {D : Type 0} (g : Ghosts D) (setup : Setup) (disk now : D)
   -- files that are none of the run's were left alone
   pub alone : g.honest first.store.disk
       → LeavesAlone g (IsForeignTo g setup disk) disk first.store.disk
-  pub run : Runs (honest_traces g) first last end io
+  pub run : RunsLines (traces_while_honest g) first last end io
   pub given_up : now ≡ last.store.disk
   -- where a write or a flush failed, what was written begins the replies to the lines that were
   -- run, and what is written at the end
@@ -74,7 +74,7 @@ pub record ServesOver {D : Type 0} (g : Ghosts D) (setup : Setup) (disk now : D)
       → WritesSome run.input run.others run.out last.store.session.acknowledged (output_of io)
   -- the lines that an intermediate store had answered, and their replies
   pub so_far : (here : Trace D)
-      → (way : Reaches (honest_traces g) first run.ran run.out run.mid here)
+      → (way : Reaches (traces_while_honest g) first run.ran run.out run.mid here)
       → g.honest here.store.disk
       → Answers model first.store.session way.answered way.written here.store.session
   pub serves : g.honest now → Serves first.store.session end last.store.session io
@@ -93,15 +93,15 @@ module _ {D : Type 0} {g : Ghosts D} {setup : Setup} {disk now : D} {end : Serve
   -- its end
   abbrev pub IsIntermediate : Trace D → Type 0
   IsIntermediate here =
-      Reaches (honest_traces g) served.first served.run.ran served.run.out served.run.mid here
+      Reaches (traces_while_honest g) served.first served.run.ran served.run.out served.run.mid here
       ⊎ (here ≡ served.last)
 
   -- an intermediate store before another one
   abbrev pub IsIntermediateTo : Trace D → Trace D → Type 0
   IsIntermediateTo here later =
-      ((way : Reaches (honest_traces g) served.first
+      ((way : Reaches (traces_while_honest g) served.first
       served.run.ran served.run.out served.run.mid later)
-      × Reaches (honest_traces g) served.first way.answered way.written later here)
+      × Reaches (traces_while_honest g) served.first way.answered way.written later here)
       ⊎ ((later ≡ served.last) × IsIntermediate here)
 
   -- Up to each intermediate store over a disk that is honest there, files that are none of the run's
@@ -159,7 +159,7 @@ pub record ServesSynced {D : Type 0} (g : Ghosts D) (setup : Setup) (disk now : 
 
 -- What a run makes of a disk that is honest at the end: `disk` is what it was given, and `now` what
 -- it gives back.
-pub record LeavesDiskAtEnd {D : Type 0} (g : Ghosts D) (setup : Setup) (disk now : D)
+pub record LeavesDiskOfRun {D : Type 0} (g : Ghosts D) (setup : Setup) (disk now : D)
     (end : Result ServeEnd OpenFault) : Type 0 where
   -- where the opening is refused, on a recoverable disk of which each image recovers to files, a
   -- crash leaves what recovers to these
@@ -184,7 +184,7 @@ pub record LeavesDiskAtEnd {D : Type 0} (g : Ghosts D) (setup : Setup) (disk now
 pub record LeavesSyncedDisk {D : Type 0} (g : Ghosts D) (setup : Setup) (disk now : D)
     (end : Result ServeEnd OpenFault) : Type 0 where
   -- whatever is on the disk at first
-  pub leaves_disk : LeavesDiskAtEnd g setup disk now end
+  pub leaves_disk : LeavesDiskOfRun g setup disk now end
   -- where the opening is refused, a crash leaves the files as they were found, or what recovers to
   -- what they read as
   pub unopened_as_found : OutsideStable setup.names.items (g.files disk)
@@ -197,12 +197,12 @@ pub record LeavesSyncedDisk {D : Type 0} (g : Ghosts D) (setup : Setup) (disk no
 
 -- The disk failed in a run that ended so: the fault of the opening tells it, or the end. An end
 -- with a failed read or write tells nothing of the disk.
-abbrev pub HasFailed : Result ServeEnd OpenFault → ℕ → ℕ → Type 0
-HasFailed (Err fault) before now = fault ≡ open_fault.Device
-HasFailed (Ok Device) before now = Unit {0}
-HasFailed (Ok Read) before now = HasRisen before now
-HasFailed (Ok Write) before now = HasRisen before now
-HasFailed (Ok end) before now = ⊥
+abbrev pub SaysFailure : Result ServeEnd OpenFault → ℕ → ℕ → Type 0
+SaysFailure (Err fault) before now = fault ≡ open_fault.Device
+SaysFailure (Ok Device) before now = Unit {0}
+SaysFailure (Ok Read) before now = HasRisen before now
+SaysFailure (Ok Write) before now = HasRisen before now
+SaysFailure (Ok end) before now = ⊥
 
 -- All that is said of a run that syncs the store's files before it opens the store, in at most this
 -- many reads.
@@ -213,4 +213,4 @@ pub record RunsSynced {D : Type 0} (g : Ghosts D) (setup : Setup) (turns : ℕ) 
   pub refused : IfErr end (IsRefusedFor g setup.names.items disk now)
   pub unserved : IfErr end (λ _. io.after ≡ io.before)
   pub causes : EndsForCause turns end io
-  pub accounts : Accounts g disk now (HasFailed end (g.failures disk) (g.failures now))
+  pub accounts : Accounts g disk now (SaysFailure end (g.failures disk) (g.failures now))

@@ -23,7 +23,7 @@ ghost use Rattle.org_commands.specs.Session.{Session, StoreView};
 ghost use Rattle.org_commands.specs.Step.{Step};
 ghost use Rattle.org_serve.specs.History.{HoldsSince, OnlyRefiles};
 ghost use Rattle.org_serve.specs.declared.end.ServeEnd.{ServeEnd};
-ghost use Rattle.org_serve.specs.Serving.{Runs, honest_stores, honest_traces};
+ghost use Rattle.org_serve.specs.Serving.{RunsLines, stores_while_honest, traces_while_honest};
 ghost use Rattle.org_serve.specs.Pipes.{Exchange};
 ghost use Rattle.org_serve.specs.Whole.{IsIntermediate, ServesOver};
 ghost use Rattle.org_serve.specs.declared.whole.Setup.{Setup};
@@ -82,9 +82,9 @@ pub fn crashes_leave_a_prefix<D: Disk>()
         → RestsOn D.Disk first.store.disk
         → IsOnDisk first.store.session (files_on D.Disk first.store.disk)
         → IsFalse first.store.session.broken → Lists first.store.session first.texts
-        → Runs (honest_stores D.Disk) first.store new end io
+        → RunsLines (stores_while_honest D.Disk) first.store new end io
         → (last : Trace D) × (last.store ≡ new) × Lists last.store.session last.texts
-        × Runs (honest_traces D.Disk) first last end io
+        × RunsLines (traces_while_honest D.Disk) first last end io
         × LeavesOver D.Disk first.store.disk last.store.disk
         (HoldsSince first.store.session (files_on D.Disk first.store.disk) first last) }
     // such an image recovers to a prefix that has all commands that were acknowledged then
@@ -102,7 +102,7 @@ pub fn every_image_opens<D: Disk>()
         → AreFew given → IsSessionOf given first.store.session
         → Lists first.store.session first.texts
         → All (AreSmall first.store.session.names) first.texts → D.honest last.store.disk
-        → Runs (honest_traces D.Disk) first last end io
+        → RunsLines (traces_while_honest D.Disk) first last end io
         → HoldsPrefix first.store.session others last.texts least image → IsOpenable given image }
     // `IsDurable` of `serve_disk`, behind the opening
     ensures whole { (setup : Setup) (disk now : D) (end : ServeEnd) (io : Exchange)
@@ -120,13 +120,13 @@ pub fn every_image_opens<D: Disk>()
 pub fn only_own_files_are_written<D: Disk>()
     ensures alone { (first last : Trace D) (end : ServeEnd) (io : Exchange)
         → AreNames first.store.session.names first.store.dirty → D.honest last.store.disk
-        → Runs (honest_traces D.Disk) first last end io
+        → RunsLines (traces_while_honest D.Disk) first last end io
         → LeavesAlone D.Disk (IsApart first.store.session.names)
         first.store.disk last.store.disk }
     // so it goes on
     ensures dirty_files { (first last : Trace D) (end : ServeEnd) (io : Exchange)
         → AreNames first.store.session.names first.store.dirty → D.honest last.store.disk
-        → Runs (honest_traces D.Disk) first last end io
+        → RunsLines (traces_while_honest D.Disk) first last end io
         → (last.store.session.names ≡ first.store.session.names)
         × AreNames last.store.session.names last.store.dirty }
 {}
@@ -141,14 +141,14 @@ pub fn one_place<D: Disk>()
         (io : Exchange) (others image : Image) (least : ℕ)
         → IsSessionOf given first.store.session → Lists first.store.session first.texts
         → All (AreSmall first.store.session.names) first.texts → D.honest last.store.disk
-        → Runs (honest_traces D.Disk) first last end io
+        → RunsLines (traces_while_honest D.Disk) first last end io
         → HoldsPrefix first.store.session others last.texts least image
         → HasNodesOfPrefix first.store.session.names last.texts least image }
     ensures refiles { (given : List (List ℕ)) (first last : Trace D) (end : ServeEnd)
         (io : Exchange) (others image : Image) (least : ℕ)
         → IsSessionOf given first.store.session → Lists first.store.session first.texts
         → All (AreSmall first.store.session.names) first.texts → D.honest last.store.disk
-        → (run : Runs (honest_traces D.Disk) first last end io)
+        → (run : RunsLines (traces_while_honest D.Disk) first last end io)
         → All OnlyRefiles run.ran
         → All (λ texts. HaveSameNodes texts first.store.session.files) first.texts
         → HoldsPrefix first.store.session others last.texts least image

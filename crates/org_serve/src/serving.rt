@@ -9,7 +9,7 @@ ghost use Rattle.org_commands.specs.declared.command.RunFault.{RunFault};
 ghost use Rattle.org_serve.specs.Lines.{cut, Stands};
 ghost use Rattle.org_serve.specs.Pipes.{Adds, AddsSome, EndsForCause};
 ghost use Rattle.org_serve.specs.Replies.{settled_text};
-ghost use Rattle.org_serve.specs.Serving.{AnswersRead, AnswersRest, EndsBroken, EndsLine, EndsText, EndsWith, Feeds, Finishes, HasBroken, HasSettled, IsReadAs, KeepsDisk, RunsAndWrites, Serves, end_of, honest_stores};
+ghost use Rattle.org_serve.specs.Serving.{AnswersRead, AnswersRest, EndSaysBroken, EndsLine, EndsText, EndsWith, Feeds, Finishes, HasBroken, HasSettled, IsReadAs, LeavesServedDisk, RunsAndWrites, Serves, end_of, stores_while_honest};
 ghost use Rattle.org_serve.specs.Writes.{CountsFailure, Writes, exchange, output};
 
 use crate::end::ServeEnd;
@@ -32,8 +32,9 @@ const PIECE: usize = 4096;
 ///
 /// Where it ends with `End`, `Unsettled` or `Device`, and the disk is honest then, the input was
 /// read to its end, and what was written is its transcript. It ends with `Read` where a read
-/// failed, and else only where the turns are used up: the lines that were read whole are answered
-/// then, and where no read failed each gave bytes, so the end of the input wasn't met. It ends with
+/// failed, and else only where the turns are used up: where the disk is honest then, the lines that
+/// were read whole are answered, and where no read failed each gave bytes, so the end of the input
+/// wasn't met. It ends with
 /// `Write` exactly where a write or a flush failed: of the lines some, from the first on, were run
 /// then, and what was written begins their replies, or is all of them and the beginning of what is
 /// written at the end. One failure is counted in either case, so neither reader nor writer is
@@ -54,12 +55,12 @@ pub fn serve<D: Disk, R: Source, W: Sink>(
 ) -> ServeEnd
     ensures did { D.honest store.new.disk → Serves store.old.session result store.new.session
         (exchange R.Source W.Sink reader.old reader.new writer.old writer.new)
-        × KeepsDisk D.files store.old store.new }
+        × LeavesServedDisk D.files store.old store.new }
     ensures causes { EndsForCause turns (Ok result)
         (exchange R.Source W.Sink reader.old reader.new writer.old writer.new) }
-    ensures calls { RunsAndWrites (honest_stores D.Disk) store.old store.new result
+    ensures calls { RunsAndWrites (stores_while_honest D.Disk) store.old store.new result
         (exchange R.Source W.Sink reader.old reader.new writer.old writer.new) }
-    ensures broken { EndsBroken result store.new.session }
+    ensures broken { EndSaysBroken result store.new.session }
     ensures untouched { IsTrue store.old.session.broken → store.new ≡ store.old }
     ensures accounts { Accounts D.Disk store.old.disk store.new.disk
         (HasBroken store.old.session store.new.session) }
@@ -88,7 +89,7 @@ fn feed<D: Disk, W: Sink>(
     writer: &mut W,
 ) -> Result<(), PipeFault>
     ensures fed { (part : List ℕ) → (cut part).lines ≡ [] → Stands pending.old part
-        → Feeds (honest_stores D.Disk) store.old (part ++ piece.now) store.new
+        → Feeds (stores_while_honest D.Disk) store.old (part ++ piece.now) store.new
         (output W.Sink writer.old writer.new) pending.new result }
     ensures counts { CountsFailure W.Sink writer.old writer.new result }
     ensures untouched { IsTrue store.old.session.broken → store.new ≡ store.old }
@@ -166,7 +167,7 @@ fn answer_read<D: Disk, W: Sink>(
     writer: &mut W,
 ) -> Result<(), PipeFault>
     ensures step { (out : List ℕ)
-        × AnswersRead (honest_stores D.Disk) store.old read.now out store.new
+        × AnswersRead (stores_while_honest D.Disk) store.old read.now out store.new
         × Writes W.Sink writer.old writer.new result out }
     ensures untouched { IsTrue store.old.session.broken → store.new ≡ store.old }
     ensures accounts { Accounts D.Disk store.old.disk store.new.disk
@@ -187,15 +188,15 @@ fn finish<D: Disk, W: Sink>(store: &mut Store<D>, pending: &Pending, writer: &mu
     ensures never { result ≢ ServeEnd.Read }
     ensures told { result ≢ ServeEnd.Write → (W.failures writer.new ≡ W.failures writer.old)
         × ((part : List ℕ) → Stands pending.now part
-        → EndsWith (honest_stores D.Disk) part store.old result store.new
+        → EndsWith (stores_while_honest D.Disk) part store.old result store.new
         (output W.Sink writer.old writer.new)) }
     ensures write { result ≡ ServeEnd.Write → ((store.new ≡ store.old)
-        ⊎ HasSettled (honest_stores D.Disk) store.old store.new)
+        ⊎ HasSettled (stores_while_honest D.Disk) store.old store.new)
         × IsCounted (W.failures writer.old) (W.failures writer.new)
         × ((part : List ℕ) → Stands pending.now part
         → (text : List ℕ) × EndsText part store.new.session.acknowledged text
         × AddsSome (output W.Sink writer.old writer.new) text) }
-    ensures broken { EndsBroken result store.new.session }
+    ensures broken { EndSaysBroken result store.new.session }
     ensures untouched { IsTrue store.old.session.broken → store.new ≡ store.old }
     ensures accounts { Accounts D.Disk store.old.disk store.new.disk
         (HasBroken store.old.session store.new.session) }
@@ -224,15 +225,15 @@ fn settle<D: Disk, W: Sink>(store: &mut Store<D>, writer: &mut W) -> ServeEnd
     ensures never { result ≢ ServeEnd.Read }
     ensures told { result ≢ ServeEnd.Write → (W.failures writer.new ≡ W.failures writer.old)
         × (tail : List ℕ)
-        × Finishes (honest_stores D.Disk) store.old result tail store.new
+        × Finishes (stores_while_honest D.Disk) store.old result tail store.new
         × Adds (output W.Sink writer.old writer.new) tail }
     ensures write { result ≡ ServeEnd.Write
-        → HasSettled (honest_stores D.Disk) store.old store.new
+        → HasSettled (stores_while_honest D.Disk) store.old store.new
         × IsCounted (W.failures writer.old) (W.failures writer.new)
         × (answer : Result (Unit {0}) RunFault)
         × AddsSome (output W.Sink writer.old writer.new)
         (settled_text answer store.new.session.acknowledged) }
-    ensures broken { EndsBroken result store.new.session }
+    ensures broken { EndSaysBroken result store.new.session }
     ensures untouched { IsTrue store.old.session.broken → store.new ≡ store.old }
     ensures accounts { Accounts D.Disk store.old.disk store.new.disk
         (HasBroken store.old.session store.new.session) }

@@ -4,8 +4,8 @@ ghost use Rattle.org_disk.specs.Accounts.{Accounts};
 ghost use Rattle.org_disk.specs.Names.{IsOrgFile};
 ghost use Rattle.org_fileset.specs.Opening.{IsRefusedFor};
 ghost use Rattle.org_serve.specs.Pipes.{EndsForCause};
-ghost use Rattle.org_store.specs.Group.{IsGroup};
-ghost use Rattle.org_serve.specs.Whole.{LeavesDiskAtEnd, HasFailed, RunsSynced, ServesDisk};
+ghost use Rattle.org_store.specs.Group.{IsGroupSize};
+ghost use Rattle.org_serve.specs.Whole.{LeavesDiskOfRun, SaysFailure, RunsSynced, ServesDisk};
 ghost use Rattle.org_serve.specs.Writes.{exchange};
 
 use crate::end::ServeEnd;
@@ -39,13 +39,13 @@ pub struct Served<D> {
 }
 
 /// Opens a store over the files of a disk, answers the lines of a reader by it as `serve` does, and
-/// gives the disk back. It hands on each intermediate store with one list: the texts of all files
-/// as they were opened, and after each accepted command.
+/// gives the disk back. For proofs alone there is each intermediate store, and one list: the texts
+/// of all files as they were opened, and after each accepted command.
 ///
 /// What is said of a step is said where the disk is honest after it: a wrong answer later takes
-/// nothing from it. So are, up to each intermediate store, the replies to the lines so far the
-/// model's; and an opening finishes what a crash had cut short, and leaves a journal whose gate is
-/// closed as it is.
+/// nothing from it. Up to each intermediate store the replies to the lines so far are the model's.
+/// An opening finishes what a crash had cut short, and leaves a journal whose gate is closed as it
+/// is.
 ///
 /// On a disk that is recoverable, of which each image recovers to files, every image at every
 /// moment since the call began, up to an intermediate store, recovers to what an image at the start
@@ -76,19 +76,19 @@ pub fn serve_disk<D: Disk, R: Source, W: Sink>(
     turns: u64,
 ) -> Served<D>
     requires names { All IsOrgFile setup.names.items }
-    requires group { IsGroup setup.group }
+    requires group { IsGroupSize setup.group }
     ensures served { IfOk result.end (λ end. ServesDisk D.Disk setup disk result.disk end
         (exchange R.Source W.Sink reader.old reader.new writer.old writer.new)) }
     ensures disk { D.honest result.disk →
-        LeavesDiskAtEnd D.Disk setup disk result.disk result.end }
+        LeavesDiskOfRun D.Disk setup disk result.disk result.end }
     ensures refused { IfErr result.end
-        (IsRefusedFor D.Disk setup.names.items disk result.disk) }
+        (λ fault. IsRefusedFor D.Disk setup.names.items disk result.disk fault) }
     ensures unserved { IfErr result.end (λ _. (reader.new ≡ reader.old)
         × (writer.new ≡ writer.old)) }
     ensures causes { EndsForCause turns result.end
         (exchange R.Source W.Sink reader.old reader.new writer.old writer.new) }
     ensures accounts { Accounts D.Disk disk result.disk
-        (HasFailed result.end (D.failures disk) (D.failures result.disk)) }
+        (SaysFailure result.end (D.failures disk) (D.failures result.disk)) }
 {
     let Setup {
         names,
@@ -133,7 +133,7 @@ pub fn serve_synced<D: Disk, R: Source, W: Sink>(
     turns: u64,
 ) -> Served<D>
     requires names { All IsOrgFile setup.names.items }
-    requires group { IsGroup setup.group }
+    requires group { IsGroupSize setup.group }
     ensures runs { RunsSynced D.Disk setup turns disk result.disk result.end
         (exchange R.Source W.Sink reader.old reader.new writer.old writer.new) }
     ensures unserved { IfErr result.end (λ _. (reader.new ≡ reader.old)

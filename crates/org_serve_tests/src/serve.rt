@@ -4,7 +4,7 @@
 //! is dropped there, which the function's proof would have to follow.
 ghost use Rattle.std.specs.Prelude.{All};
 ghost use Rattle.org_disk.specs.Names.{IsOrgFile};
-ghost use Rattle.org_store.specs.Group.{IsGroup};
+ghost use Rattle.org_store.specs.Group.{IsGroupSize};
 
 pub mod crashes;
 mod failures;
@@ -34,7 +34,7 @@ struct Ended<D> {
 // A store of a.org, of b.org and of inbox.org, which is absent, in groups of this size.
 fn setup(rt: &(impl Abort + AllocGlobal), group: u32) -> Setup
     ensures names { All IsOrgFile result.names.items }
-    ensures group { IsGroup result.group }
+    ensures group { IsGroupSize result.group }
 {
     assert!(rt; group > 0 && group <= 1_000);
     Setup {

@@ -1,5 +1,5 @@
 -- Texts under edit: what takes each edit back is kept beside the text.
-use Rattle.std.specs.Prelude.{◌≤◌, ◌+◌, ◌-◌, ℕ, List, [], ◌∷◌, ◌++◌, length, take, drop}
+use Rattle.std.specs.Prelude.{◌≡◌, ◌≤◌, ◌+◌, ◌-◌, ℕ, List, [], ◌∷◌, ◌++◌, length, take, drop}
 use Rattle.org_splice.specs.Ranges.{AreChanged}
 use Rattle.org_splice.specs.Texts.{EditedText}
 use Rattle.org_splice.specs.declared.Span.{Span}
@@ -45,3 +45,15 @@ abbrev pub AreUndos : ℕ → List Undo → EditedText → Type 0
 AreUndos room [] text = Unit {0}
 AreUndos room (undo ∷ undos) text =
     AreUndos room undos text × IsUndo room undo (undone_all undos text)
+
+-- the text that taking all edits back makes of one of these bytes and changed ranges
+abbrev pub before_of : List ℕ → List Span → List Undo → EditedText
+before_of bytes ranges undos = undone_all undos (text_of_parts bytes ranges)
+
+-- The edits of a text of these bytes and changed ranges can be taken back where the text has this
+-- room, and that makes this text.
+pub record LeadBack (room : ℕ) (bytes : List ℕ) (ranges : List Span) (undos : List Undo)
+    (text : EditedText) : Type 0 where
+  pub before : before_of bytes ranges undos ≡ text
+  pub changed : AreChanged (length bytes) ranges
+  pub can : AreUndos room undos (text_of_parts bytes ranges)

@@ -9,7 +9,7 @@ ghost use Rattle.org_splice.specs.Lines.{terminated};
 ghost use Rattle.org_splice.specs.Patches.{AreWellFormed, PatchedTo};
 ghost use Rattle.org_splice.specs.Ranges.{AreChanged};
 ghost use Rattle.org_splice.specs.Texts.{IsEditOf, terminated_text, settled, spliced, spliced_each, patches_of, pairs_of};
-ghost use Rattle.org_splice.specs.Versions.{AreUndos, revised, text_of_parts, unedited, undone_all};
+ghost use Rattle.org_splice.specs.Versions.{AreUndos, LeadBack, before_of, revised, text_of_parts, unedited};
 
 use crate::Span;
 use crate::bytes::Bytes;
@@ -258,11 +258,8 @@ fn put(
         ≡ text_of_parts (edited at removed bytes.now text.old.items) new_changed.items) }
     ensures err { OnErr result (text_of_parts text.new.items changed.new.items
         ≡ text_of_parts text.old.items changed.old.items) }
-    ensures before { undone_all undos.new.items (text_of_parts text.new.items changed.new.items)
-        ≡ undone_all undos.old.items (text_of_parts text.old.items changed.old.items) }
-    ensures changed { AreChanged (length text.new.items) changed.new.items }
-    ensures can { AreUndos (vec_capacity text.new) undos.new.items
-        (text_of_parts text.new.items changed.new.items) }
+    ensures back { LeadBack (vec_capacity text.new) text.new.items changed.new.items
+        undos.new.items (before_of text.old.items changed.old.items undos.old.items) }
 {
     // All memory is taken before anything changes.
     let old_bytes = prepared(text, undos, at, removed)?;
@@ -300,11 +297,8 @@ fn splice(
         ≡ text_of_parts text.old.items changed.old.items) }
     ensures edit { (old : List ℕ) → IsEditOf old (text_of_parts text.old.items changed.old.items)
         → IsEditOf old (text_of_parts text.new.items changed.new.items) }
-    ensures before { undone_all undos.new.items (text_of_parts text.new.items changed.new.items)
-        ≡ undone_all undos.old.items (text_of_parts text.old.items changed.old.items) }
-    ensures changed { AreChanged (length text.new.items) changed.new.items }
-    ensures can { AreUndos (vec_capacity text.new) undos.new.items
-        (text_of_parts text.new.items changed.new.items) }
+    ensures back { LeadBack (vec_capacity text.new) text.new.items changed.new.items
+        undos.new.items (before_of text.old.items changed.old.items undos.old.items) }
 {
     let size = text.len() - removed + bytes.len();
     let spare = mem::replace(room, Vec::new(*text.allocator()));
@@ -334,11 +328,8 @@ fn apply_near(
         ≡ text_of_parts text.old.items changed.old.items) }
     ensures err { OnErr result (text_of_parts text.new.items changed.new.items
         ≡ text_of_parts text.old.items changed.old.items) }
-    ensures before { undone_all undos.new.items (text_of_parts text.new.items changed.new.items)
-        ≡ undone_all undos.old.items (text_of_parts text.old.items changed.old.items) }
-    ensures changed { AreChanged (length text.new.items) changed.new.items }
-    ensures can { AreUndos (vec_capacity text.new) undos.new.items
-        (text_of_parts text.new.items changed.new.items) }
+    ensures back { LeadBack (vec_capacity text.new) text.new.items changed.new.items
+        undos.new.items (before_of text.old.items changed.old.items undos.old.items) }
 {
     let part = touched(text.len(), first, rest);
     let at = part.start;

@@ -1,5 +1,5 @@
 -- Days and months that the library adds to a day.
-use Rattle.std.proofs.Common.{◌≡◌, ℕ, ◌<◌, ◌≤◌, inl, inr, Bool, true, false, IsTrue, ℤ, pos, neg_ℤ, ◌+ℤ◌, ◌≤ℤ◌, refl, ap, ◌∙◌, arith}
+use Rattle.std.proofs.Common.{◌≡◌, ℕ, ◌<◌, ◌≤◌, inl, inr, Bool, true, false, IsTrue, ℤ, pos, ◌+ℤ◌, refl, ap, ◌∙◌, arith}
 use Rattle.std.proofs.lemmas.Bool.{cases_lt}
 use Rattle.jiff_core.specs.declared.civil.date.Date.{Date}
 use Rattle.jiff_core.specs.declared.span.Span.{Span}
@@ -12,9 +12,8 @@ use Rattle.jiff_core.specs.Span.{SetsUnit, total_magnitude, span_months, span_da
 use Rattle.jiff_core.proofs.SignedLemmas.{signed_arith}
 use Rattle.jiff_core.proofs.DateLemmas.{epoch_day_range}
 use Rattle.jiff.specs.Words.{date_add, CanAddToDate, add_months, shifted_year, shifted_month}
-use Rattle.jiff.proofs.Family.{add_months-zero}
-use Rattle.org_stamp.specs.Calendar.{CivilDay, IsDay, day_number, days_after, months_after}
-use Rattle.org_stamp.proofs.Later.{IsFoundDay, civil_of, last_number, year_within, same_parts, no_day, months_civil}
+use Rattle.org_stamp.specs.Calendar.{CivilDay, IsDay, day_number, months_after}
+use Rattle.org_stamp.proofs.Later.{IsFoundDay, last_number, year_within, same_parts, months_civil}
 
 -- the library's date of the day
 pub record IsDateOf (d : CivilDay) (a : Date) : Type 0 where
@@ -57,17 +56,6 @@ no_clock : (old s : Span) → total_magnitude old ≡ 0 → s.hours ≡ old.hour
     → clock_days s ≡ pos 0
 no_clock old s none hours minutes seconds milli micro nano = signed_zero s.negative _ (omega (arith, none, hours, minutes, seconds, milli, micro, nano))
 
-pub by_days : (n : ℕ) (z : ℤ) (old s : Span) → total_magnitude old ≡ 0 → SetsUnit Day z old s → z ≡ pos n → GoesOn 0 n s
-by_days n z old s none sets is =
-    let years : s.years ≡ 0 = omega (arith, sets.others Year (omega arith), none) in
-    let months : s.months ≡ 0 = omega (arith, sets.others Month (omega arith), none) in
-    let weeks : s.weeks ≡ 0 = omega (arith, sets.others Week (omega arith), none) in
-    record {
-      months_are = signed_zero s.negative _ (omega (arith, years, months));
-      days_are = signed_forward s.negative _ n (set_forward Day n z old s none sets is) (omega (arith, signed_arith, weeks, sets.value, is));
-      clock = no_clock old s none (sets.others Hour (omega arith)) (sets.others Minute (omega arith)) (sets.others Second (omega arith)) (sets.others Millisecond (omega arith)) (sets.others Microsecond (omega arith)) (sets.others Nanosecond (omega arith));
-    }
-
 pub by_months : (n : ℕ) (z : ℤ) (old s : Span) → total_magnitude old ≡ 0 → SetsUnit Month z old s → z ≡ pos n → GoesOn n 0 s
 by_months n z old s none sets is =
     let years : s.years ≡ 0 = omega (arith, sets.others Year (omega arith), none) in
@@ -81,20 +69,9 @@ by_months n z old s none sets is =
 
 -- ---- days
 
-pub days_added : (d : CivilDay) (a : Date) (n : ℕ) (s : Span) → IsDateOf d a → GoesOn 0 n s → date_add a s ≡ day_number d +ℤ pos n
-days_added d a n s is on =
-    rw (on.months_are, on.days_are, on.clock, add_months-zero a) (omega (arith, signed_arith, same_number d a is))
-
-pub days_fit : (d : CivilDay) (a : Date) (n : ℕ) (s : Span) → IsDateOf d a → GoesOn 0 n s → (neg_ℤ (pos 4_371_587) ≤ℤ (day_number d +ℤ pos n)) × ((day_number d +ℤ pos n) ≤ℤ pos 2_932_896) → CanAddToDate a s
-days_fit d a n s is on within =
-    let added = days_added d a n s is on in
-    (rw on.months_are (omega (arith, signed_arith, a.year_in, a.month_in)), rw added within)
-
--- more days than a span has lead past the last year
-pub days_past : (d : CivilDay) (n : ℕ) → IsDay d → (n ≤ 7_304_484 → ⊥) → 9999 < (days_after d n).year
-days_past d n h not =
-    let many : 7_304_484 < n = elim (cases_lt 7_304_484 n) [ inl past ↦ past | inr few ↦ absurd (not few) ] in
-    no_day d n h (λ within. omega (arith, signed_arith, (last_number d (civil_of d h) h.0.1).0, within.1, many))
+-- the number of the day that lies so many days behind the library's date
+pub days_added : (d : CivilDay) (a start : Date) (n : ℕ) (days e : ℤ) → IsDateOf d a → start ≡ a → days ≡ pos n → e ≡ epoch_day start +ℤ days → e ≡ day_number d +ℤ pos n
+days_added d a start n days e is same count sum = omega (arith, signed_arith, sum, count, ap epoch_day same, same_number d a is)
 
 -- ---- months
 

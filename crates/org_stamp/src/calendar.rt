@@ -116,11 +116,8 @@ impl Day {
         ensures value { result ≡ to_year_9999 (days_after self days) }
         ensures valid { IfSome result IsDay }
     {
-        let Ok(span) = Span::new().try_days(days as i64) else {
-            return None;
-        };
-        match self.date().checked_add(span) {
-            Ok(date) => Some(Day::of(date)),
+        match self.date().to_plain().checked_add(days as i64) {
+            Ok(date) => Some(Day::of(Date::from_plain(date))),
             Err(_) => None,
         }
     }

@@ -37,12 +37,7 @@ fn is_name_byte(byte: u8) -> bool
 fn is_name(run: &[u8]) -> bool
     ensures { result ≡ list_all is_name_byte run.now }
 {
-    for byte in run {
-        if !is_name_byte(*byte) {
-            return false;
-        }
-    }
-    true
+    run.iter().all(|byte| is_name_byte(*byte))
 }
 
 fn find(text: &[u8], byte: u8) -> Option<usize>

@@ -55,15 +55,9 @@ pub fn push_day(out: &mut Vec<u8>, day: Day) -> Result<(), AllocError>
 fn day_name(weekday: u8) -> &'static [u8]
     ensures { result.now ≡ day_name weekday }
 {
-    match weekday {
-        0 => b"Mon",
-        1 => b"Tue",
-        2 => b"Wed",
-        3 => b"Thu",
-        4 => b"Fri",
-        5 => b"Sat",
-        _ => b"Sun",
-    }
+    let names = b"MonTueWedThuFriSatSun".as_slice();
+    let start = 3 * usize::from(weekday.min(6));
+    &names[start..start + 3]
 }
 
 // Appends the byte and `HH:MM`.

@@ -22,7 +22,8 @@ use Rattle.org_state.specs.declared.fault.StateFault.{StateFault}
 use Rattle.org_state.specs.Edits.{section_start, moved, EditsSection}
 use Rattle.org_state.specs.declared.fault.StateFault.TheVariants.{NotFound, NotUnique, UnknownState, OddPlanning, BadRepeat, DateRange, ClockBackwards, OutOfMemory}
 use Rattle.org_state.specs.Answers.{Makes}
-use Rattle.org_state.specs.Clock.{with_section_at, opened_section, with_opened, fault_of_clock, with_closed, switched, ClosesSection, AnswersSwitch}
+use Rattle.org_state.specs.Clock.{with_section_at, opened_section, with_opened, with_closed, switched, ClosesSection, AnswersSwitch}
+use Rattle.org_state.specs.Todo.{fault_of_meta}
 use Rattle.org_state.proofs.Steps.{prints}
 use Rattle.org_state.proofs.Switching.{section_made_in}
 
@@ -138,7 +139,7 @@ switch_refused now t u from i fault text other a = by_fault fault (subst (λ (u 
     by_fault DateRange a = switched_by now from (tree t) i (Err DateRange) other a
     by_fault ClockBackwards a = switched_by now from (tree t) i (Err ClockBackwards) other a
     by_fault OutOfMemory a =
-        (with_opened now i (with_section_at from (tree t) a.0), switched_by now from (tree t) i (Ok (with_section_at from (tree t) a.0)) other (ap (result_map_both (with_section_at from (tree t)) fault_of_clock) a.1))
+        (with_opened now i (with_section_at from (tree t) a.0), switched_by now from (tree t) i (Ok (with_section_at from (tree t) a.0)) other (ap (result_map_both (with_section_at from (tree t)) fault_of_meta) a.1))
 
 -- memory was refused once the clock that runs can be closed
 pub switch_starved : (now : Moment) (t u : List ℕ) (from i : ℕ) (closing : Edit) (fault : StateFault) → u ≡ t → i ≢ from → ClosesSection now (tree u) from (Ok closing) → fault ≡ OutOfMemory → AnswersSwitch now t from (Ok i) (Err fault)
@@ -200,7 +201,7 @@ switch_made t u i from now opening closing items text stays_terminated lt there 
     let c = subst (λ (u : List ℕ). ClosesSection now (tree u) from (Ok closing)) text closes in
     let final : Document = with_opened now i (with_section_at from d c.0) in
     let is : switched now from d i ≡ Ok (Some final) =
-    switched_by now from d i (Ok (with_section_at from d c.0)) other (ap (result_map_both (with_section_at from d) fault_of_clock) c.1) in (
+    switched_by now from d i (Ok (with_section_at from d c.0)) other (ap (result_map_both (with_section_at from d) fault_of_meta) c.1) in (
       Some final,
       is,
       elim order [

@@ -1,29 +1,26 @@
--- A search of a part of a text's headings, and what edits leave of what is known of a text.
-use Rattle.std.proofs.Common.{◌≡◌, ℕ, zero, suc, ◌+◌, ◌-◌, ◌<◌, ◌≤◌, true, false, Bool, ◌||◌, ltb, Option, Some, None, List, [], ◌∷◌, ◌++◌, length, take, drop, get_or, refl, sym, ap, subst, ◌∙◌, append_assoc, arith, inl, inr}
+-- A search of a part of a text's headings, and what is known of its clocks.
+use Rattle.std.proofs.Common.{◌≡◌, ℕ, zero, suc, ◌+◌, ◌-◌, ◌<◌, ◌≤◌, true, false, Bool, ◌||◌, ltb, Option, Some, None, List, [], ◌∷◌, ◌++◌, length, get_or, refl, sym, ap, subst, ◌∙◌, arith, inl, inr}
 use Rattle.std.specs.Prelude.{is_some, map}
 use Rattle.std.specs.List.{AllByRecursion, position, prefix_len}
 use Rattle.std.specs.Option.{option_map}
 use Rattle.std.proofs.lemmas.Bool.{cases_Bool, false≢true}
 use Rattle.std.proofs.lemmas.Bool.Decides.{nat_tests}
-use Rattle.std.proofs.lemmas.List.{length-append, length-take-le, length-drop, take-append-drop, get_or-map, get_or_append_left, get_or-append_right}
+use Rattle.std.proofs.lemmas.List.{length-append, get_or-map, get_or_append_left, get_or-append_right}
 use Rattle.std.proofs.lemmas.List.Quantifiers.{position-Some}
 use Rattle.std.proofs.lemmas.List.Sums.{prefix_len_passes, prefix_len_stops}
-use Rattle.org_splice.specs.declared.edit.Edit.{Edit}
 use Rattle.org_splice.specs.declared.Span.{Span}
-use Rattle.org_splice.specs.Edits.{applied}
 use Rattle.org_splice.specs.Lines.{terminated, print_lines, IsLine, lines_of}
-use Rattle.org_splice.proofs.Lines.{size, size-cons, print_lines-lines_of, lines_of-append, lines_of-lines, lines_of-print_lines, print_lines-append, terminated-drop, terminated-end, terminated-print_lines}
+use Rattle.org_splice.specs.Searched.{IsFrontWithout, IsBackWithout, StandsInLines}
+use Rattle.org_splice.proofs.Searches.{front_of, lines_of-both}
+use Rattle.org_splice.proofs.Lines.{size, size-cons, print_lines-lines_of, lines_of-lines, lines_of-print_lines, print_lines-append, terminated-print_lines}
 use Rattle.org_stamp.specs.Parts.{◌>>=◌}
 use Rattle.org_outline.specs.Text.{level_of}
 use Rattle.org_outline.specs.Tree.{Document, Placed, nodes, node_at, node_count, no_node, tree, tree_of_lines, with_line}
 use Rattle.org_outline.proofs.Nodes.{AllByRecursion-at, nodes_at, nodes_at-start, nodes-with_line, with_node}
 use Rattle.org_meta.specs.Clocks.{is_open, open_line, line_span}
 use Rattle.org_state.specs.declared.run.Running.{Running}
-use Rattle.org_state.specs.declared.searched.Searched.{Searched}
-use Rattle.org_state.specs.declared.searched.Searched.TheVariants.{Clockless, Ends}
-use Rattle.org_state.specs.Clock.{runs_at, running_heading, running_at, running_in, span_from}
+use Rattle.org_state.specs.Clock.{has_clock, runs_at, running_heading, running_at, running_in, span_from}
 use Rattle.org_state.specs.Edits.{section_start}
-use Rattle.org_state.specs.Searched.{IsSearched, IsFrontClockless, IsBackClockless}
 use Rattle.org_state.proofs.Searches.{position_here, position_later, running_none}
 
 -- ---- no clock runs at these headings
@@ -194,108 +191,25 @@ text_quiet t q = none_runs (tree t) (subst NoneRuns (nodes_at-start t) (quiet_tr
 
 -- ---- texts put together
 
-lines_both : (ls : List (List ℕ)) (b : List ℕ) → AllByRecursion IsLine ls → lines_of (print_lines ls ++ b) ≡ ls ++ lines_of b
-lines_both [] b all = refl
-lines_both (l ∷ ls) b all =
-    ap lines_of (append_assoc l (10 ∷ print_lines ls) b) ∙ lines_of-append l (print_lines ls ++ b) all.0 ∙ ap (λ (x : List (List ℕ)). l ∷ x) (lines_both ls b all.1)
-
-lines_of-both : (a b : List ℕ) → terminated a ≡ a → lines_of (a ++ b) ≡ lines_of a ++ lines_of b
-lines_of-both a b whole = ap (λ (x : List ℕ). lines_of (x ++ b)) (sym (print_lines-lines_of a ∙ whole)) ∙ lines_both (lines_of a) b (lines_of-lines a)
-
 clockless_parts : (a b : List ℕ) → terminated a ≡ a → running_in (tree (a ++ b)) ≡ None → (running_in (tree a) ≡ None) × (running_in (tree b) ≡ None)
 clockless_parts a b whole is =
     let q = subst (IsQuiet false) (lines_of-both a b whole) (quiet_text (a ++ b) is) in
     (text_quiet a (quiet_front false (lines_of a) (lines_of b) q), text_quiet b (quiet_back false (lines_of a) (lines_of b) q))
 
-clockless_front : (front : ℕ) (t : List ℕ) → running_in (tree t) ≡ None → IsFrontClockless front t
-clockless_front front t is a b parts whole le = (clockless_parts a b whole (ap (λ (x : List ℕ). running_in (tree x)) (sym parts) ∙ is)).0
+is_none : {X : Type 0} (o : Option X) → is_some o ≡ false → o ≡ None
+is_none None e = refl
+is_none (Some x) e = absurd (false≢true (sym e))
 
-clockless_back : (back : ℕ) (t : List ℕ) → running_in (tree t) ≡ None → IsBackClockless back t
-clockless_back back t is a b parts whole le = (clockless_parts a b whole (ap (λ (x : List ℕ). running_in (tree x)) (sym parts) ∙ is)).1
+pub no_clock : (t : List ℕ) → has_clock t ≡ false → running_in (tree t) ≡ None
+no_clock t none = is_none (running_in (tree t)) none
 
-pub nothing_known : (t : List ℕ) → IsSearched (Ends 0 0) t
-nothing_known t = (λ a b parts whole le. empty a le, λ a b parts whole less. absurd (omega (arith, less)))
-  where
-    empty : (a : List ℕ) → length a ≤ 0 → running_in (tree a) ≡ None
-    empty [] le = refl
-    empty (x ∷ a) le = absurd (omega (arith, le))
-
--- ---- edits
-
-record Between (a b c d : List ℕ) : Type 0 where
-  more : List ℕ
-  left : c ≡ a ++ more
-  right : b ≡ more ++ d
-
-between : (a b c d : List ℕ) → a ++ b ≡ c ++ d → length a ≤ length c → Between a b c d
-between [] b c d same le = record { more = c; left = refl; right = same }
-between (x ∷ a) b [] d same le = absurd (omega (arith, le))
-between (x ∷ a) b (y ∷ c) d same le =
-    let head : y ≡ x = cc in
-    let tail : a ++ b ≡ c ++ d = cc in
-    let m = between a b c d tail (omega (arith, le)) in
-    record { more = m.more; left = ap (λ (z : ℕ). z ∷ c) head ∙ ap (λ (z : List ℕ). x ∷ z) m.left; right = m.right }
-
-front_less : (front less : ℕ) (t : List ℕ) → less ≤ front → IsFrontClockless front t → IsFrontClockless less t
-front_less front less t le known a b parts whole here = known a b parts whole (omega (arith, le, here))
-
-back_less : (back less : ℕ) (t : List ℕ) → less ≤ back → IsBackClockless back t → IsBackClockless less t
-back_less back less t le known a b parts whole here = known a b parts whole (omega (arith, le, here))
-
-front_edited : (front : ℕ) (t : List ℕ) (e : Edit) → front ≤ e.at → e.at ≤ length t → IsFrontClockless front t → IsFrontClockless front (applied e t)
-front_edited front t e le within known a b parts whole here =
-    let rest = e.bytes ++ drop (e.at + e.removed) t in
-    let m = between a b (take e.at t) rest (sym parts ∙ append_assoc (take e.at t) e.bytes (drop (e.at + e.removed) t)) (omega (arith, le, here, length-take-le e.at t within)) in
-    known a (m.more ++ drop e.at t) (sym (take-append-drop e.at t) ∙ ap (λ (x : List ℕ). x ++ drop e.at t) m.left ∙ append_assoc a m.more (drop e.at t)) whole here
-
--- what ends a terminated text is terminated behind other bytes, too
-end_terminated : (p q c : List ℕ) → terminated (p ++ c) ≡ p ++ c → 0 < length c → terminated (q ++ c) ≡ q ++ c
-end_terminated p q [] whole some = absurd (omega (arith, some))
-end_terminated p q (x ∷ c) whole some =
-    let there : drop (length p) (p ++ x ∷ c) ≡ x ∷ c = drop_front p (x ∷ c) in
-    terminated-end q x c (ap terminated (sym there) ∙ terminated-drop (length p) (p ++ x ∷ c) whole ∙ there)
-  where
-    drop_front : (a b : List ℕ) → drop (length a) (a ++ b) ≡ b
-    drop_front [] b = refl
-    drop_front (x ∷ a) b = drop_front a b
-
-back_edited : (back : ℕ) (t : List ℕ) (e : Edit) → e.at + e.removed ≤ length t → back ≤ length t - (e.at + e.removed) → IsBackClockless back t → IsBackClockless back (applied e t)
-back_edited back t e within le known a b parts whole here =
-    let behind = e.at + e.removed in
-    let tail = drop behind t in
-    let front = take e.at t ++ e.bytes in
-    let same : front ++ tail ≡ a ++ b = parts in
-    let long : length front + length tail ≡ length a + length b = sym (length-append front tail) ∙ ap length same ∙ length-append a b in
-    let count : length tail ≡ length t - behind = length-drop behind t in
-    let m = between front tail a b same (omega (arith, le, here, long, count)) in
-    let some : 0 < length m.more = omega (arith, le, here, count, ap length m.right, length-append m.more b) in
-    let whole_more : terminated (front ++ m.more) ≡ front ++ m.more = subst (λ (x : List ℕ). terminated x ≡ x) m.left whole in
-    known (take behind t ++ m.more) b (sym (take-append-drop behind t) ∙ ap (λ (x : List ℕ). take behind t ++ x) m.right ∙ sym (append_assoc (take behind t) m.more b))
-    (end_terminated front (take behind t) m.more whole_more some) here
-
-ends_edited : (front back : ℕ) (t : List ℕ) (e : Edit) → front ≤ e.at → e.at + e.removed ≤ length t → back ≤ length t - (e.at + e.removed) → IsSearched (Ends front back) t → IsSearched (Ends front back) (applied e t)
-ends_edited front back t e low within high known =
-    (front_edited front t e low (omega (arith, within)) known.0, back_edited back t e within high known.1)
-
--- what stays known behind an edit, of the text before it
-pub record Fewer (old : Searched) (front back : ℕ) : Type 0 where
-  pub still : (t : List ℕ) → IsSearched old t → IsSearched (Ends front back) t
-
-pub fewer_none : (front back : ℕ) → Fewer Clockless front back
-fewer_none front back = record { still = λ t known. (clockless_front front t known, clockless_back back t known) }
-
-pub fewer_ends : (front back less fewer : ℕ) → less ≤ front → fewer ≤ back → Fewer (Ends front back) less fewer
-fewer_ends front back less fewer low high = record { still = λ t known. (front_less front less t low known.0, back_less back fewer t high known.1) }
-
--- where the bytes behind an edit begin, and how many these are
-pub record Stands (e : Edit) (size front back : ℕ) : Type 0 where
-  pub low : front ≤ e.at
-  pub high : (n : ℕ) → size ≤ n → e.at + e.removed ≤ n → back ≤ n - (e.at + e.removed)
-
-pub stays_known : (old : Searched) (front back size : ℕ) (e : Edit) → Fewer old front back → Stands e size front back
-    → (t : List ℕ) → size ≤ length t → e.at + e.removed ≤ length t → IsSearched old t → IsSearched (Ends front back) (applied e t)
-stays_known old front back size e fewer stands t long within known =
-    ends_edited front back t e stands.low within (stands.high (length t) long within) (fewer.still t known)
+-- a clock that runs stands in whole lines
+pub clocks_stand : StandsInLines has_clock
+clocks_stand = record {
+  none = refl;
+  front = λ a b whole none. ap is_some (clockless_parts a b whole (no_clock (a ++ b) none)).0;
+  back = λ a b whole none. ap is_some (clockless_parts a b whole (no_clock (a ++ b) none)).1;
+}
 
 -- ---- headings
 
@@ -430,31 +344,30 @@ quiet_marks at j t is = all_false (nodes_at at (tree t)) j (quiet_tree false at 
     all_false (p ∷ ps) zero q = q.0
     all_false (p ∷ ps) (suc j) q = all_false ps j q.1
 
-pub front_runs_not : (t : List ℕ) (front k : ℕ) → terminated t ≡ t → IsFrontClockless front t → k < node_count (tree t) → (node_at (tree t) k).at ≤ front → (j : ℕ) → j < k → runs_at (node_at (tree t) j) ≡ false
+pub front_runs_not : (t : List ℕ) (front k : ℕ) → terminated t ≡ t → IsFrontWithout has_clock front t → k < node_count (tree t) → (node_at (tree t) k).at ≤ front → (j : ℕ) → j < k → runs_at (node_at (tree t) j) ≡ false
 front_runs_not t front k whole known less le j before =
     let c = cut_text t k whole less in
-    let none = known c.a c.b c.parts c.whole (omega (arith, le, c.long)) in
+    let none = no_clock c.a (known c.a c.b c.parts c.whole (omega (arith, le, c.long))) in
     sym (mark_at t j (omega (arith, before, less))) ∙ ap (λ (ms : List Bool). get_or ms j false) c.runs
     ∙ get_or_append_left (marks 0 (lines_of c.a)) (marks (length c.a) (lines_of c.b)) false j (omega (arith, before, c.count)) ∙ quiet_marks 0 j c.a none
 
-pub back_runs_not : (t : List ℕ) (back k : ℕ) → terminated t ≡ t → IsBackClockless back t → k < node_count (tree t) → length t < back + (node_at (tree t) k).at → (j : ℕ) → k ≤ j → j < node_count (tree t) → runs_at (node_at (tree t) j) ≡ false
+pub back_runs_not : (t : List ℕ) (back k : ℕ) → terminated t ≡ t → IsBackWithout has_clock back t → k < node_count (tree t) → length t < back + (node_at (tree t) k).at → (j : ℕ) → k ≤ j → j < node_count (tree t) → runs_at (node_at (tree t) j) ≡ false
 back_runs_not t back k whole known less near j behind within =
     let c = cut_text t k whole less in
-    let none = known c.a c.b c.parts c.whole (omega (arith, near, c.long, ap length c.parts, length-append c.a c.b)) in
+    let none = no_clock c.b (known c.a c.b c.parts c.whole (omega (arith, near, c.long, ap length c.parts, length-append c.a c.b))) in
     sym (mark_at t j within) ∙ ap (λ (ms : List Bool). get_or ms j false) c.runs
     ∙ get_or-append_right (marks 0 (lines_of c.a)) (marks (length c.a) (lines_of c.b)) k j false c.count behind
     ∙ quiet_marks (length c.a) (j - k) c.b none
 
 -- none runs before the heading where the first one does
-pub found_front : (t : List ℕ) (i : ℕ) → terminated t ≡ t → First (tree t) i → IsFrontClockless (node_at (tree t) i).at t
-found_front t i whole first a b parts ended le =
+pub found_front : (t : List ℕ) (i : ℕ) → terminated t ≡ t → First (tree t) i → IsFrontWithout has_clock (node_at (tree t) i).at t
+found_front t i whole first =
     let c = cut_text t i whole first.within in
-    let m = between a b c.a c.b (sym parts ∙ c.parts) (omega (arith, le, c.long)) in
     let quiet : NoneRuns (nodes_at 0 (tree c.a)) = from_marks (nodes_at 0 (tree c.a)) (λ k less.
     sym (get_or_append_left (marks 0 (lines_of c.a)) (marks (length c.a) (lines_of c.b)) false k less) ∙ ap (λ (ms : List Bool). get_or ms k false) (sym c.runs)
     ∙ mark_at t k (let w = first.within in omega (arith, less, c.count, w)) ∙ first.before k (omega (arith, less, c.count))) in
     let none : running_in (tree c.a) ≡ None = none_runs (tree c.a) (subst NoneRuns (nodes_at-start c.a) quiet) in
-    (clockless_parts a m.more ended (ap (λ (x : List ℕ). running_in (tree x)) (sym m.left) ∙ none)).0
+    subst (λ (n : ℕ). IsFrontWithout has_clock n t) (sym c.long) (front_of has_clock clocks_stand t c.a c.b c.parts (ap is_some none))
   where
     from_marks : (ps : List Placed) → ((k : ℕ) → k < length (map runs_at ps) → get_or (map runs_at ps) k false ≡ false) → NoneRuns ps
     from_marks [] each = tt
@@ -463,14 +376,14 @@ found_front t i whole first a b parts ended le =
 -- ---- the search
 
 -- the headings that begin before a byte
-pub before_place : (t : List ℕ) (front n first : ℕ) → terminated t ≡ t → IsFrontClockless front t → n ≡ prefix_len (λ (p : Placed). ltb p.at front) (nodes (tree t)) → n ≤ node_count (tree t) → first ≡ n - 1
+pub before_place : (t : List ℕ) (front n first : ℕ) → terminated t ≡ t → IsFrontWithout has_clock front t → n ≡ prefix_len (λ (p : Placed). ltb p.at front) (nodes (tree t)) → n ≤ node_count (tree t) → first ≡ n - 1
     → (k : ℕ) → k < first → runs_at (node_at (tree t) k) ≡ false
 before_place t front n first whole known count within is k less =
     let passes : ltb (node_at (tree t) first).at front ≡ true = prefix_len_passes (λ (p : Placed). ltb p.at front) (nodes (tree t)) first no_node (omega (arith, count, is, less)) in
     let near : (node_at (tree t) first).at ≤ front = grind (arith, nat_tests) in
     front_runs_not t front first whole known (omega (arith, is, within, less)) near k less
 
-pub behind_place : (t : List ℕ) (back place last : ℕ) → terminated t ≡ t → IsBackClockless back t → place ≡ length t + 1 - back → last ≡ prefix_len (λ (p : Placed). ltb p.at place) (nodes (tree t))
+pub behind_place : (t : List ℕ) (back place last : ℕ) → terminated t ≡ t → IsBackWithout has_clock back t → place ≡ length t + 1 - back → last ≡ prefix_len (λ (p : Placed). ltb p.at place) (nodes (tree t))
     → (k : ℕ) → last ≤ k → k < node_count (tree t) → runs_at (node_at (tree t) k) ≡ false
 behind_place t back place last whole known is count k behind within =
     let less : last < node_count (tree t) = omega (arith, behind, within) in

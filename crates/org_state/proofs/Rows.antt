@@ -4,7 +4,7 @@ use Rattle.std.specs.Prelude.{Option, None, Some, Result, Ok, Err}
 use Rattle.org_stamp.specs.Calendar.{Moment, civil_day, at_minute}
 use Rattle.org_outline.specs.States.{Keywords}
 use Rattle.org_outline.specs.Tree.{Document, tree}
-use Rattle.org_meta.specs.declared.fault.PlanningFault.TheVariants as planning
+use Rattle.org_meta.specs.declared.fault.MetaFault.TheVariants as meta
 use Rattle.org_stamp.specs.declared.fault.RepeatFault.TheVariants as repeat
 use Rattle.org_state.specs.declared.fault.StateFault.{StateFault}
 use Rattle.org_state.specs.declared.fault.StateFault.TheVariants.{NotFound, NotUnique, UnknownState, OddPlanning, BadRepeat, DateRange}
@@ -91,8 +91,8 @@ not_unique = refl
 -- hours need a time
 bad_repeat : Todo (codes "DONE") (line (codes "* TODO A") ++ line (codes "SCHEDULED: <2026-01-05 Mon +1h>")) (Err BadRepeat)
 unfolding states now
-bad_repeat = (Err BadRepeat, (Err planning.BadRepeat, (Err planning.BadRepeat, (Err repeat.BadRepeat, refl, refl), refl), refl), refl)
+bad_repeat = (Err BadRepeat, (Err meta.BadRepeat, (Err meta.BadRepeat, (Err repeat.BadRepeat, refl, refl), refl), refl), refl)
 
 past_9999 : Todo (codes "DONE") (line (codes "* TODO A") ++ line (codes "SCHEDULED: <9999-06-01 +1y>")) (Err DateRange)
 unfolding states now
-past_9999 = (Err DateRange, (Err planning.DateRange, (Err planning.DateRange, (Err repeat.DateRange, refl, refl), refl), refl), refl)
+past_9999 = (Err DateRange, (Err meta.DateRange, (Err meta.DateRange, (Err repeat.DateRange, refl, refl), refl), refl), refl)

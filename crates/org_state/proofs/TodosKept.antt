@@ -22,7 +22,7 @@ use Rattle.org_outline.proofs.Sections.{valid_node}
 use Rattle.org_outline.proofs.Splitting.{keyword_front, state_word}
 use Rattle.org_outline.proofs.Trees.{tree-is}
 use Rattle.org_outline.proofs.Valid.{tree-print}
-use Rattle.org_meta.specs.declared.fault.PlanningFault.{PlanningFault}
+use Rattle.org_meta.specs.declared.fault.MetaFault.{MetaFault}
 use Rattle.org_meta.specs.Moments.{moment_text}
 use Rattle.org_meta.specs.Planning.{PlanningLine, clear_closed, has_repeater, planning_of, repeated_entries, set_closed}
 use Rattle.org_meta.specs.Sections.{SectionParts, joined, property_line, split}
@@ -34,7 +34,7 @@ use Rattle.org_meta.proofs.PlannedLines.{SectionLine, cleared_parts, closed_part
 use Rattle.org_state.specs.declared.fault.StateFault.{StateFault}
 use Rattle.org_state.specs.declared.fault.StateFault.TheVariants.{UnknownState}
 use Rattle.org_state.specs.Keyword.{is_state, keyword_in, with_keyword, with_word}
-use Rattle.org_state.specs.Todo.{Own, changed, fault_of_planning, first_active, heading_asked, heading_to_change, if_repeating, in_state, is_done, own_at, repeated_parts, repeating, todo, todo_at, turned, turned_done, with_lines, with_own_at}
+use Rattle.org_state.specs.Todo.{Own, changed, fault_of_meta, first_active, heading_asked, heading_to_change, if_repeating, in_state, is_done, own_at, repeated_parts, repeating, todo, todo_at, turned, turned_done, with_lines, with_own_at}
 use Rattle.org_state.proofs.ClocksKept.{no_star}
 use Rattle.org_state.proofs.Opens.{map_ok}
 
@@ -117,10 +117,10 @@ lines_kept : (states : Keywords) (word : List ℕ) (own : Own) (section : List (
 lines_kept states word own section is o plain =
     record { space = with_keyword_space states word own.rest o.space; rest = with_keyword_line states word own.rest is o.rest; section = plain }
 
-changed_kept : (states : Keywords) (word : List ℕ) (own new : Own) (parts : Result SectionParts PlanningFault) → Flat word → IsOwn own → ((q : SectionParts) → parts ≡ Ok q → AllParts IsPlain q)
+changed_kept : (states : Keywords) (word : List ℕ) (own new : Own) (parts : Result SectionParts MetaFault) → Flat word → IsOwn own → ((q : SectionParts) → parts ≡ Ok q → AllParts IsPlain q)
     → changed states word own parts ≡ Ok new → IsOwn new
 changed_kept states word own new parts is o each e =
-    let q = map_ok (λ parts. with_lines states word own (joined parts)) fault_of_planning parts new e in
+    let q = map_ok (λ parts. with_lines states word own (joined parts)) fault_of_meta parts new e in
     subst IsOwn q.2 (lines_kept states word own (joined q.0) is o (all_joined IsPlain q.0 (each q.0 q.1)))
 
 -- the first line of the planning, where it repeats
@@ -169,9 +169,9 @@ module _ (states : Keywords) (state : List ℕ) (now : Moment) (own new : Own) (
       let old : List ℕ = keyword_in states own.rest in
       let make : List ℕ → SectionParts = repeated_parts state old now p (split own.section) in
       let r = repeating_line (split own.section).planning p parts_plain.planning is in
-      changed_kept states (first_active states) own new (result_map_both make (λ (fault : PlanningFault). fault) (repeated_entries now p.entries)) (first_active_line states are) o
+      changed_kept states (first_active states) own new (result_map_both make (λ (fault : MetaFault). fault) (repeated_entries now p.entries)) (first_active_line states are) o
       (λ q made.
-      let text = map_ok make (λ (fault : PlanningFault). fault) (repeated_entries now p.entries) q made in
+      let text = map_ok make (λ (fault : MetaFault). fault) (repeated_entries now p.entries) q made in
       subst (AllParts IsPlain) text.2
       (repeated_kept state old now p (split own.section) text.0 (state_line states state are known) (keyword_line states own.rest o.rest) r text.1 parts_plain)) e
 

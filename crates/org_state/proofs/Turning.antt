@@ -14,8 +14,8 @@ use Rattle.std.specs.List.{AllByRecursion}
 use Rattle.org_outline.specs.States.{Keywords}
 use Rattle.org_outline.specs.Paths.{find_path}
 use Rattle.org_outline.specs.Tree.{Document, print, tree, node_at, node_count}
-use Rattle.org_meta.specs.declared.fault.PlanningFault.{PlanningFault}
-use Rattle.org_meta.specs.declared.fault.PlanningFault.TheVariants as planning
+use Rattle.org_meta.specs.declared.fault.MetaFault.{MetaFault}
+use Rattle.org_meta.specs.declared.fault.MetaFault.TheVariants as meta
 use Rattle.org_meta.specs.Edits.{Gives, GivesParts}
 use Rattle.org_meta.specs.Moments.{moment_text}
 use Rattle.org_meta.specs.Notes.{note_line, with_note}
@@ -29,7 +29,7 @@ use Rattle.org_state.specs.declared.fault.StateFault.{StateFault}
 use Rattle.org_state.specs.declared.fault.StateFault.TheVariants.{NotFound, NotUnique, UnknownState, OddPlanning, BadRepeat, DateRange, ClockBackwards, OutOfMemory}
 use Rattle.org_state.specs.Keyword.{is_state, keyword_in, with_keyword}
 use Rattle.org_state.specs.Edits.{section_start, moved, EditsRest}
-use Rattle.org_state.specs.Todo.{Own, own_at, with_own_at, with_lines, changed, first_active, if_repeating, repeating, repeated_parts, TurnsDone, Turns, IsChanged, is_done, IsTodo, IsTodoAt, heading_asked, heading_to_change, fault_of_planning}
+use Rattle.org_state.specs.Todo.{Own, own_at, with_own_at, with_lines, changed, first_active, if_repeating, repeating, repeated_parts, TurnsDone, Turns, IsChanged, is_done, IsTodo, IsTodoAt, heading_asked, heading_to_change, fault_of_meta}
 use Rattle.org_state.specs.Answers.{AnswersOwn, AnswersTodo}
 use Rattle.org_state.proofs.Fronts.{front_short, planning_short}
 use Rattle.org_state.proofs.Steps.{repeat_lines, four_made, section_is_lines}
@@ -43,31 +43,33 @@ pub handed : (IsDefined : Result Own StateFault → Type 0) (t : List ℕ) (i : 
 handed IsDefined t i (Ok edits) ok err = ok
 handed IsDefined t i (Err fault) ok err = let P : StateFault → Type 0 = λ fault. AnswersOwn IsDefined t i (Err fault) in subst P (sym err) tt
 
-pub faulted : (IsDefined : Result Own StateFault → Type 0) (t : List ℕ) (i : ℕ) (fault : PlanningFault) → (fault ≡ planning.OutOfMemory) ⊎ IsDefined (Err (fault_of_planning fault))
-    → AnswersOwn IsDefined t i (Err (fault_of_planning fault))
-faulted IsDefined t i planning.OddPlanning (inl e) = absurd cc
-faulted IsDefined t i planning.OddPlanning (inr d) = d
-faulted IsDefined t i planning.BadRepeat (inl e) = absurd cc
-faulted IsDefined t i planning.BadRepeat (inr d) = d
-faulted IsDefined t i planning.DateRange (inl e) = absurd cc
-faulted IsDefined t i planning.DateRange (inr d) = d
-faulted IsDefined t i planning.OutOfMemory e = tt
+pub faulted : (IsDefined : Result Own StateFault → Type 0) (t : List ℕ) (i : ℕ) (fault : MetaFault) → (fault ≡ meta.OutOfMemory) ⊎ IsDefined (Err (fault_of_meta fault))
+    → AnswersOwn IsDefined t i (Err (fault_of_meta fault))
+faulted IsDefined t i meta.OddPlanning (inl e) = absurd cc
+faulted IsDefined t i meta.OddPlanning (inr d) = d
+faulted IsDefined t i meta.BadRepeat (inl e) = absurd cc
+faulted IsDefined t i meta.BadRepeat (inr d) = d
+faulted IsDefined t i meta.DateRange (inl e) = absurd cc
+faulted IsDefined t i meta.DateRange (inr d) = d
+faulted IsDefined t i meta.ClockBackwards (inl e) = absurd cc
+faulted IsDefined t i meta.ClockBackwards (inr d) = d
+faulted IsDefined t i meta.OutOfMemory e = tt
 
 -- ---- a section that was replanned
 
-ok_parts : (r : Result SectionParts PlanningFault) (section : List ℕ) (e : Edit) → GivesOk r section e → (p : SectionParts) × (r ≡ Ok p) × GivesParts e section p
+ok_parts : (r : Result SectionParts MetaFault) (section : List ℕ) (e : Edit) → GivesOk r section e → (p : SectionParts) × (r ≡ Ok p) × GivesParts e section p
 ok_parts (Ok p) section e g = (p, refl, g)
 ok_parts (Err fault) section e g = absurd g
 
-pub replanned_within : (r : Result SectionParts PlanningFault) (section bytes : List ℕ) (e : Edit) → section ≡ bytes → GivesOk r section e → e.at + e.removed ≤ length bytes
+pub replanned_within : (r : Result SectionParts MetaFault) (section bytes : List ℕ) (e : Edit) → section ≡ bytes → GivesOk r section e → e.at + e.removed ≤ length bytes
 replanned_within r section bytes e is g = let parts = ok_parts r section e g in omega (arith, parts.2.within, ap length is)
 
-pub replanned_refused : (plan : SectionParts → Result SectionParts PlanningFault) (states : Keywords) (word : List ℕ) (own : Own) (section : List ℕ) (fault : PlanningFault) → lines_of section ≡ own.section
-    → FaultIn (plan (parts_of section)) fault → (fault ≡ planning.OutOfMemory) ⊎ (Err (fault_of_planning fault) ≡ changed states word own (plan (split own.section)))
+pub replanned_refused : (plan : SectionParts → Result SectionParts MetaFault) (states : Keywords) (word : List ℕ) (own : Own) (section : List ℕ) (fault : MetaFault) → lines_of section ≡ own.section
+    → FaultIn (plan (parts_of section)) fault → (fault ≡ meta.OutOfMemory) ⊎ (Err (fault_of_meta fault) ≡ changed states word own (plan (split own.section)))
 replanned_refused plan states word own section fault lines (inl memory) = inl memory
 replanned_refused plan states word own section fault lines (inr is) = inr (sym (ap (changed states word own) (ap (λ (ls : List (List ℕ)). plan (split ls)) (sym lines) ∙ is)))
 
-pub replanned_answers : (plan : SectionParts → Result SectionParts PlanningFault) (states : Keywords) (word t : List ℕ) (i : ℕ) (section : List ℕ) (e : Edit) (result : Result (Vec Edit Global) StateFault)
+pub replanned_answers : (plan : SectionParts → Result SectionParts MetaFault) (states : Keywords) (word t : List ℕ) (i : ℕ) (section : List ℕ) (e : Edit) (result : Result (Vec Edit Global) StateFault)
     → section ≡ print_lines (node_at (tree t) i).node.section → lines_of section ≡ (node_at (tree t) i).node.section → GivesOk (plan (parts_of section)) section e
     → ((new : List (List ℕ)) → Gives e (print_lines (own_at (tree t) i).section) new → AnswersOwn (λ r. r ≡ Ok (with_lines states word (own_at (tree t) i) new)) t i result)
     → AnswersOwn (λ r. r ≡ changed states word (own_at (tree t) i) (plan (split (own_at (tree t) i).section))) t i result
@@ -121,25 +123,25 @@ repeated_alone now ls e all g =
     repeated_in now (split ls).planning (split ls).planning e (subst P (planning_alone ls (print_lines (split ls).planning) all refl) g)
 
 -- why a planning line can't be repeated
-repeat_faults : (states : Keywords) (state : List ℕ) (now : Moment) (own : Own) (parts : SectionParts) (ls : List (List ℕ)) (fault : PlanningFault)
-    → split own.section ≡ record parts { planning = ls } → FaultRepeated now ls fault → TurnsDone states state now own (repeating ls) (Err (fault_of_planning fault))
+repeat_faults : (states : Keywords) (state : List ℕ) (now : Moment) (own : Own) (parts : SectionParts) (ls : List (List ℕ)) (fault : MetaFault)
+    → split own.section ≡ record parts { planning = ls } → FaultRepeated now ls fault → TurnsDone states state now own (repeating ls) (Err (fault_of_meta fault))
 repeat_faults states state now own parts [] fault is wrong = absurd wrong
 repeat_faults states state now own parts (l ∷ ls) fault is (inl odd) =
     let none : repeating (l ∷ ls) ≡ None = ap if_repeating odd.1 in
-    let P : Option PlanningLine → Type 0 = λ o. TurnsDone states state now own o (Err (fault_of_planning fault)) in
-    let refused : set_closed now (split own.section) ≡ Err planning.OddPlanning = ap (set_closed now) is ∙ rw odd.1 refl in
-    subst P (sym none) (ap (λ (f : PlanningFault). changed states state own (Err f)) odd.0 ∙ sym (ap (changed states state own) refused))
+    let P : Option PlanningLine → Type 0 = λ o. TurnsDone states state now own o (Err (fault_of_meta fault)) in
+    let refused : set_closed now (split own.section) ≡ Err meta.OddPlanning = ap (set_closed now) is ∙ rw odd.1 refl in
+    subst P (sym none) (ap (λ (f : MetaFault). changed states state own (Err f)) odd.0 ∙ sym (ap (changed states state own) refused))
 repeat_faults states state now own parts (l ∷ ls) fault is (inr wrong) =
-    let P : Option PlanningLine → Type 0 = λ o. TurnsDone states state now own o (Err (fault_of_planning fault)) in
+    let P : Option PlanningLine → Type 0 = λ o. TurnsDone states state now own o (Err (fault_of_meta fault)) in
     subst P (sym (repeating_some l ls wrong.0 wrong.1 wrong.2)) (Err fault, wrong.3, refl)
 
 -- the planning line that the code asks is that of the section
 planning_is : (ls : List (List ℕ)) (line : List ℕ) → AllByRecursion IsLine ls → line ≡ print_lines (split ls).planning → (parts_of line).planning ≡ (split ls).planning
 planning_is ls line all is = ap (λ (p : SectionParts). p.planning) (planning_alone ls line all is)
 
-pub repeat_refused : (states : Keywords) (state : List ℕ) (now : Moment) (own : Own) (line : List ℕ) (fault : PlanningFault) → AllByRecursion IsLine own.section → line ≡ print_lines (split own.section).planning
-    → (fault ≡ planning.OutOfMemory) ⊎ FaultRepeated now (parts_of line).planning fault
-    → (fault ≡ planning.OutOfMemory) ⊎ TurnsDone states state now own (repeating (split own.section).planning) (Err (fault_of_planning fault))
+pub repeat_refused : (states : Keywords) (state : List ℕ) (now : Moment) (own : Own) (line : List ℕ) (fault : MetaFault) → AllByRecursion IsLine own.section → line ≡ print_lines (split own.section).planning
+    → (fault ≡ meta.OutOfMemory) ⊎ FaultRepeated now (parts_of line).planning fault
+    → (fault ≡ meta.OutOfMemory) ⊎ TurnsDone states state now own (repeating (split own.section).planning) (Err (fault_of_meta fault))
 repeat_refused states state now own line fault all is (inl memory) = inl memory
 repeat_refused states state now own line fault all is (inr wrong) =
     let P : List (List ℕ) → Type 0 = λ ls. FaultRepeated now ls fault in

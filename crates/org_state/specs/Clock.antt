@@ -17,8 +17,7 @@ use Rattle.org_outline.specs.Tree.{Document, Placed, print, tree, nodes, node_at
 use Rattle.org_outline.specs.Moves.{with_own_lines}
 use Rattle.org_outline.specs.Numbers.{weigh_node}
 use Rattle.org_outline.specs.Paths.{find_path}
-use Rattle.org_meta.specs.declared.fault.ClockFault.{ClockFault}
-use Rattle.org_meta.specs.declared.fault.ClockFault.TheVariants as clock
+use Rattle.org_meta.specs.declared.fault.MetaFault.{MetaFault}
 use Rattle.org_meta.specs.Clocks.{is_open, open_line, minutes_in}
 use Rattle.org_meta.specs.Clocking.{opened, closed_line}
 use Rattle.org_meta.specs.Sections.{split, joined}
@@ -27,7 +26,7 @@ use Rattle.org_state.specs.declared.fault.StateFault.{StateFault}
 use Rattle.org_state.specs.declared.fault.StateFault.TheVariants.{ClockBackwards, OutOfMemory}
 use Rattle.org_state.specs.Edits.{section_start, EditsSection}
 use Rattle.org_state.specs.Answers.{Makes}
-use Rattle.org_state.specs.Todo.{fault_of_path}
+use Rattle.org_state.specs.Todo.{fault_of_path, fault_of_meta}
 
 -- ---- the running clock
 
@@ -54,6 +53,10 @@ running_at d i =
 abbrev pub running_in : Document → Option Running
 running_in d = running_heading d >>= running_at d
 
+-- one runs in the text
+abbrev pub has_clock : List ℕ → Bool
+has_clock text = is_some (running_in (tree text))
+
 -- ---- in
 
 -- heading i with another section
@@ -70,12 +73,8 @@ with_opened now i d = with_section_at i d (opened_section now d i)
 
 -- ---- out
 
-abbrev pub fault_of_clock : ClockFault → StateFault
-fault_of_clock clock.ClockBackwards = ClockBackwards
-fault_of_clock clock.OutOfMemory = OutOfMemory
-
 -- lines with the first open clock line closed, unless the moment is before its start
-abbrev pub closed_first : Moment → List (List ℕ) → Result (List (List ℕ)) ClockFault
+abbrev pub closed_first : Moment → List (List ℕ) → Result (List (List ℕ)) MetaFault
 closed_first now [] = Ok []
 closed_first now (l ∷ ls) =
     if is_open l then result_map_both (λ closed. closed ∷ ls) (λ fault. fault) (closed_line now l)
@@ -84,7 +83,7 @@ closed_first now (l ∷ ls) =
 -- the first clock that runs at heading i closed
 abbrev pub with_closed : Moment → ℕ → Document → Result Document StateFault
 with_closed now i d =
-    result_map_both (with_section_at i d) fault_of_clock
+    result_map_both (with_section_at i d) fault_of_meta
     (closed_first now (node_at d i).node.section)
 
 -- ---- in, where a clock runs

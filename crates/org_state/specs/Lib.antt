@@ -2,6 +2,6 @@ pub mod Keyword
 pub mod Todo
 pub mod Edits
 pub mod Answers
+pub mod Change
 pub mod Clock
 pub mod Open
-pub mod Searched

@@ -10,15 +10,15 @@ use Rattle.org_outline.specs.States.{Keywords, has_word}
 use Rattle.org_outline.specs.Tree.{Document, node_at}
 use Rattle.org_outline.specs.Moves.{with_own_lines}
 use Rattle.org_outline.specs.Paths.{find_path}
-use Rattle.org_meta.specs.declared.fault.PlanningFault.{PlanningFault}
-use Rattle.org_meta.specs.declared.fault.PlanningFault.TheVariants as planning
+use Rattle.org_meta.specs.declared.fault.MetaFault.{MetaFault}
+use Rattle.org_meta.specs.declared.fault.MetaFault.TheVariants as meta
 use Rattle.org_meta.specs.Moments.{moment_text}
 use Rattle.org_meta.specs.Notes.{note_line, with_note}
 use Rattle.org_meta.specs.Planning.{PlanningLine, planning_of, has_repeater, AreRepeated, repeated_entries, clear_closed, set_closed}
 use Rattle.org_meta.specs.Replans.{repeated_line}
 use Rattle.org_meta.specs.Sections.{SectionParts, split, joined, put}
 use Rattle.org_state.specs.declared.fault.StateFault.{StateFault}
-use Rattle.org_state.specs.declared.fault.StateFault.TheVariants.{NotFound, NotUnique, UnknownState, OddPlanning, BadRepeat, DateRange, OutOfMemory}
+use Rattle.org_state.specs.declared.fault.StateFault.TheVariants.{NotFound, NotUnique, UnknownState, OddPlanning, BadRepeat, DateRange, ClockBackwards, OutOfMemory}
 use Rattle.org_state.specs.Keyword.{is_state, keyword_in, with_keyword}
 
 -- ---- faults
@@ -27,11 +27,12 @@ abbrev pub fault_of_path : PathFault → StateFault
 fault_of_path path.NotFound = NotFound
 fault_of_path path.NotUnique = NotUnique
 
-abbrev pub fault_of_planning : PlanningFault → StateFault
-fault_of_planning planning.OddPlanning = OddPlanning
-fault_of_planning planning.BadRepeat = BadRepeat
-fault_of_planning planning.DateRange = DateRange
-fault_of_planning planning.OutOfMemory = OutOfMemory
+abbrev pub fault_of_meta : MetaFault → StateFault
+fault_of_meta meta.OddPlanning = OddPlanning
+fault_of_meta meta.BadRepeat = BadRepeat
+fault_of_meta meta.DateRange = DateRange
+fault_of_meta meta.ClockBackwards = ClockBackwards
+fault_of_meta meta.OutOfMemory = OutOfMemory
 
 -- ---- one heading
 
@@ -47,10 +48,10 @@ with_lines states word own section =
     record { rest = with_keyword states word own.rest; section = section }
 
 -- those with the section of these parts, where they are no fault
-abbrev pub changed : Keywords → List ℕ → Own → Result SectionParts PlanningFault
+abbrev pub changed : Keywords → List ℕ → Own → Result SectionParts MetaFault
     → Result Own StateFault
 changed states word own parts =
-    result_map_both (λ parts. with_lines states word own (joined parts)) fault_of_planning parts
+    result_map_both (λ parts. with_lines states word own (joined parts)) fault_of_meta parts
 
 -- the well formed planning line that repeats, if there is one
 abbrev pub if_repeating : Option PlanningLine → Option PlanningLine
@@ -81,7 +82,7 @@ abbrev pub TurnsDone : Keywords → List ℕ → Moment → Own → Option Plann
 TurnsDone states state now own None r =
     r ≡ changed states state own (set_closed now (split own.section))
 TurnsDone states state now own (Some p) r =
-    (text : Result (List ℕ) PlanningFault) × AreRepeated p.entries now text
+    (text : Result (List ℕ) MetaFault) × AreRepeated p.entries now text
     × (r
     ≡ changed states (first_active states) own
     (result_map_both (repeated_parts state (keyword_in states own.rest) now p (split own.section))

@@ -9,13 +9,14 @@ ghost use Rattle.org_meta.specs.Planning.{clear_closed, set_closed};
 ghost use Rattle.org_meta.specs.Replans.{GivesRepeated};
 ghost use Rattle.org_meta.specs.Notes.{note_line, with_note};
 ghost use Rattle.org_meta.specs.Sections.{split, parts_of, joined, put};
-ghost use Rattle.org_outline.specs.Tree.{node_at, node_count, tree};
+ghost use Rattle.org_outline.specs.Tree.{node_count, tree};
 ghost use Rattle.org_outline.specs.Paths.{titles_of};
-ghost use Rattle.org_state.specs.Answers.{AnswersOwn, AnswersTodo};
+ghost use Rattle.org_state.specs.Answers.{AnswersTodo};
+ghost use Rattle.org_state.specs.Change.{AnswersChange, own_of};
 ghost use Rattle.org_state.specs.declared.fault.StateFault.TheVariants.{OutOfMemory};
 ghost use Rattle.org_state.specs.Edits.{moved, section_start};
 ghost use Rattle.org_state.specs.Keyword.{with_keyword};
-ghost use Rattle.org_state.specs.Todo.{own_at, with_lines, changed, repeating, TurnsDone, IsChanged};
+ghost use Rattle.org_state.specs.Todo.{with_lines, changed, repeating, TurnsDone, IsChanged};
 
 use crate::fault::StateFault;
 use crate::keyword::is_state;
@@ -26,42 +27,6 @@ use org_splice::Edit;
 use org_stamp::{Moment, Stamp};
 use std::alloc::{AllocError, Global};
 
-/// An edit of the heading's section, and that of its keyword.
-fn with_section(
-    alloc: Global,
-    outline: &Outline<'_>,
-    node: Node,
-    edit: Edit,
-    word: &[u8],
-) -> Result<Vec<Edit>, StateFault>
-    requires node { node < node_count (tree outline.now.text) }
-    requires within { edit.at + edit.removed
-        ≤ length (print_lines (node_at (tree outline.now.text) node).node.section) }
-    ensures { let d = tree outline.now.text in
-        (new : List (List ℕ)) → Gives edit (print_lines (own_at d node).section) new
-        → AnswersOwn (λ r. r ≡ Ok (with_lines outline.now.states word.now (own_at d node) new))
-        outline.now.text node result }
-{
-    let keyword = keyword_edit(alloc, outline, node, word)?;
-    Ok(vec![in alloc; in_section(outline, node, edit), keyword]?)
-}
-
-/// The edits of an entry that turns back: its CLOSED entry goes.
-fn turn_back(
-    alloc: Global,
-    outline: &Outline<'_>,
-    node: Node,
-    state: &[u8],
-) -> Result<Vec<Edit>, StateFault>
-    requires { node < node_count (tree outline.now.text) }
-    ensures { let own = own_at (tree outline.now.text) node in
-        AnswersOwn (λ r. r ≡ changed outline.now.states state.now own
-        (clear_closed (split own.section))) outline.now.text node result }
-{
-    let edit = clear_closed(alloc, section_of(outline, node))?;
-    with_section(alloc, outline, node, edit, state)
-}
-
 /// The edit that puts the property LAST_REPEAT into a section.
 fn last_repeat(alloc: Global, section: &[u8], now: Moment) -> Result<Edit, AllocError>
     requires { terminated section.now ≡ section.now }
@@ -70,38 +35,6 @@ fn last_repeat(alloc: Global, section: &[u8], now: Moment) -> Result<Edit, Alloc
 {
     let stamp = Stamp::at(now, false, true).print(alloc)?;
     put_property(alloc, section, b"LAST_REPEAT", &stamp)
-}
-
-/// The edits of the heading's section, as edits of the text, and that of its keyword: the last
-/// first, so that each stands where it does in the text as it was.
-fn last_first(
-    alloc: Global,
-    outline: &Outline<'_>,
-    node: Node,
-    note: Edit,
-    property: Edit,
-    planning: Edit,
-    keyword: Edit,
-) -> Result<Vec<Edit>, StateFault>
-    requires node { node < node_count (tree outline.now.text) }
-    requires note { note.at + note.removed
-        ≤ length (print_lines (node_at (tree outline.now.text) node).node.section) }
-    requires property { property.at + property.removed
-        ≤ length (print_lines (node_at (tree outline.now.text) node).node.section) }
-    requires planning { planning.at + planning.removed
-        ≤ length (print_lines (node_at (tree outline.now.text) node).node.section) }
-    ensures ok { let start = section_start (tree outline.now.text) node in
-        IfOk result (λ edits. edits.items
-        ≡ moved start note ∷ moved start property ∷ moved start planning ∷ keyword ∷ []) }
-    ensures err { IfErr result (λ fault. fault ≡ OutOfMemory) }
-{
-    let edits = [
-        in_section(outline, node, note),
-        in_section(outline, node, property),
-        in_section(outline, node, planning),
-        keyword,
-    ];
-    Ok(Vec::from_array(alloc, edits)?)
 }
 
 /// The edits of a section that say of a repetition: the note of its two states, and the property
@@ -125,106 +58,141 @@ fn noted(
     Ok((note, property))
 }
 
-/// The edits of a repeated task that turns done, where `planning` repeats its planning line.
-fn repeat(
-    alloc: Global,
-    outline: &Outline<'_>,
+/// A heading that is to get another state, and the moment.
+#[derive(Drop)]
+struct Change<'a> {
+    outline: &'a Outline<'a>,
     node: Node,
-    state: &[u8],
-    now: Moment,
-    planning: Edit,
-) -> Result<Vec<Edit>, StateFault>
-    requires node { node < node_count (tree outline.now.text) }
-    requires planning { let own = own_at (tree outline.now.text) node in
-        let line = print_lines (split own.section).planning in
-        GivesRepeated now (parts_of line) line (Some planning) }
-    ensures { let own = own_at (tree outline.now.text) node in
-        AnswersOwn (TurnsDone outline.now.states state.now now own
-        (repeating (split own.section).planning)) outline.now.text node result }
-{
-    let active = outline.states().first_active().as_bytes();
-    let keyword = keyword_edit(alloc, outline, node, active)?;
-    let section = section_of(outline, node);
-    let old = outline.parts(node).keyword;
-    let (note, property) = noted(alloc, section, state, old, now)?;
-    last_first(alloc, outline, node, note, property, planning, keyword)
+    state: &'a [u8],
+    moment: Moment,
 }
 
-/// The edits of an entry that turns done and isn't repeated: it gets a CLOSED entry.
-fn close(
-    alloc: Global,
-    outline: &Outline<'_>,
-    node: Node,
-    state: &[u8],
-    now: Moment,
-) -> Result<Vec<Edit>, StateFault>
-    requires { node < node_count (tree outline.now.text) }
-    ensures { let own = own_at (tree outline.now.text) node in
-        AnswersOwn (λ r. r ≡ changed outline.now.states state.now own
-        (set_closed now (split own.section))) outline.now.text node result }
-{
-    let edit = set_closed(alloc, section_of(outline, node), now)?;
-    with_section(alloc, outline, node, edit, state)
-}
-
-/// The edits of an entry that turns done: its planning is repeated, or else it gets a CLOSED entry.
-fn turn_done(
-    alloc: Global,
-    outline: &Outline<'_>,
-    node: Node,
-    state: &[u8],
-    now: Moment,
-) -> Result<Vec<Edit>, StateFault>
-    requires { node < node_count (tree outline.now.text) }
-    ensures { let own = own_at (tree outline.now.text) node in
-        AnswersOwn (TurnsDone outline.now.states state.now now own
-        (repeating (split own.section).planning)) outline.now.text node result }
-{
-    let line = sections(section_of(outline, node)).planning;
-    match repeat_planning(alloc, line, now)? {
-        Some(planning) => repeat(alloc, outline, node, state, now, planning),
-        None => close(alloc, outline, node, state, now),
+impl Change<'_> {
+    /// An edit of the heading's section, and that of its keyword.
+    fn with_section(&self, alloc: Global, edit: Edit) -> Result<Vec<Edit>, StateFault>
+        requires node { self.now.node < node_count (tree self.now.outline.now.text) }
+        requires within { edit.at + edit.removed
+            ≤ length (print_lines (own_of self.now).section) }
+        ensures { (new : List (List ℕ)) → Gives edit (print_lines (own_of self.now).section) new
+            → AnswersChange (λ r. r ≡ Ok (with_lines self.now.outline.now.states
+            self.now.state.now (own_of self.now) new)) self.now result }
+    {
+        let keyword = keyword_edit(alloc, self.outline, self.node, self.state)?;
+        Ok(vec![in alloc; in_section(self.outline, self.node, edit), keyword]?)
     }
-}
 
-/// The edits of a heading whose keyword alone changes.
-fn reword(
-    alloc: Global,
-    outline: &Outline<'_>,
-    node: Node,
-    state: &[u8],
-) -> Result<Vec<Edit>, StateFault>
-    requires { node < node_count (tree outline.now.text) }
-    ensures { let own = own_at (tree outline.now.text) node in
-        AnswersOwn (λ r. r ≡ Ok (with_lines outline.now.states state.now own own.section))
-        outline.now.text node result }
-{
-    let keyword = keyword_edit(alloc, outline, node, state)?;
-    Ok(vec![in alloc; keyword]?)
-}
+    /// The edits of an entry that turns back: its CLOSED entry goes.
+    fn turn_back(&self, alloc: Global) -> Result<Vec<Edit>, StateFault>
+        requires { self.now.node < node_count (tree self.now.outline.now.text) }
+        ensures { let own = own_of self.now in
+            AnswersChange (λ r. r ≡ changed self.now.outline.now.states self.now.state.now own
+            (clear_closed (split own.section))) self.now result }
+    {
+        let edit = clear_closed(alloc, section_of(self.outline, self.node))?;
+        self.with_section(alloc, edit)
+    }
 
-/// The edits of a heading that gets another state than it has.
-fn change(
-    alloc: Global,
-    outline: &Outline<'_>,
-    node: Node,
-    state: &[u8],
-    now: Moment,
-) -> Result<Vec<Edit>, StateFault>
-    requires { node < node_count (tree outline.now.text) }
-    ensures { AnswersOwn (IsChanged outline.now.states state.now now
-        (own_at (tree outline.now.text) node)) outline.now.text node result }
-{
-    let states = outline.states();
-    let was_done = states.is_done(outline.parts(node).keyword);
-    let is_done = states.is_done(state);
-    if was_done && !is_done {
-        return turn_back(alloc, outline, node, state);
+    /// The edits of the heading's section, as edits of the text, and that of its keyword: the last
+    /// first, so that each stands where it does in the text as it was.
+    fn last_first(
+        &self,
+        alloc: Global,
+        note: Edit,
+        property: Edit,
+        planning: Edit,
+        keyword: Edit,
+    ) -> Result<Vec<Edit>, StateFault>
+        requires node { self.now.node < node_count (tree self.now.outline.now.text) }
+        requires note { note.at + note.removed ≤ length (print_lines (own_of self.now).section) }
+        requires property { property.at + property.removed
+            ≤ length (print_lines (own_of self.now).section) }
+        requires planning { planning.at + planning.removed
+            ≤ length (print_lines (own_of self.now).section) }
+        ensures ok { let start = section_start (tree self.now.outline.now.text) self.now.node in
+            IfOk result (λ edits. edits.items ≡ moved start note ∷ moved start property
+            ∷ moved start planning ∷ keyword ∷ []) }
+        ensures err { IfErr result (λ fault. fault ≡ OutOfMemory) }
+    {
+        let edits = [
+            in_section(self.outline, self.node, note),
+            in_section(self.outline, self.node, property),
+            in_section(self.outline, self.node, planning),
+            keyword,
+        ];
+        Ok(Vec::from_array(alloc, edits)?)
     }
-    if is_done && !was_done {
-        return turn_done(alloc, outline, node, state, now);
+
+    /// The edits of a repeated task that turns done, where `planning` repeats its planning line.
+    fn repeat(&self, alloc: Global, planning: Edit) -> Result<Vec<Edit>, StateFault>
+        requires node { self.now.node < node_count (tree self.now.outline.now.text) }
+        requires planning { let line = print_lines (split (own_of self.now).section).planning in
+            GivesRepeated self.now.moment (parts_of line) line (Some planning) }
+        ensures { let own = own_of self.now in
+            AnswersChange (TurnsDone self.now.outline.now.states self.now.state.now self.now.moment
+            own (repeating (split own.section).planning)) self.now result }
+    {
+        let active = self.outline.states().first_active().as_bytes();
+        let keyword = keyword_edit(alloc, self.outline, self.node, active)?;
+        let section = section_of(self.outline, self.node);
+        let old = self.outline.parts(self.node).keyword;
+        let (note, property) = noted(alloc, section, self.state, old, self.moment)?;
+        self.last_first(alloc, note, property, planning, keyword)
     }
-    reword(alloc, outline, node, state)
+
+    /// The edits of an entry that turns done and isn't repeated: it gets a CLOSED entry.
+    fn close(&self, alloc: Global) -> Result<Vec<Edit>, StateFault>
+        requires { self.now.node < node_count (tree self.now.outline.now.text) }
+        ensures { let own = own_of self.now in
+            AnswersChange (λ r. r ≡ changed self.now.outline.now.states self.now.state.now own
+            (set_closed self.now.moment (split own.section))) self.now result }
+    {
+        let edit = set_closed(alloc, section_of(self.outline, self.node), self.moment)?;
+        self.with_section(alloc, edit)
+    }
+
+    /// The edits of an entry that turns done: its planning is repeated, or else it gets a CLOSED
+    /// entry.
+    fn turn_done(&self, alloc: Global) -> Result<Vec<Edit>, StateFault>
+        requires { self.now.node < node_count (tree self.now.outline.now.text) }
+        ensures { let own = own_of self.now in
+            AnswersChange (TurnsDone self.now.outline.now.states self.now.state.now self.now.moment
+            own (repeating (split own.section).planning)) self.now result }
+    {
+        let line = sections(section_of(self.outline, self.node)).planning;
+        match repeat_planning(alloc, line, self.moment)? {
+            Some(planning) => self.repeat(alloc, planning),
+            None => self.close(alloc),
+        }
+    }
+
+    /// The edits of a heading whose keyword alone changes.
+    fn reword(&self, alloc: Global) -> Result<Vec<Edit>, StateFault>
+        requires { self.now.node < node_count (tree self.now.outline.now.text) }
+        ensures { let own = own_of self.now in
+            AnswersChange (λ r. r ≡ Ok (with_lines self.now.outline.now.states self.now.state.now
+            own own.section)) self.now result }
+    {
+        let keyword = keyword_edit(alloc, self.outline, self.node, self.state)?;
+        Ok(vec![in alloc; keyword]?)
+    }
+
+    /// The edits of a heading that gets another state than it has.
+    fn edits(&self, alloc: Global) -> Result<Vec<Edit>, StateFault>
+        requires { self.now.node < node_count (tree self.now.outline.now.text) }
+        ensures { AnswersChange (IsChanged self.now.outline.now.states self.now.state.now
+            self.now.moment (own_of self.now)) self.now result }
+    {
+        let states = self.outline.states();
+        let was_done = states.is_done(self.outline.parts(self.node).keyword);
+        let is_done = states.is_done(self.state);
+        if was_done && !is_done {
+            return self.turn_back(alloc);
+        }
+        if is_done && !was_done {
+            return self.turn_done(alloc);
+        }
+        self.reword(alloc)
+    }
 }
 
 /// The edits, to be made in this order, that put the heading at `path` into another state, or into
@@ -261,5 +229,11 @@ pub fn todo(
     if outline.parts(node).keyword == state {
         return Ok(Vec::new(alloc));
     }
-    change(alloc, outline, node, state, now)
+    let change = Change {
+        outline,
+        node,
+        state,
+        moment: now,
+    };
+    change.edits(alloc)
 }

@@ -4,20 +4,19 @@
 //! here.
 ghost use Rattle.std.specs.Prelude.{◌≡◌, ◌≢◌, ◌<◌, ◌≤◌, ℕ, false, length, Some, Ok, IfOk};
 ghost use Rattle.org_splice.specs.Lines.{terminated, print_lines};
+ghost use Rattle.org_splice.specs.Searched.{IsSearched};
 ghost use Rattle.org_outline.specs.Paths.{find_path, titles_of};
 ghost use Rattle.org_outline.specs.Tree.{node_at, node_count, tree};
-ghost use Rattle.org_state.specs.Clock.{span_from, running_in, runs_at, opened_section, clocked_minutes, clocked_at};
+ghost use Rattle.org_state.specs.Clock.{has_clock, span_from, running_in, runs_at, opened_section, clocked_minutes, clocked_at};
 ghost use Rattle.org_state.specs.Clock.{AnswersOpening, AnswersClosing, ClosesSection, AnswersSwitch};
 ghost use Rattle.org_state.specs.Edits.{section_start, EditsSection};
-ghost use Rattle.org_state.specs.Searched.{IsSearched};
 
 use crate::fault::StateFault;
 use crate::own::{in_section, section_of};
 use crate::run::Running;
-use crate::searched::Searched;
 use org_meta::{close_clock, find_open, open_clock, total};
 use org_outline::{Node, Outline, PathFault};
-use org_splice::{Edit, Span};
+use org_splice::{Edit, Searched, Span};
 use org_stamp::Moment;
 use std::alloc::{AllocError, Global};
 
@@ -67,18 +66,18 @@ fn running_among(outline: &Outline<'_>, first: usize, last: usize) -> Option<Run
 /// The clock that runs in the text, and what is known behind the search. Only the headings of which
 /// nothing was known are read, and one before them. Takes no memory.
 pub fn search(outline: &Outline<'_>, searched: Searched) -> (Option<Running>, Searched)
-    requires { IsSearched searched outline.now.text }
+    requires { IsSearched has_clock searched outline.now.text }
     ensures running { result.0 ≡ running_in (tree outline.now.text) }
-    ensures searched { IsSearched result.1 outline.now.text }
+    ensures searched { IsSearched has_clock result.1 outline.now.text }
 {
     let (front, back) = match searched {
-        Searched::Clockless => return (None, Searched::Clockless),
+        Searched::Nowhere => return (None, Searched::Nowhere),
         Searched::Ends { front, back } => (front, back),
     };
     let first = outline.count_before(front).saturating_sub(1);
     let last = outline.count_before((outline.text().len() + 1).saturating_sub(back));
     match running_among(outline, first, last) {
-        None => (None, Searched::Clockless),
+        None => (None, Searched::Nowhere),
         Some(running) => {
             let front = outline.start(running.heading);
             (Some(running), Searched::Ends { front, back })

@@ -1,5 +1,5 @@
 //! Why a state can't be changed, or a clock.
-use org_meta::{ClockFault, PlanningFault};
+use org_meta::MetaFault;
 use org_outline::PathFault;
 use std::alloc::{AllocError, AllocFailed};
 use thiserror::Error;
@@ -47,32 +47,19 @@ impl From<PathFault> for StateFault {
     }
 }
 
-impl From<PlanningFault> for StateFault {
+impl From<MetaFault> for StateFault {
     ghost use Rattle.std.specs.Prelude.{◌≡◌};
-    ghost use Rattle.org_state.specs.Todo.{fault_of_planning};
+    ghost use Rattle.org_state.specs.Todo.{fault_of_meta};
 
-    ghost from_gives = { λ fault e. e ≡ fault_of_planning fault };
+    ghost from_gives = { λ fault e. e ≡ fault_of_meta fault };
 
-    fn from(fault: PlanningFault) -> Self {
+    fn from(fault: MetaFault) -> Self {
         match fault {
-            PlanningFault::OddPlanning => StateFault::OddPlanning,
-            PlanningFault::BadRepeat => StateFault::BadRepeat,
-            PlanningFault::DateRange => StateFault::DateRange,
-            PlanningFault::OutOfMemory => StateFault::OutOfMemory,
-        }
-    }
-}
-
-impl From<ClockFault> for StateFault {
-    ghost use Rattle.std.specs.Prelude.{◌≡◌};
-    ghost use Rattle.org_state.specs.Clock.{fault_of_clock};
-
-    ghost from_gives = { λ fault e. e ≡ fault_of_clock fault };
-
-    fn from(fault: ClockFault) -> Self {
-        match fault {
-            ClockFault::ClockBackwards => StateFault::ClockBackwards,
-            ClockFault::OutOfMemory => StateFault::OutOfMemory,
+            MetaFault::OddPlanning => StateFault::OddPlanning,
+            MetaFault::BadRepeat => StateFault::BadRepeat,
+            MetaFault::DateRange => StateFault::DateRange,
+            MetaFault::ClockBackwards => StateFault::ClockBackwards,
+            MetaFault::OutOfMemory => StateFault::OutOfMemory,
         }
     }
 }

@@ -11,10 +11,8 @@ mod keyword;
 pub mod laws;
 mod own;
 mod run;
-mod searched;
 
 pub use changing::todo;
 pub use clocks::{clock_in, clock_out, clocked, running, search, switch_clock};
 pub use fault::StateFault;
 pub use run::Running;
-pub use searched::Searched;

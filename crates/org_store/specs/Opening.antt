@@ -2,13 +2,12 @@
 use Rattle.std.specs.Prelude.{◌≡◌, ◌⊎◌, ℕ, false, List, [], Result}
 use Rattle.org_disk.specs.declared.disk.Disk.{Ghosts}
 use Rattle.org_journal.specs.Recovered.{contents}
-use Rattle.org_fileset.specs.Opening.{IsOpenedFor, IsRefusedFor, disk_in}
+use Rattle.org_fileset.specs.Opening.{IsOpenedFor, disk_in}
 use Rattle.org_fileset.specs.declared.open.OpenFault.{OpenFault}
 use Rattle.org_fileset.specs.declared.open.OpenRefused.{OpenRefused}
 use Rattle.org_fileset.specs.declared.open.OpenFault.TheVariants.{Device, OutOfMemory}
 use Rattle.org_outline.specs.States.{Keywords}
 use Rattle.org_commands.specs.InOrder.{texts_of}
-use Rattle.org_store.specs.Reopening.{IsOpenable}
 use Rattle.org_commands.specs.Session.{Session, StoreView}
 
 -- a store that was just opened, over files of these names that have these texts
@@ -39,10 +38,6 @@ pub record IsOpened {D : Type 0} (g : Ghosts D) (states : Keywords) (given : Lis
       (contents (g.files store.disk))
   pub dirty_files : store.dirty ≡ []
 
--- An opening over the disk `before` that was refused for this fault, and handed it back as `now`.
-pub record IsRefused {D : Type 0} (g : Ghosts D) (given : List (List ℕ)) (before now : D)
-    (fault : OpenFault) : Type 0 where
-  pub set : IsRefusedFor g given before now fault
-  -- what recovers to files of these names is refused as long as memory or the disk fails
-  pub again : g.honest now → IsOpenable given (contents (g.files before))
-      → (fault ≡ OutOfMemory) ⊎ (fault ≡ Device)
+-- Memory or the disk failed: another opening may succeed.
+abbrev pub IsTransient : OpenFault → Type 0
+IsTransient fault = (fault ≡ OutOfMemory) ⊎ (fault ≡ Device)

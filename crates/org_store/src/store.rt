@@ -6,11 +6,12 @@ ghost use Rattle.std.specs.Prelude.{◌≡◌, IfOk, IfErr, IsErrOf};
 ghost use Rattle.std.specs.List.{All};
 ghost use Rattle.org_disk.specs.Accounts.{Accounts};
 ghost use Rattle.org_disk.specs.Names.{IsOrgFile};
-ghost use Rattle.org_fileset.specs.Opening.{IsDeviceRefusal};
-ghost use Rattle.org_fileset.specs.Recovery.{Reopens};
-ghost use Rattle.org_store.specs.Group.{IsGroup};
-ghost use Rattle.org_store.specs.Opening.{IsOpened, IsRefused, disk_of};
-ghost use Rattle.org_commands.specs.Runs.{IsBrokenBy, IsIdle, Runs, SettlesAll};
+ghost use Rattle.org_fileset.specs.Opening.{Opens};
+ghost use Rattle.org_fileset.specs.Replay.{files_on};
+ghost use Rattle.org_store.specs.Group.{IsGroupSize};
+ghost use Rattle.org_store.specs.Opening.{IsOpened, IsTransient, disk_of};
+ghost use Rattle.org_store.specs.Reopening.{IsOpenable};
+ghost use Rattle.org_commands.specs.Runs.{SaysBroken, StaysWhereNeedless, Runs, SettlesAll};
 ghost use Rattle.org_commands.specs.Counts.{Counts, SettledCounts};
 
 use org_commands::{Command, Executor, Files, Kind, Reply, RunFault, Tally};
@@ -23,10 +24,10 @@ use std::marker::Model;
 /// Org files on a disk, and what was done to them since the store was opened.
 ///
 /// A clause sees its disk, its session (`Session` of org_commands) and which of its files wait for
-/// a commit. What is said of files and of crashes is said where the disk is honest after the call;
-/// of crashes in `run` and `settle` also only where it was at rest, as an opening of a recoverable
-/// disk and each call without a failure leave it (`LeavesDisk` of org_commands). A store that is
-/// broken does nothing any more: open its files anew.
+/// a commit. What is said of replies, files and crashes is said where the disk is honest after the
+/// call; of crashes in `run` and `settle` also only where it was at rest, as an opening of a
+/// recoverable disk and each call without a failure leave it (`LeavesDisk` of org_commands). A
+/// store that is broken does nothing any more: open its files anew.
 #[derive(Drop)]
 pub struct Store<D: Disk> {
     executor: Executor<D>,
@@ -50,16 +51,8 @@ impl<D: Disk> Model for Store<D> {
 
 impl<D: Disk> Store<D> {
     /// A store over the files of the given names and of their archive files, with nothing accepted
-    /// and a group of 1. No name is an archive file's or the journal's; a repeated one counts once.
-    /// What a crash cut short is finished first; after Ok a whole journal whose gate was closed is
-    /// as it was. No file is written but the journal and those that the record of an open one
-    /// names.
-    ///
-    /// On a disk that is recoverable, and honest after the call, of which each image recovers to
-    /// files, every image at every moment since the call began recovers to what an image at the
-    /// start recovered to, whatever is answered; so it may be crashed, and called again. Where the
-    /// journal is bad, as it reads, or is whole and its gate is closed, a crash leaves what it
-    /// might have left before.
+    /// and a group of 1. What it finishes first and writes, and what a crash leaves meanwhile, is
+    /// said at `FileSet::open`.
     ///
     /// # Errors
     ///
@@ -73,10 +66,9 @@ impl<D: Disk> Store<D> {
     ) -> Result<Store<D>, OpenRefused<D>>
         requires { All IsOrgFile names.items }
         ensures opened { IfOk result (λ store. IsOpened D.Disk states names.items store) }
-        ensures reopens { Reopens D.Disk disk (disk_of result) result }
-        ensures refused { IfErr result (λ refused.
-            IsRefused D.Disk names.items disk refused.disk refused.fault) }
-        ensures accounts { Accounts D.Disk disk (disk_of result) (IsDeviceRefusal result) }
+        ensures opens { Opens D.Disk names.items disk (disk_of result) result }
+        ensures again { IfErr result (λ refused. D.honest refused.disk
+            → IsOpenable names.items (files_on D.Disk disk) → IsTransient refused.fault) }
     {
         match Files::open(alloc, disk, names) {
             Ok(files) => Ok(Store {
@@ -118,7 +110,7 @@ impl<D: Disk> Store<D> {
     /// Sets how many commands are accepted before they are settled, from 1 to 1,000. It settles
     /// nothing by itself.
     pub fn set_group(&mut self, group: u32)
-        requires { IsGroup group }
+        requires { IsGroupSize group }
         ensures { self.new ≡ record self.old {
           session = record self.old.session
               { group = group };
@@ -151,8 +143,8 @@ impl<D: Disk> Store<D> {
     pub fn settle(&mut self) -> Result<(), RunFault>
         ensures did { SettlesAll D.Disk self.old result self.new }
         ensures counts { SettledCounts self.old.session result self.new.session }
-        ensures idle { IsIdle (Unit {0}) self.old result self.new }
-        ensures broken { IsBrokenBy self.old.session result self.new.session }
+        ensures idle { StaysWhereNeedless (Unit {0}) self.old result self.new }
+        ensures broken { SaysBroken self.old.session result self.new.session }
         ensures accounts { Accounts D.Disk self.old.disk self.new.disk
             (IsErrOf result RunFault.Device) }
     {
@@ -167,7 +159,8 @@ impl<D: Disk> Store<D> {
         Ok(())
     }
 
-    /// Runs one command. `Settle` does as `settle` does.
+    /// Runs one command, and answers as the model does (`Step` of org_commands). `Settle` does as
+    /// `settle` does.
     ///
     /// At every moment since the call began, what a crash leaves recovers to the files after the
     /// commands that were acknowledged then, or, where this command settles, to those after all
@@ -184,8 +177,8 @@ impl<D: Disk> Store<D> {
     pub fn run(&mut self, command: &Command<'_>) -> Result<Reply, RunFault>
         ensures did { Runs D.Disk self.old command.now result self.new }
         ensures counts { Counts self.old.session result self.new.session }
-        ensures idle { IsIdle (command.now ≡ Command.Settle) self.old result self.new }
-        ensures broken { IsBrokenBy self.old.session result self.new.session }
+        ensures idle { StaysWhereNeedless (command.now ≡ Command.Settle) self.old result self.new }
+        ensures broken { SaysBroken self.old.session result self.new.session }
         ensures accounts { Accounts D.Disk self.old.disk self.new.disk
             (IsErrOf result RunFault.Device) }
     {

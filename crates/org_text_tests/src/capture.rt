@@ -48,33 +48,35 @@ fn is_right(rt: &impl Abort, alloc: Global, row: &Long) -> bool {
     }
 }
 
-/// Templates, initial texts, and what they make.
-const TEMPLATES: &[(&str, &str, &str)] = &[
-    // Escapes stand for their texts.
-    ("* 50% off %t%?", "", "* 50% off <2026-07-01 Wed>"),
+/// Templates, and what they make of an empty initial text: escapes stand for their texts.
+const ALONE: &[(&str, &str)] = &[
+    ("* 50% off %t%?", "* 50% off <2026-07-01 Wed>"),
     (
         "%T %u %U",
-        "",
         "<2026-07-01 Wed 10:00> [2026-07-01 Wed] [2026-07-01 Wed 10:00]",
     ),
-    ("%t", "", "<2026-07-01 Wed>"),
-    ("%U", "", "[2026-07-01 Wed 10:00]"),
-    ("%%t %%%", "", "%<2026-07-01 Wed> %%%"),
-    ("%", "", "%"),
-    ("5% 6%7 %! %\n%", "", "5% 6%7 %! %\n%"),
-    ("%?%?", "", ""),
+    ("%t", "<2026-07-01 Wed>"),
+    ("%U", "[2026-07-01 Wed 10:00]"),
+    ("%%t %%%", "%<2026-07-01 Wed> %%%"),
+    ("%", "%"),
+    ("5% 6%7 %! %\n%", "5% 6%7 %! %\n%"),
+    ("%?%?", ""),
+    ("100% %u%%", "100% [2026-07-01 Wed]%%"),
+    ("%é%]%)%>", "%é%]%)%>"),
+    ("%i", ""),
+];
+
+/// Templates, initial texts, and what they make. What stands before the initial text is put before
+/// each of its lines.
+const TEMPLATES: &[(&str, &str, &str)] = &[
     ("%?%i%?", "%?%t", "%?%t"),
-    ("100% %u%%", "", "100% [2026-07-01 Wed]%%"),
     ("%9%0%~%\t%i", "x", "%9%0%~%\tx"),
     ("%%i", "x", "%x"),
-    ("%é%]%)%>", "", "%é%]%)%>"),
-    // What stands before the initial text is put before each of its lines.
     ("* N\n> %i", "a\nb", "* N\n> a\n> b"),
     ("> %i|%i", "a\nb\n", "> a\n> b\n> |a\n> |b\n> |"),
     ("%t %i", "a\nb", "<2026-07-01 Wed> a\n<2026-07-01 Wed> b"),
     ("> %i", "a\r\nb", "> a\r\n> b"),
     ("%i", "%t %i %d 100%", "%t %i %d 100%"),
-    ("%i", "", ""),
     ("* N\n- %i", "a\nb\nc", "* N\n- a\n- b\n- c"),
     (
         "%t: %i\n%i",
@@ -105,6 +107,13 @@ const LONG: &[Long] = &[
     // Two bytes more behind each newline.
     ("> %i", 1, "\n", LARGE, Made::Length(3_145_730)),
 ];
+
+#[test]
+fn templates_alone(rt: HostRuntime) {
+    for (template, wanted) in ALONE {
+        assert!(rt; makes(&rt, rt.alloc(), template, "", wanted), "{template}");
+    }
+}
 
 #[test]
 fn templates(rt: HostRuntime) {

@@ -5,7 +5,7 @@ ghost use Rattle.org_splice.specs.Lines.{terminated};
 
 use crate::shared::{becomes, now, states, titles};
 use org_meta::{
-    PlanningFault, add_note, property, put_property, repeat_planning, sections, set_closed,
+    MetaFault, add_note, property, put_property, repeat_planning, sections, set_closed,
 };
 use org_outline::{Outline, is_terminated};
 use org_splice::Edit;
@@ -74,7 +74,7 @@ fn are_parts(section: &[u8], planning: &[u8], drawer: &[u8], rest: &[u8]) -> boo
 fn is_odd(alloc: Global, section: &[u8], now: Moment) -> bool
     requires { terminated section.now ≡ section.now }
 {
-    let odd = Some(PlanningFault::OddPlanning);
+    let odd = Some(MetaFault::OddPlanning);
     repeat_planning(alloc, section, now).err() == odd
         && set_closed(alloc, section, now).err() == odd
 }

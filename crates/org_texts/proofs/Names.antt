@@ -1,5 +1,5 @@
 -- The texts of names, and names that are held.
-use Rattle.std.proofs.Common.{◌≡◌, inl, inr, ℕ, zero, suc, ◌≤◌, Bool, true, false, List, [], ◌∷◌, ◌++◌, length, Option, Some, None, refl, sym, ◌∙◌, ap, subst, arith, map, length-append}
+use Rattle.std.proofs.Common.{◌≡◌, inl, inr, ℕ, zero, suc, ◌≤◌, Bool, true, false, List, [], ◌∷◌, ◌++◌, length, Option, Some, None, refl, sym, ◌∙◌, ap, subst, arith, map, take, length-append}
 use Rattle.std.specs.Prelude.{slice_get, IsSomeAnd}
 use Rattle.std.specs.List.{list_any}
 use Rattle.std.specs.Map.{keys_of, lookup, values_of}
@@ -67,6 +67,16 @@ among_name all names name among is = elim (cases_Bool (list_any (bytes_eq name) 
   | inl t ↦ rw t among
   | inr f ↦ rw f (among_push all names name among is)
 ]
+
+-- the first of the names
+pub among_take : (all names : List (List ℕ)) (n : ℕ) → AreAmong all names → AreAmong all (take n names)
+among_take all names zero among = tt
+among_take all [] (suc n) among = tt
+among_take all (name ∷ names) (suc n) among = (among.0, among_take all names n among.1)
+
+-- the same names
+pub among_same : (all old names before : List (List ℕ)) → all ≡ old → names ≡ before → AreAmong old before → AreAmong all names
+among_same all old names before same kept among = subst (λ (ns : List (List ℕ)). AreAmong all ns) (sym kept) (subst (λ (a : List (List ℕ)). AreAmong a before) (sym same) among)
 
 pub among_at : (all names : List (List ℕ)) (i : ℕ) (name : List ℕ) → AreAmong all names → slice_get names i ≡ Some name → list_any (bytes_eq name) all ≡ true
 among_at all [] i name among at = absurd (cc)

@@ -1,7 +1,8 @@
 -- Texts that are held in memory by the names of their files, as callers see them.
-use Rattle.std.specs.Prelude.{ℕ, Bool, Option, Some, None, List, [], ◌∷◌, ◌++◌, map, if◌then◌else◌}
-use Rattle.std.specs.List.{list_any}
-use Rattle.std.specs.Map.{lookup}
+use Rattle.std.specs.Prelude.{◌≡◌, ℕ, Bool, Option, Some, None, List, [], ◌∷◌, ◌++◌, map, if◌then◌else◌, IfSome, slice_get}
+use Rattle.std.specs.List.{list_any, position}
+use Rattle.std.specs.Map.{keys_of, lookup, values_of}
+use Rattle.std.specs.Option.{is_some}
 use Rattle.std.specs.Str.{bytes_eq}
 use Rattle.org_splice.specs.Texts.{EditedText, terminated_text, settled}
 use Rattle.org_texts.specs.Held.{HeldText}
@@ -82,3 +83,9 @@ ready_of e = (e.0, e.1.ready)
 -- the same, as it is behind a commit
 abbrev pub on_disk : List ℕ × HeldText → List ℕ × EditedText
 on_disk e = (e.0, settled e.1.text.bytes)
+
+-- where a name stands, if it is there, and what is held of it
+pub record IsPlace (name : List ℕ) (es : List (List ℕ × HeldText)) (place : Option ℕ) : Type 0 where
+  pub named : place ≡ position (bytes_eq name) (keys_of es)
+  pub found : is_some place ≡ is_some (lookup (bytes_eq name) es)
+  pub value : IfSome place (λ i. slice_get (values_of es) i ≡ lookup (bytes_eq name) es)

@@ -3,15 +3,15 @@
 //! A dirty text differs, or may differ, from what the disk has. `keep` closes a command, `undo`
 //! takes it back, `settle` says that the disk has all. Nothing here calls a disk.
 ghost use Rattle.std.specs.Prelude.{◌≡◌, ◌<◌, ◌≤◌, [], ◌∷◌, ◌++◌, List, ℕ, map, take, length, slice_get, Some, None, true, false, IfSome, IsSome, IsSomeAnd, OnOk, OnErr};
-ghost use Rattle.std.specs.List.{IsDistinct, list_any, position};
-ghost use Rattle.std.specs.Map.{keys_of, lookup, set_value, values_of};
-ghost use Rattle.std.specs.Option.{is_some, option_map};
+ghost use Rattle.std.specs.List.{IsDistinct, list_any};
+ghost use Rattle.std.specs.Map.{keys_of, lookup};
+ghost use Rattle.std.specs.Option.{option_map};
 ghost use Rattle.std.specs.Str.{bytes_eq};
 ghost use Rattle.org_splice.specs.Edits.{CanApply};
 ghost use Rattle.org_splice.specs.Texts.{terminated_text, settled, spliced_each};
 ghost use Rattle.org_texts.specs.Inside.{IsHolding};
 ghost use Rattle.org_texts.specs.Plan.{CanEdit, IsPlan, planned, with_edits};
-ghost use Rattle.org_texts.specs.Texts.{before_of, terminated_in, nothing_held, now_of, on_disk, pairs, ready_of, settled_set, text_of, with_change, with_name, with_text};
+ghost use Rattle.org_texts.specs.Texts.{IsPlace, before_of, terminated_in, nothing_held, now_of, pairs, ready_of, settled_set, text_of, with_change, with_name, with_text};
 
 use crate::held::Held;
 use crate::plan::{Edits, FileEdits, Plan};
@@ -117,23 +117,16 @@ impl Texts {
         ensures before { self.new.before ≡ self.old.before }
         ensures err { OnErr result (self.new.now ≡ self.old.before) }
     {
-        let done = self.close(name);
+        let marked = mark(&mut self.dirty, name);
+        if marked.is_err() {
+            self.undo();
+            return marked;
+        }
+        let done = ready_at(&mut self.held, &mut self.last, name);
         if done.is_err() {
             self.undo();
         }
         done
-    }
-
-    // `make_ready` as far as there is memory.
-    fn close(&mut self, name: &FileName) -> Result<(), AllocError>
-        requires { IsSome (text_of self.old.now name.now) }
-        ensures now { OnOk result (self.new.now ≡ terminated_in name.now self.old.now) }
-        ensures ready { OnOk result
-            (self.new.ready ≡ with_change name.now (λ _. true) self.old.ready) }
-        ensures before { self.new.before ≡ self.old.before }
-    {
-        mark(&mut self.dirty, name)?;
-        ready_at(&mut self.held, &mut self.last, name)
     }
 
     /// Makes the edits of a plan, in place.
@@ -183,7 +176,9 @@ impl Texts {
         ensures now { self.new.now ≡ self.old.before }
         ensures before { self.new.before ≡ self.old.before }
     {
-        undo_each(&mut self.held);
+        for place in 0..self.held.len() {
+            self.held[place].undo();
+        }
         self.dirty.truncate(self.dirty_before);
     }
 
@@ -192,7 +187,9 @@ impl Texts {
         ensures now { self.new.now ≡ self.old.now }
         ensures before { self.new.before ≡ self.old.now }
     {
-        keep_each(&mut self.held);
+        for place in 0..self.held.len() {
+            self.held[place].keep();
+        }
         self.dirty_before = self.dirty.len();
     }
 
@@ -202,7 +199,9 @@ impl Texts {
         ensures now { self.new.now ≡ settled_set self.old.now }
         ensures before { self.new.before ≡ settled_set self.old.now }
     {
-        settle_each(&mut self.held);
+        for place in 0..self.held.len() {
+            self.held[place].settle();
+        }
         self.dirty.clear();
         self.dirty_before = 0;
     }
@@ -247,12 +246,8 @@ impl Changes<FileName> for Texts {
 
 /// Where the text of this name stands. A place is guessed, and looked at first.
 fn place_of(held: &IndexMap<FileName, Held>, guess: usize, name: &FileName) -> Option<usize>
-    ensures place { result ≡ position (bytes_eq name.now) (keys_of held.now.entries) }
-    ensures found { is_some result
-        ≡ is_some (lookup (bytes_eq name.now) held.now.entries) }
+    ensures place { IsPlace name.now held.now.entries result }
     ensures within { IfSome result (λ i. i < length held.now.entries) }
-    ensures value { IfSome result (λ i. slice_get (values_of held.now.entries) i
-        ≡ lookup (bytes_eq name.now) held.now.entries) }
 {
     match held.as_slice().get_index(guess) {
         Some((at, _)) if at == name => Some(guess),
@@ -264,12 +259,8 @@ fn place_of(held: &IndexMap<FileName, Held>, guess: usize, name: &FileName) -> O
 #[cold]
 #[inline(never)]
 fn find(held: &IndexMap<FileName, Held>, name: &FileName) -> Option<usize>
-    ensures place { result ≡ position (bytes_eq name.now) (keys_of held.now.entries) }
-    ensures found { is_some result
-        ≡ is_some (lookup (bytes_eq name.now) held.now.entries) }
+    ensures place { IsPlace name.now held.now.entries result }
     ensures within { IfSome result (λ i. i < length held.now.entries) }
-    ensures value { IfSome result (λ i. slice_get (values_of held.now.entries) i
-        ≡ lookup (bytes_eq name.now) held.now.entries) }
 {
     held.get_index_of(name)
 }
@@ -359,37 +350,4 @@ fn apply_at(
         unreachable!();
     };
     held[place].apply(edits)
-}
-
-/// Takes all edits of each text back.
-fn undo_each(held: &mut IndexMap<FileName, Held>)
-    ensures now { map now_of held.new.entries ≡ map before_of held.old.entries }
-    ensures before { map before_of held.new.entries ≡ map before_of held.old.entries }
-    ensures names { keys_of held.new.entries ≡ keys_of held.old.entries }
-{
-    for place in 0..held.len() {
-        held[place].undo();
-    }
-}
-
-/// Keeps all edits of each text.
-fn keep_each(held: &mut IndexMap<FileName, Held>)
-    ensures now { map now_of held.new.entries ≡ map now_of held.old.entries }
-    ensures before { map before_of held.new.entries ≡ map now_of held.old.entries }
-    ensures names { keys_of held.new.entries ≡ keys_of held.old.entries }
-{
-    for place in 0..held.len() {
-        held[place].keep();
-    }
-}
-
-/// Takes each text as it is for what the disk has.
-fn settle_each(held: &mut IndexMap<FileName, Held>)
-    ensures now { map now_of held.new.entries ≡ map on_disk held.old.entries }
-    ensures before { map before_of held.new.entries ≡ map on_disk held.old.entries }
-    ensures names { keys_of held.new.entries ≡ keys_of held.old.entries }
-{
-    for place in 0..held.len() {
-        held[place].settle();
-    }
 }

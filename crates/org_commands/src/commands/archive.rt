@@ -5,20 +5,21 @@ ghost use Rattle.org_texts.specs.Texts.{bytes_or, text_of};
 ghost use Rattle.org_move.specs.Answers.{Gives, GivesPlace};
 ghost use Rattle.org_move.specs.Archive.{archive_across, archive_within};
 ghost use Rattle.org_move.specs.Location.{location};
-ghost use Rattle.org_commands.specs.Files.{AreBetweenCommands, AreReady, IsPlanFor, IsReady};
+ghost use Rattle.org_commands.specs.Files.{AreReadyForCommand, AreReady, IsPlanFor, IsReady};
 ghost use Rattle.org_commands.specs.InOrder.{is_name, text_at};
 ghost use Rattle.org_commands.specs.Keeping.{Plans};
-ghost use Rattle.org_commands.specs.Outcome.{archive as outcome, archive_to as outcome_to};
+ghost use Rattle.org_commands.specs.Outcome.{archive_to as outcome_to, outcome};
+ghost use Rattle.org_commands.specs.Planning.{PlansAs};
 ghost use Rattle.org_commands.specs.Reading.{OnlyReads};
 ghost use Rattle.org_commands.specs.Refile.{MakesDocument, MakesDocuments};
 ghost use Rattle.org_commands.specs.Session.{BetweenSessions};
 
-use crate::command::{Archive, Refusal, RunFault};
+use crate::command::{Archive, Command, Refusal, RunFault};
 use crate::commands::edits::{plan_of_two, plan_of_two_edits};
 use crate::commands::outline::outline_of;
 use crate::files::Files;
 use org_disk::{Disk, FileName};
-use org_move::{Location, MoveFault, archive, archive_within, location};
+use org_move::{Location, MoveFault, archive, archive_within, location_searched};
 use org_outline::{Outline, States};
 use org_texts::{NameOf, Plan};
 
@@ -31,23 +32,29 @@ fn outline_in<'a, D: Disk>(files: &'a Files<D>, states: &'a States, file: &FileN
     outline_of(files.held(file), states)
 }
 
-/// Where a subtree of one of the files, whose text is ready, goes: see `location`.
+/// Where a subtree of one of the files, whose text is ready, goes: see `location`. What was searched
+/// for it isn't searched again until it changes.
 fn find_location<D: Disk>(
-    files: &Files<D>,
+    files: &mut Files<D>,
     states: &States,
     command: &Archive,
 ) -> Result<Location, MoveFault>
-    requires { IsReady command.now.file files.now.held }
-    ensures { let seen = bytes_or [] (text_of files.now.held.now command.now.file) in
+    requires { AreReady (command.now.file ∷ []) files.old.held }
+    ensures place { let seen = bytes_or [] (text_of files.new.held.now command.now.file) in
         GivesPlace (location states.now command.now.file command.now.path seen) result }
+    ensures same { files.new ≡ files.old }
 {
-    let outline = outline_in(files, states, &command.file);
-    location(
+    let file = &command.file;
+    let mut searches = files.searched(file);
+    let found = location_searched(
         files.alloc(),
-        &outline,
-        &command.file,
+        &outline_in(files, states, file),
+        file,
         command.path.as_slice(),
-    )
+        &mut searches.archive_lines,
+    );
+    files.note(file, searches);
+    found
 }
 
 /// The edits of one of the files, whose text is ready, that archive a subtree within it.
@@ -145,16 +152,11 @@ pub(crate) fn plan_archive<'a, D: Disk>(
     states: &States,
     command: &'a Archive,
 ) -> Result<Plan<'a>, RunFault>
-    requires between { AreBetweenCommands files.old }
-    ensures plan { IfOk result (λ plan. IsPlanFor files.new.names files.new.held plan) }
-    ensures plans { BetweenSessions D.Disk states.now files.old files.new
-        (λ old new. Plans old (outcome old command.now.file command.now.path command.now.moment
-        (text_at old.names old.files command.now.file)) result files.new.held new) }
-    ensures disk { OnlyReads D.Disk files.old files.new result }
+    requires between { AreReadyForCommand files.old }
+    ensures { PlansAs D.Disk states.now files.old
+        (λ s. outcome s (Command.Archive command.now)) result files.new }
 {
-    if !files.has(&command.file) {
-        return Err(RunFault::Refused(Refusal::NoSuchFile));
-    }
+    files.check_name(&command.file)?;
     files.ready(&command.file)?;
     let to = find_location(files, states, command)?;
     plan_archive_to(files, states, command, &to)

@@ -6,14 +6,15 @@ ghost use Rattle.org_capture.specs.Answers.{AnswersEdit};
 ghost use Rattle.org_capture.specs.Capture.{captured};
 ghost use Rattle.org_capture.specs.Entry.{IsEntry};
 ghost use Rattle.org_commands.specs.Capture.{MakesEntry, new_entry};
-ghost use Rattle.org_commands.specs.Files.{AreBetweenCommands, IsPlanFor};
+ghost use Rattle.org_commands.specs.Files.{AreReadyForCommand, IsPlanFor};
 ghost use Rattle.org_commands.specs.InOrder.{is_name, text_at};
 ghost use Rattle.org_commands.specs.Keeping.{Plans};
-ghost use Rattle.org_commands.specs.Outcome.{capture as outcome, with_entry};
+ghost use Rattle.org_commands.specs.Outcome.{outcome, with_entry};
+ghost use Rattle.org_commands.specs.Planning.{PlansAs};
 ghost use Rattle.org_commands.specs.Reading.{OnlyReads};
 ghost use Rattle.org_commands.specs.Session.{BetweenSessions};
 
-use crate::command::{Capture, Refusal, RunFault};
+use crate::command::{Capture, Command, RunFault};
 use crate::commands::edits::plan_of_one;
 use crate::commands::outline::outline_of;
 use crate::files::Files;
@@ -67,7 +68,7 @@ fn plan_entry<'a, D: Disk>(
     entry: Vec<u8>,
 ) -> Result<Plan<'a>, RunFault>
     requires file { is_name files.old.names command.now.file ≡ true }
-    requires between { AreBetweenCommands files.old }
+    requires between { AreReadyForCommand files.old }
     requires entry { (node : Node) × IsEntry entry.items node }
     ensures plan { IfOk result (λ plan. IsPlanFor files.new.names files.new.held plan) }
     ensures plans { BetweenSessions D.Disk states.now files.old files.new
@@ -90,17 +91,11 @@ pub(crate) fn plan_capture<'a, D: Disk>(
     states: &States,
     command: &'a Capture<'_>,
 ) -> Result<Plan<'a>, RunFault>
-    requires between { AreBetweenCommands files.old }
-    ensures plan { IfOk result (λ plan. IsPlanFor files.new.names files.new.held plan) }
-    ensures plans { BetweenSessions D.Disk states.now files.old files.new
-        (λ old new. Plans old (outcome old command.now.file command.now.target command.now.place
-        command.now.moment command.now.template command.now.initial
-        (text_at old.names old.files command.now.file)) result files.new.held new) }
-    ensures disk { OnlyReads D.Disk files.old files.new result }
+    requires between { AreReadyForCommand files.old }
+    ensures { PlansAs D.Disk states.now files.old
+        (λ s. outcome s (Command.Capture command.now)) result files.new }
 {
-    if !files.has(&command.file) {
-        return Err(RunFault::Refused(Refusal::NoSuchFile));
-    }
+    files.check_name(&command.file)?;
     let entry = new_entry(files.alloc(), command)?;
     plan_entry(files, states, command, entry)
 }

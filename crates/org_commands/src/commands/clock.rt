@@ -1,24 +1,25 @@
 //! Clocks, started and stopped, where one clock runs over all files.
 //!
 //! Clocking in stops the clock that runs, in the same step, in whatever file it runs.
-ghost use Rattle.std.specs.Prelude.{◌≡◌, ◌≢◌, [], None, Some, IfOk, OnOk, true};
+ghost use Rattle.std.specs.Prelude.{◌≡◌, ◌≢◌, [], None, Some, OnOk, true};
 ghost use Rattle.std.specs.Option.{ForSome, unwrap_or};
 ghost use Rattle.std.specs.Result.{result_map_both};
 ghost use Rattle.org_outline.specs.Paths.{find_path};
 ghost use Rattle.org_outline.specs.Tree.{tree};
-ghost use Rattle.org_state.specs.Clock.{running_in};
+ghost use Rattle.org_state.specs.Clock.{AnswersOpening, running_in};
 ghost use Rattle.org_state.specs.Todo.{fault_of_path};
 ghost use Rattle.org_commands.specs.Clocking.{PlansClocks, clock_moved, clocked_in, clocked_out};
-ghost use Rattle.org_commands.specs.Clocks.{RunsHeld, running_over};
-ghost use Rattle.org_commands.specs.Files.{AreBetweenCommands, IsPlanFor};
+ghost use Rattle.org_commands.specs.Clocks.{RunsHeld};
+ghost use Rattle.org_commands.specs.Files.{AreReadyForCommand};
 ghost use Rattle.org_commands.specs.InOrder.{is_name, text_at};
-ghost use Rattle.org_commands.specs.Keeping.{LooksUp, PlansOrStays};
-ghost use Rattle.org_commands.specs.Outcome.{clock_in as outcome_in, clock_out as outcome_out, with_clock_moved, with_state};
+ghost use Rattle.org_commands.specs.Keeping.{LooksUp};
+ghost use Rattle.org_commands.specs.Outcome.{outcome, with_clock_moved, with_state};
+ghost use Rattle.org_commands.specs.Planning.{PlansOrStaysAs};
 ghost use Rattle.org_commands.specs.Reading.{OnlyReads};
 ghost use Rattle.org_commands.specs.Session.{BetweenSessions};
 ghost use Rattle.org_commands.specs.Todo.{PlansState};
 
-use crate::command::{ClockIn, Refusal, RunFault};
+use crate::command::{ClockIn, Command, Refusal, RunFault};
 use crate::commands::edits::{plan_of, plan_of_one, plan_of_two};
 use crate::commands::outline::outline_of;
 use crate::commands::refile::both_ready;
@@ -26,6 +27,7 @@ use crate::commands::running::{Clock, running_clock};
 use crate::files::Files;
 use org_disk::Disk;
 use org_outline::States;
+use org_splice::Edit;
 use org_stamp::Moment;
 use org_state::{Running, StateFault, clock_in, clock_out, switch_clock};
 use org_texts::{Held, NameOf, Plan};
@@ -41,6 +43,21 @@ fn look_up(states: &States, held: &Held, command: &ClockIn) -> Result<(), StateF
     Ok(())
 }
 
+/// The edit of a text, which is ready, that opens a clock at one of its headings.
+fn opening(
+    alloc: Global,
+    states: &States,
+    held: &Held,
+    command: &ClockIn,
+) -> Result<Edit, StateFault>
+    requires ready { held.now.ready ≡ true }
+    ensures { AnswersOpening states.now command.now.path command.now.moment held.now.text.bytes
+        result }
+{
+    let outline = outline_of(held, states);
+    clock_in(alloc, &outline, command.path.as_slice(), command.moment)
+}
+
 /// The edits of a file, whose text is ready, that clock in at one of its headings. No clock runs in
 /// it.
 fn plan_start<'a>(
@@ -54,12 +71,7 @@ fn plan_start<'a>(
         PlansState command.now.file held.now.text.bytes (clocked_in command.now.moment None d
         (find_path states.now d command.now.path)) result }
 {
-    let edit = clock_in(
-        alloc,
-        &outline_of(held, states),
-        command.path.as_slice(),
-        command.moment,
-    )?;
+    let edit = opening(alloc, states, held, command)?;
     Ok(Some(plan_of_one(alloc, NameOf::given(&command.file), edit)))
 }
 
@@ -147,12 +159,7 @@ fn plan_move<'a>(
         (clock_moved command.now.moment clock.now.running (tree other.now.text.bytes) d
         (find_path states.now d command.now.path)) result }
 {
-    let start = clock_in(
-        alloc,
-        &outline_of(held, states),
-        command.path.as_slice(),
-        command.moment,
-    )?;
+    let start = opening(alloc, states, held, command)?;
     let stop = clock_out(
         alloc,
         outline_of(other, states).text(),
@@ -173,7 +180,7 @@ fn look_up_in<D: Disk>(
     command: &ClockIn,
 ) -> Result<(), RunFault>
     requires file { is_name files.old.names command.now.file ≡ true }
-    requires between { AreBetweenCommands files.old }
+    requires between { AreReadyForCommand files.old }
     ensures finds { BetweenSessions D.Disk states.now files.old files.new
         (λ old new. let text = unwrap_or (text_at old.names old.files command.now.file) [] in
         LooksUp old (find_path states.now (tree text) command.now.path) result new) }
@@ -195,17 +202,13 @@ fn start_in_one<'a, D: Disk>(
     running: Option<Running>,
 ) -> Result<Option<Plan<'a>>, RunFault>
     requires file { is_name files.old.names command.now.file ≡ true }
-    requires between { AreBetweenCommands files.old }
+    requires between { AreReadyForCommand files.old }
     requires runs { ForSome running
         (λ running. RunsHeld files.old.held command.now.file running) }
-    ensures plan { IfOk result (λ plan. ForSome plan
-        (λ plan. IsPlanFor files.new.names files.new.held plan)) }
-    ensures plans { BetweenSessions D.Disk states.now files.old files.new
-        (λ old new. let d = tree (unwrap_or (text_at old.names old.files command.now.file) []) in
-        PlansOrStays old (with_state old command.now.file
-        (clocked_in command.now.moment running d (find_path states.now d command.now.path)))
-        result files.new.held new) }
-    ensures disk { OnlyReads D.Disk files.old files.new result }
+    ensures { PlansOrStaysAs D.Disk states.now files.old
+        (λ s. let d = tree (unwrap_or (text_at s.names s.files command.now.file) []) in
+        with_state s command.now.file (clocked_in command.now.moment running d
+        (find_path states.now d command.now.path))) result files.new }
 {
     files.ready(&command.file)?;
     let held = files.held(&command.file);
@@ -223,17 +226,13 @@ fn start_beside<'a, D: Disk>(
     requires other { is_name files.old.names clock.now.file ≡ true }
     requires file { is_name files.old.names command.now.file ≡ true }
     requires apart { clock.now.file ≢ command.now.file }
-    requires between { AreBetweenCommands files.old }
+    requires between { AreReadyForCommand files.old }
     requires runs { RunsHeld files.old.held clock.now.file clock.now.running }
-    ensures plan { IfOk result (λ plan. ForSome plan
-        (λ plan. IsPlanFor files.new.names files.new.held plan)) }
-    ensures plans { BetweenSessions D.Disk states.now files.old files.new
-        (λ old new. let d = tree (unwrap_or (text_at old.names old.files command.now.file) []) in
-        let other = tree (unwrap_or (text_at old.names old.files clock.now.file) []) in
-        PlansOrStays old (with_clock_moved old clock.now.file command.now.file
-        (clock_moved command.now.moment clock.now.running other d
-        (find_path states.now d command.now.path))) result files.new.held new) }
-    ensures disk { OnlyReads D.Disk files.old files.new result }
+    ensures { PlansOrStaysAs D.Disk states.now files.old
+        (λ s. let d = tree (unwrap_or (text_at s.names s.files command.now.file) []) in
+        let other = tree (unwrap_or (text_at s.names s.files clock.now.file) []) in
+        with_clock_moved s clock.now.file command.now.file (clock_moved command.now.moment
+        clock.now.running other d (find_path states.now d command.now.path))) result files.new }
 {
     both_ready(files, &clock.file, &command.file)?;
     let other = files.held(&clock.file);
@@ -250,18 +249,11 @@ pub(crate) fn plan_clock_in<'a, D: Disk>(
     states: &States,
     command: &'a ClockIn,
 ) -> Result<Option<Plan<'a>>, RunFault>
-    requires between { AreBetweenCommands files.old }
-    ensures plan { IfOk result (λ plan. ForSome plan
-        (λ plan. IsPlanFor files.new.names files.new.held plan)) }
-    ensures plans { BetweenSessions D.Disk states.now files.old files.new
-        (λ old new. PlansOrStays old (outcome_in old command.now.file command.now.path
-        command.now.moment (text_at old.names old.files command.now.file))
-        result files.new.held new) }
-    ensures disk { OnlyReads D.Disk files.old files.new result }
+    requires between { AreReadyForCommand files.old }
+    ensures { PlansOrStaysAs D.Disk states.now files.old
+        (λ s. outcome s (Command.ClockIn command.now)) result files.new }
 {
-    if !files.has(&command.file) {
-        return Err(RunFault::Refused(Refusal::NoSuchFile));
-    }
+    files.check_name(&command.file)?;
     look_up_in(files, states, command)?;
     let Some(clock) = running_clock(files, states)? else {
         return start_in_one(files, states, command, None);
@@ -280,15 +272,11 @@ fn stop_running<'a, D: Disk>(
     moment: Moment,
 ) -> Result<Option<Plan<'a>>, RunFault>
     requires file { is_name files.old.names clock.now.file ≡ true }
-    requires between { AreBetweenCommands files.old }
+    requires between { AreReadyForCommand files.old }
     requires runs { RunsHeld files.old.held clock.now.file clock.now.running }
-    ensures plan { IfOk result (λ plan. ForSome plan
-        (λ plan. IsPlanFor files.new.names files.new.held plan)) }
-    ensures plans { BetweenSessions D.Disk states.now files.old files.new
-        (λ old new. let d = tree (unwrap_or (text_at old.names old.files clock.now.file) []) in
-        PlansOrStays old (with_state old clock.now.file (clocked_out moment clock.now.running d))
-        result files.new.held new) }
-    ensures disk { OnlyReads D.Disk files.old files.new result }
+    ensures { PlansOrStaysAs D.Disk states.now files.old
+        (λ s. let d = tree (unwrap_or (text_at s.names s.files clock.now.file) []) in
+        with_state s clock.now.file (clocked_out moment clock.now.running d)) result files.new }
 {
     files.ready(&clock.file)?;
     let held = files.held(&clock.file);
@@ -302,13 +290,9 @@ pub(crate) fn plan_clock_out<'a, D: Disk>(
     states: &States,
     moment: Moment,
 ) -> Result<Option<Plan<'a>>, RunFault>
-    requires between { AreBetweenCommands files.old }
-    ensures plan { IfOk result (λ plan. ForSome plan
-        (λ plan. IsPlanFor files.new.names files.new.held plan)) }
-    ensures plans { BetweenSessions D.Disk states.now files.old files.new
-        (λ old new. PlansOrStays old (outcome_out old moment (running_over old.names old.files))
-        result files.new.held new) }
-    ensures disk { OnlyReads D.Disk files.old files.new result }
+    requires between { AreReadyForCommand files.old }
+    ensures { PlansOrStaysAs D.Disk states.now files.old
+        (λ s. outcome s (Command.ClockOut moment)) result files.new }
 {
     let Some(clock) = running_clock(files, states)? else {
         return Err(RunFault::Refused(Refusal::NoClock));

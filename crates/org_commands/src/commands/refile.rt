@@ -1,18 +1,19 @@
 //! Subtrees moved to other headings, within a file or across two.
-ghost use Rattle.std.specs.Prelude.{◌≡◌, ◌≢◌, ◌∷◌, ℕ, List, IfOk, OnOk, false, true};
+ghost use Rattle.std.specs.Prelude.{◌≡◌, ◌∷◌, ℕ, List, OnOk, false, true};
 ghost use Rattle.org_outline.specs.States.{Keywords};
 ghost use Rattle.org_outline.specs.Tree.{tree};
 ghost use Rattle.org_move.specs.Answers.{Gives};
 ghost use Rattle.org_move.specs.Refile.{refile_across, refile_within};
-ghost use Rattle.org_commands.specs.Files.{AreBetweenCommands, AreReady, IsPlanFor, KeepsHeld};
-ghost use Rattle.org_commands.specs.InOrder.{is_name, text_at};
-ghost use Rattle.org_commands.specs.Keeping.{Plans, Reads};
-ghost use Rattle.org_commands.specs.Outcome.{refile as outcome};
+ghost use Rattle.org_commands.specs.Files.{AreReadyForCommand, AreReady, KeepsHeld};
+ghost use Rattle.org_commands.specs.InOrder.{is_name};
+ghost use Rattle.org_commands.specs.Keeping.{Reads};
+ghost use Rattle.org_commands.specs.Outcome.{outcome};
+ghost use Rattle.org_commands.specs.Planning.{PlansAs};
 ghost use Rattle.org_commands.specs.Reading.{OnlyReads};
 ghost use Rattle.org_commands.specs.Refile.{MakesDocument, MakesDocuments};
 ghost use Rattle.org_commands.specs.Session.{BetweenSessions};
 
-use crate::command::{Refile, Refusal, RunFault};
+use crate::command::{Command, Refile, RunFault};
 use crate::commands::edits::{plan_of_two, plan_of_two_edits};
 use crate::commands::outline::outline_of;
 use crate::files::Files;
@@ -96,49 +97,6 @@ pub(crate) fn both_ready<D: Disk>(
     files.ready(to_file)
 }
 
-/// What a refile within one of the files is to change.
-fn refile_in_one<'a, D: Disk>(
-    files: &mut Files<D>,
-    states: &States,
-    command: &'a Refile,
-) -> Result<Plan<'a>, RunFault>
-    requires file { is_name files.old.names command.now.file ≡ true }
-    requires between { AreBetweenCommands files.old }
-    ensures plan { IfOk result (λ plan. IsPlanFor files.new.names files.new.held plan) }
-    ensures plans { BetweenSessions D.Disk states.now files.old files.new
-        (λ old new. let text = text_at old.names old.files command.now.file in
-        Plans old (outcome old command.now.file command.now.path command.now.file
-        command.now.to_path command.now.place text text) result files.new.held new) }
-    ensures disk { OnlyReads D.Disk files.old files.new result }
-{
-    files.ready(&command.file)?;
-    let held = files.held(&command.file);
-    Ok(plan_within(files.alloc(), states, held, command)?)
-}
-
-/// What a refile from one of the files into another one is to change.
-fn refile_in_two<'a, D: Disk>(
-    files: &mut Files<D>,
-    states: &States,
-    command: &'a Refile,
-) -> Result<Plan<'a>, RunFault>
-    requires file { is_name files.old.names command.now.file ≡ true }
-    requires to_file { is_name files.old.names command.now.to_file ≡ true }
-    requires apart { command.now.file ≢ command.now.to_file }
-    requires between { AreBetweenCommands files.old }
-    ensures plan { IfOk result (λ plan. IsPlanFor files.new.names files.new.held plan) }
-    ensures plans { BetweenSessions D.Disk states.now files.old files.new
-        (λ old new. Plans old (outcome old command.now.file command.now.path command.now.to_file
-        command.now.to_path command.now.place (text_at old.names old.files command.now.file)
-        (text_at old.names old.files command.now.to_file)) result files.new.held new) }
-    ensures disk { OnlyReads D.Disk files.old files.new result }
-{
-    both_ready(files, &command.file, &command.to_file)?;
-    let source = files.held(&command.file);
-    let target = files.held(&command.to_file);
-    Ok(plan_across(files.alloc(), states, source, target, command)?)
-}
-
 /// What a refile is to change. It is refused for the name of its source first, then for that of its
 /// target, then for the path in the source, then for the one in the target, then where the target
 /// lies in what is moved.
@@ -147,20 +105,19 @@ pub(crate) fn plan_refile<'a, D: Disk>(
     states: &States,
     command: &'a Refile,
 ) -> Result<Plan<'a>, RunFault>
-    requires between { AreBetweenCommands files.old }
-    ensures plan { IfOk result (λ plan. IsPlanFor files.new.names files.new.held plan) }
-    ensures plans { BetweenSessions D.Disk states.now files.old files.new
-        (λ old new. Plans old (outcome old command.now.file command.now.path command.now.to_file
-        command.now.to_path command.now.place (text_at old.names old.files command.now.file)
-        (text_at old.names old.files command.now.to_file)) result files.new.held new) }
-    ensures disk { OnlyReads D.Disk files.old files.new result }
+    requires between { AreReadyForCommand files.old }
+    ensures { PlansAs D.Disk states.now files.old
+        (λ s. outcome s (Command.Refile command.now)) result files.new }
 {
-    if !files.has(&command.file) || !files.has(&command.to_file) {
-        return Err(RunFault::Refused(Refusal::NoSuchFile));
-    }
+    files.check_name(&command.file)?;
+    files.check_name(&command.to_file)?;
     if command.file == command.to_file {
-        refile_in_one(files, states, command)
-    } else {
-        refile_in_two(files, states, command)
+        files.ready(&command.file)?;
+        let held = files.held(&command.file);
+        return Ok(plan_within(files.alloc(), states, held, command)?);
     }
+    both_ready(files, &command.file, &command.to_file)?;
+    let source = files.held(&command.file);
+    let target = files.held(&command.to_file);
+    Ok(plan_across(files.alloc(), states, source, target, command)?)
 }

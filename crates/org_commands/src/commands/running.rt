@@ -2,10 +2,10 @@
 //!
 //! A file that was searched and has none isn't searched again until it changes, and then only where
 //! it did.
-ghost use Rattle.std.specs.Prelude.{◌≡◌, IfOk, OnOk, Some, slice_get, true};
+ghost use Rattle.std.specs.Prelude.{◌≡◌, IfOk, OnOk, Some, true};
 ghost use Rattle.std.specs.Option.{ForSome, option_map};
 ghost use Rattle.org_commands.specs.Clocks.{RunsHeld, RunsIn, running_over};
-ghost use Rattle.org_commands.specs.Files.{AreBetweenCommands, KeepsHeld};
+ghost use Rattle.org_commands.specs.Files.{AreReadyForCommand, KeepsHeld};
 ghost use Rattle.org_commands.specs.InOrder.{is_name};
 ghost use Rattle.org_commands.specs.Keeping.{Reads};
 ghost use Rattle.org_commands.specs.Reading.{OnlyReads};
@@ -14,6 +14,7 @@ ghost use Rattle.org_commands.specs.Session.{BetweenSessions};
 use crate::command::RunFault;
 use crate::commands::outline::outline_of;
 use crate::files::Files;
+use crate::searches::Searches;
 use org_disk::{Disk, FileName};
 use org_outline::States;
 use org_state::{Running, search};
@@ -25,16 +26,14 @@ pub(crate) struct Clock {
     pub(crate) running: Running,
 }
 
-/// The clock that runs in one of the files, which has this number. Its text stays as it is.
+/// The clock that runs in one of the files. Its text stays as it is.
 fn running_in_file<D: Disk>(
     files: &mut Files<D>,
     states: &States,
     file: &FileName,
-    index: usize,
 ) -> Result<Option<Running>, RunFault>
     requires name { is_name files.old.names file.now ≡ true }
-    requires index { slice_get files.old.names index ≡ Some file.now }
-    requires between { AreBetweenCommands files.old }
+    requires between { AreReadyForCommand files.old }
     ensures runs { IfOk result (λ found. RunsIn files.new.held.before file.now found) }
     ensures reads { BetweenSessions D.Disk states.now files.old files.new
         (λ old new. Reads old result new) }
@@ -43,10 +42,10 @@ fn running_in_file<D: Disk>(
     ensures disk { OnlyReads D.Disk files.old files.new result }
 {
     files.ready(file)?;
-    let before = files.searched(index);
-    let (found, searched) = search(&outline_of(files.held(file), states), before);
+    let before = files.searched(file);
+    let (found, clocks) = search(&outline_of(files.held(file), states), before.clocks);
     files.undo();
-    files.note(index, searched);
+    files.note(file, Searches { clocks, ..before });
     Ok(found)
 }
 
@@ -57,7 +56,7 @@ pub(crate) fn running_clock<D: Disk>(
     files: &mut Files<D>,
     states: &States,
 ) -> Result<Option<Clock>, RunFault>
-    requires between { AreBetweenCommands files.old }
+    requires between { AreReadyForCommand files.old }
     ensures clock { BetweenSessions D.Disk states.now files.old files.new
         (λ old new. IfOk result (λ found. option_map (λ clock. (clock.file, clock.running)) found
         ≡ running_over old.names old.files)) }
@@ -75,7 +74,7 @@ pub(crate) fn running_clock<D: Disk>(
             continue;
         }
         let file = files.name(index)?;
-        if let Some(running) = running_in_file(files, states, &file, index)? {
+        if let Some(running) = running_in_file(files, states, &file)? {
             return Ok(Some(Clock { file, running }));
         }
     }

@@ -1,10 +1,8 @@
 //! The text of a file, as the next commit would write it.
-ghost use Rattle.std.specs.Prelude.{◌≡◌, IsErrOf};
-ghost use Rattle.org_disk.specs.Accounts.{Accounts};
-ghost use Rattle.org_commands.specs.Executing.{Executes, IsUnedited, LeavesDirty};
-ghost use Rattle.org_commands.specs.Files.{AreBetweenCommands};
+ghost use Rattle.org_commands.specs.Executing.{AnswersQuestion};
+ghost use Rattle.org_commands.specs.Files.{AreReadyForCommand};
 
-use crate::command::{Command, Refusal, Reply, RunFault};
+use crate::command::{Command, Reply, RunFault};
 use crate::executor::Executor;
 use org_disk::{Disk, FileName};
 use org_splice::Bytes;
@@ -14,17 +12,10 @@ impl<D: Disk> Executor<D> {
     /// `Device`, which leaves the files broken, comes only where reading it failed, and
     /// `OutOfMemory` where memory ran out.
     pub(crate) fn show(&mut self, file: &FileName) -> Result<Reply, RunFault>
-        requires between { AreBetweenCommands self.old.files }
-        ensures executes { Executes D.Disk self.old (Command.Show file.now) result self.new }
-        ensures dirty_files { LeavesDirty D.Disk self.old (Command.Show file.now) result self.new }
-        ensures tally { self.new.tally ≡ self.old.tally }
-        ensures unedited { IsUnedited self.new }
-        ensures accounts { Accounts D.Disk self.old.files.disk self.new.files.disk
-            (IsErrOf result RunFault.Device) }
+        requires between { AreReadyForCommand self.old.files }
+        ensures { AnswersQuestion D.Disk self.old (Command.Show file.now) result self.new }
     {
-        if !self.files.has(file) {
-            return Err(RunFault::Refused(Refusal::NoSuchFile));
-        }
+        self.files.check_name(file)?;
         self.files.load(file)?;
         let alloc = self.files.alloc();
         match self.files.get(file) {

@@ -1,16 +1,15 @@
 //! The time clocked at a heading and below it.
-ghost use Rattle.std.specs.Prelude.{◌≡◌, IsErrOf, true};
+ghost use Rattle.std.specs.Prelude.{◌≡◌, true};
 ghost use Rattle.std.specs.Result.{result_map_both};
-ghost use Rattle.org_disk.specs.Accounts.{Accounts};
-ghost use Rattle.org_commands.specs.Executing.{Executes, IsUnedited, LeavesDirty};
-ghost use Rattle.org_commands.specs.Files.{AreBetweenCommands};
+ghost use Rattle.org_commands.specs.Executing.{AnswersQuestion};
+ghost use Rattle.org_commands.specs.Files.{AreReadyForCommand};
 ghost use Rattle.org_commands.specs.InOrder.{is_name, text_at};
 ghost use Rattle.org_commands.specs.Outcome.{time};
 ghost use Rattle.org_commands.specs.Reading.{OnlyReads};
 ghost use Rattle.org_commands.specs.Session.{BetweenSessions};
 ghost use Rattle.org_commands.specs.Step.{Steps};
 
-use crate::command::{Command, Refusal, Reply, RunFault};
+use crate::command::{Command, Reply, RunFault};
 use crate::commands::outline::outline_of;
 use crate::executor::Executor;
 use crate::files::Files;
@@ -27,7 +26,7 @@ fn clocked_in_file<D: Disk>(
     path: &Titles,
 ) -> Result<u64, RunFault>
     requires name { is_name files.old.names file.now ≡ true }
-    requires between { AreBetweenCommands files.old }
+    requires between { AreReadyForCommand files.old }
     ensures does { BetweenSessions D.Disk states.now files.old files.new
         (λ old new. Steps old (time old path.now (text_at old.names old.files file.now))
         (result_map_both Reply.Time (λ fault. fault) result) new) }
@@ -44,19 +43,11 @@ impl<D: Disk> Executor<D> {
     /// broken, comes only where reading the file failed, and `OutOfMemory` where memory ran out.
     /// All texts stay as they are.
     pub(crate) fn time(&mut self, file: &FileName, path: &Titles) -> Result<Reply, RunFault>
-        requires between { AreBetweenCommands self.old.files }
-        ensures executes { Executes D.Disk self.old (Command.Time file.now path.now) result
+        requires between { AreReadyForCommand self.old.files }
+        ensures { AnswersQuestion D.Disk self.old (Command.Time file.now path.now) result
             self.new }
-        ensures dirty_files { LeavesDirty D.Disk self.old (Command.Time file.now path.now) result
-            self.new }
-        ensures tally { self.new.tally ≡ self.old.tally }
-        ensures unedited { IsUnedited self.new }
-        ensures accounts { Accounts D.Disk self.old.files.disk self.new.files.disk
-            (IsErrOf result RunFault.Device) }
     {
-        if !self.files.has(file) {
-            return Err(RunFault::Refused(Refusal::NoSuchFile));
-        }
+        self.files.check_name(file)?;
         let minutes = clocked_in_file(&mut self.files, &self.states, file, path);
         self.files.undo();
         Ok(Reply::Time(minutes?))

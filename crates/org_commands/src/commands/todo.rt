@@ -1,17 +1,13 @@
 //! Headings put into other TODO states.
-ghost use Rattle.std.specs.Prelude.{◌≡◌, IfOk, true};
-ghost use Rattle.std.specs.Option.{ForSome};
+ghost use Rattle.std.specs.Prelude.{◌≡◌, true};
 ghost use Rattle.org_outline.specs.Tree.{tree};
 ghost use Rattle.org_state.specs.Todo.{todo};
-ghost use Rattle.org_commands.specs.Files.{AreBetweenCommands, IsPlanFor};
-ghost use Rattle.org_commands.specs.InOrder.{text_at};
-ghost use Rattle.org_commands.specs.Keeping.{PlansOrStays};
-ghost use Rattle.org_commands.specs.Outcome.{todo as outcome};
-ghost use Rattle.org_commands.specs.Reading.{OnlyReads};
-ghost use Rattle.org_commands.specs.Session.{BetweenSessions};
+ghost use Rattle.org_commands.specs.Files.{AreReadyForCommand};
+ghost use Rattle.org_commands.specs.Outcome.{outcome};
+ghost use Rattle.org_commands.specs.Planning.{PlansOrStaysAs};
 ghost use Rattle.org_commands.specs.Todo.{PlansState};
 
-use crate::command::{Refusal, RunFault, Todo};
+use crate::command::{Command, RunFault, Todo};
 use crate::commands::edits::plan_of;
 use crate::commands::outline::outline_of;
 use crate::files::Files;
@@ -51,18 +47,11 @@ pub(crate) fn plan_todo<'a, D: Disk>(
     states: &States,
     command: &'a Todo<'_>,
 ) -> Result<Option<Plan<'a>>, RunFault>
-    requires between { AreBetweenCommands files.old }
-    ensures plan { IfOk result (λ plan. ForSome plan
-        (λ plan. IsPlanFor files.new.names files.new.held plan)) }
-    ensures plans { BetweenSessions D.Disk states.now files.old files.new
-        (λ old new. PlansOrStays old (outcome old command.now.file command.now.path
-        command.now.state command.now.moment (text_at old.names old.files command.now.file))
-        result files.new.held new) }
-    ensures disk { OnlyReads D.Disk files.old files.new result }
+    requires between { AreReadyForCommand files.old }
+    ensures { PlansOrStaysAs D.Disk states.now files.old
+        (λ s. outcome s (Command.Todo command.now)) result files.new }
 {
-    if !files.has(&command.file) {
-        return Err(RunFault::Refused(Refusal::NoSuchFile));
-    }
+    files.check_name(&command.file)?;
     files.ready(&command.file)?;
     let held = files.held(&command.file);
     Ok(plan_state(files.alloc(), states, held, command)?)

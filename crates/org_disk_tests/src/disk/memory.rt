@@ -9,6 +9,7 @@ use std::alloc::Global;
 use std::process::Abort;
 
 // What is done to a file.
+#[derive(Clone, Copy)]
 enum Calls {
     WriteCut,
     WriteCutWrite,
@@ -16,6 +17,7 @@ enum Calls {
 }
 
 // A disk without files, and what becomes of calls on one.
+#[derive(Clone, Copy)]
 enum Row {
     // of these calls the k-th crashes, with this outcome, and that leaves this text
     Crash(Calls, u64, Outcome, &'static str),
@@ -25,33 +27,46 @@ enum Row {
     Failure(u64, &'static str),
 }
 
-static ROWS: &[Row] = &[
+// What of a crashed call goes out, in the order of the texts of a crash.
+const WAYS: [Outcome; 5] = [
+    Outcome::All,
+    Outcome::None,
+    Outcome::Front(0),
+    Outcome::Front(1),
+    Outcome::Fill(b'-'),
+];
+
+// Of these calls the k-th crashes, and that leaves these texts, each in its way.
+type Crash = (Calls, u64, [&'static str; 5]);
+
+const CRASHES: &[Crash] = &[
     // the last write
-    Row::Crash(Calls::WriteCutWrite, 3, Outcome::All, "abXYPQRS"),
-    Row::Crash(Calls::WriteCutWrite, 3, Outcome::None, "abcdef"),
-    Row::Crash(Calls::WriteCutWrite, 3, Outcome::Front(0), "abXYe"),
-    Row::Crash(Calls::WriteCutWrite, 3, Outcome::Front(1), "abXYP"),
+    (
+        Calls::WriteCutWrite,
+        3,
+        ["abXYPQRS", "abcdef", "abXYe", "abXYP", "ab------"],
+    ),
+    // a cut
+    (
+        Calls::WriteCut,
+        2,
+        ["XYc", "abcdef", "XYcdef", "XYcdef", "--c---"],
+    ),
+    // a write with a cut behind it
+    (
+        Calls::WriteCut,
+        1,
+        ["XYcdef", "abcdef", "abcdef", "Xbcdef", "--cdef"],
+    ),
+    // the first sync and the second
+    (Calls::SyncWriteCut, 3, ["abc", "", "abc", "abc", "---"]),
+    (Calls::SyncWriteCut, 6, ["aX", "abc", "aX", "aX", "a--"]),
+];
+
+static ROWS: &[Row] = &[
+    // more of the last write than its first byte
     Row::Crash(Calls::WriteCutWrite, 3, Outcome::Front(2), "abXYPQ"),
     Row::Crash(Calls::WriteCutWrite, 3, Outcome::Front(9), "abXYPQRS"),
-    Row::Crash(Calls::WriteCutWrite, 3, Outcome::Fill(b'-'), "ab------"),
-    // a cut
-    Row::Crash(Calls::WriteCut, 2, Outcome::All, "XYc"),
-    Row::Crash(Calls::WriteCut, 2, Outcome::None, "abcdef"),
-    Row::Crash(Calls::WriteCut, 2, Outcome::Front(1), "XYcdef"),
-    Row::Crash(Calls::WriteCut, 2, Outcome::Fill(b'-'), "--c---"),
-    // a write with a cut behind it
-    Row::Crash(Calls::WriteCut, 1, Outcome::All, "XYcdef"),
-    Row::Crash(Calls::WriteCut, 1, Outcome::None, "abcdef"),
-    Row::Crash(Calls::WriteCut, 1, Outcome::Front(1), "Xbcdef"),
-    // the first sync and the second
-    Row::Crash(Calls::SyncWriteCut, 3, Outcome::All, "abc"),
-    Row::Crash(Calls::SyncWriteCut, 3, Outcome::None, ""),
-    Row::Crash(Calls::SyncWriteCut, 3, Outcome::Front(0), "abc"),
-    Row::Crash(Calls::SyncWriteCut, 3, Outcome::Fill(b'-'), "---"),
-    Row::Crash(Calls::SyncWriteCut, 6, Outcome::All, "aX"),
-    Row::Crash(Calls::SyncWriteCut, 6, Outcome::None, "abc"),
-    Row::Crash(Calls::SyncWriteCut, 6, Outcome::Front(0), "aX"),
-    Row::Crash(Calls::SyncWriteCut, 6, Outcome::Fill(b'-'), "a--"),
     // no crash, and a late one
     Row::Seventh(0, Ok(2)),
     Row::Seventh(7, Err(DiskFault)),
@@ -166,6 +181,24 @@ fn is_as_told(rt: &impl Abort, alloc: Global, row: &Row) -> bool {
     let goes = goes(rt, alloc, &mut disk, &name, row);
     drop(disk);
     goes
+}
+
+// Whether a crash leaves each of its texts.
+fn leaves_each(rt: &impl Abort, alloc: Global, crash: &Crash) -> bool {
+    let (calls, k, texts) = crash;
+    for (outcome, text) in WAYS.iter().zip(texts) {
+        if !is_as_told(rt, alloc, &Row::Crash(*calls, *k, *outcome, *text)) {
+            return false;
+        }
+    }
+    true
+}
+
+#[test]
+fn crashes_in_each_way(rt: HostRuntime) {
+    for (i, crash) in CRASHES.iter().enumerate() {
+        hold_row(&rt, leaves_each(&rt, rt.alloc(), crash), i);
+    }
 }
 
 #[test]

@@ -136,7 +136,7 @@ fn calls_with(rt: &impl Abort, alloc: Global, edits: &[Edit]) -> u64 {
 // How many calls an opening and the reading of the two files make, over a journal of these bytes.
 fn calls_before_commit(rt: &impl Abort, alloc: Global, journal: &[u8]) -> u64 {
     let disk = with_journal(rt, alloc, journal);
-    let (disk, is_before) = read_once(rt, alloc, disk, "a.org", b"* A\n", b"");
+    let (disk, is_before) = read_once(rt, alloc, disk, ("a.org", b"* A\n", b""));
     hold(rt, is_before);
     calls_of(disk)
 }
@@ -144,9 +144,9 @@ fn calls_before_commit(rt: &impl Abort, alloc: Global, journal: &[u8]) -> u64 {
 // Whether a set that is opened over the disk reads both files' new texts, or both files' old ones.
 fn is_changed(rt: &impl Abort, alloc: Global, disk: MemoryDisk, changed: bool) -> bool {
     if changed {
-        opens_with(rt, alloc, disk, "a.org", b"* Better\n", &TEXT)
+        opens_with(rt, alloc, disk, ("a.org", b"* Better\n", &TEXT))
     } else {
-        opens_with(rt, alloc, disk, "a.org", b"* A\n", b"")
+        opens_with(rt, alloc, disk, ("a.org", b"* A\n", b""))
     }
 }
 
@@ -157,7 +157,7 @@ fn a_commit_leaves_its_record(rt: HostRuntime) {
     let journal = with_gate(0);
     hold(
         &rt,
-        opens_with(&rt, alloc, disk, "orgstore.journal", &journal, &TEXT),
+        opens_with(&rt, alloc, disk, ("orgstore.journal", &journal, &TEXT)),
     );
 }
 
@@ -172,7 +172,7 @@ fn a_commit_of_nothing_makes_no_call(rt: HostRuntime) {
 fn end_old(rt: &impl Abort, alloc: Global, disk: MemoryDisk) -> MemoryDisk {
     let mut closed = OLD;
     closed[0] = 0;
-    let (disk, is_ended) = read_once(rt, alloc, disk, "orgstore.journal", &closed, &TEXT);
+    let (disk, is_ended) = read_once(rt, alloc, disk, ("orgstore.journal", &closed, &TEXT));
     hold(rt, is_ended);
     disk
 }

@@ -24,8 +24,8 @@ const GATES: &[(u8, u8, &[u8])] = &[
 fn leaves(rt: &impl Abort, alloc: Global, gate: u8, after: u8, inbox: &[u8]) -> bool {
     let disk = crashed(rt, alloc, gate);
     let journal = with_gate(after);
-    let (disk, is_left) = read_once(rt, alloc, disk, "orgstore.journal", &journal, inbox);
-    opens_with(rt, alloc, disk, "a.org", b"* A\n", inbox) && is_left
+    let (disk, is_left) = read_once(rt, alloc, disk, ("orgstore.journal", &journal, inbox));
+    opens_with(rt, alloc, disk, ("a.org", b"* A\n", inbox)) && is_left
 }
 
 // Whether inbox.org holds this text once a set over a.org alone was opened: a record counts for
@@ -49,7 +49,7 @@ fn has_opened_twice(
     let mut disk = crashed(rt, alloc, gate);
     disk.crash_at(k, outcome);
     let left = image_of(rt, alloc, opened_disk(rt, alloc, disk));
-    opens_with(rt, alloc, left, "a.org", b"* A\n", inbox)
+    opens_with(rt, alloc, left, ("a.org", b"* A\n", inbox))
 }
 
 // The same in each way in which the call may crash.

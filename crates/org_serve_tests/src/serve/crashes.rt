@@ -102,58 +102,50 @@ fn crash_in_each_way(rt: &(impl Abort + AllocGlobal), group: u32, step: &Step) {
     }
 }
 
-// Each step crashes at every call, its lines settled in groups of this size. A group that isn't
-// full is settled at the end of the input.
-fn crash_each(rt: &(impl Abort + AllocGlobal), rows: &[(u32, &Step)]) {
-    for (group, step) in rows {
-        crash_in_each_way(rt, *group, step);
+// Each step crashes at every call, its lines settled in groups of this size.
+fn crash_each(rt: &(impl Abort + AllocGlobal), group: u32, steps: &[&Step]) {
+    for step in steps {
+        crash_in_each_way(rt, group, step);
     }
 }
 
-const CAPTURED: &[(u32, &Step)] = &[(1, CAPTURES), (2, CAPTURES), (3, CAPTURES)];
-
 #[test]
 fn captures_crashed(rt: HostRuntime) {
-    crash_each(&rt, CAPTURED);
+    for group in 1..=3 {
+        crash_in_each_way(&rt, group, CAPTURES);
+    }
 }
 
-const MOVED: &[(u32, &Step)] = &[
-    (1, ACROSS),
-    (1, BACK),
-    (1, REFILE_WITHIN),
-    (2, THERE_AND_BACK),
-    (3, ACROSS),
-    (1, TO_A_HEAD),
-    (1, TO_A_DAY),
-];
+const MOVED: &[&Step] = &[ACROSS, BACK, REFILE_WITHIN, TO_A_HEAD, TO_A_DAY];
 
 #[test]
 fn moves_crashed(rt: HostRuntime) {
-    crash_each(&rt, MOVED);
+    crash_each(&rt, 1, MOVED);
 }
 
-const ARCHIVED: &[(u32, &Step)] = &[
-    (1, TO_THE_ARCHIVE),
-    (1, TO_ANOTHER_FILE),
-    (1, ARCHIVE_WITHIN),
-    (2, TWO_ARCHIVES),
-    (3, TO_THE_ARCHIVE),
-];
+const ARCHIVED: &[&Step] = &[TO_THE_ARCHIVE, TO_ANOTHER_FILE, ARCHIVE_WITHIN];
 
 #[test]
 fn archives_crashed(rt: HostRuntime) {
-    crash_each(&rt, ARCHIVED);
+    crash_each(&rt, 1, ARCHIVED);
 }
 
-const CLOCKED: &[(u32, &Step)] = &[
-    (1, CLOCK_ELSEWHERE),
-    (2, IN_AND_OUT),
-    (3, CLOCK_ELSEWHERE),
-    (1, CLOCK_OUT),
-    (1, REPEATED),
-];
+const CLOCKED: &[&Step] = &[CLOCK_ELSEWHERE, CLOCK_OUT, REPEATED];
 
 #[test]
 fn clocks_and_a_repetition_crashed(rt: HostRuntime) {
-    crash_each(&rt, CLOCKED);
+    crash_each(&rt, 1, CLOCKED);
+}
+
+// Two commands each.
+const PAIRS: &[&Step] = &[THERE_AND_BACK, TWO_ARCHIVES, IN_AND_OUT];
+
+// One command each.
+const ALONE: &[&Step] = &[ACROSS, TO_THE_ARCHIVE, CLOCK_ELSEWHERE];
+
+// A group that isn't full is settled at the end of the input.
+#[test]
+fn groups_full_and_not_full_crashed(rt: HostRuntime) {
+    crash_each(&rt, 2, PAIRS);
+    crash_each(&rt, 3, ALONE);
 }

@@ -75,15 +75,12 @@ fn fail_at_every_call(rt: &(impl Abort + AllocGlobal), row: &Failed) {
     }
 }
 
-const TOLD: [&str; 2] = [
-    "fault Device\nfault Broken\nfault Broken\n",
-    "ok 1\nsafe 1\nfault Device\nfault Broken\n",
-];
+// Where the first of three lines failed.
+const FIRST_FAILED: &str = "fault Device\nfault Broken\nfault Broken\n";
 
-const TOLD_OF_A_GROUP: [&str; 2] = [
-    "fault Device\nfault Broken\nfault Broken\n",
-    "ok 1\nfault Device\nfault Broken\n",
-];
+const TOLD: [&str; 2] = [FIRST_FAILED, "ok 1\nsafe 1\nfault Device\nfault Broken\n"];
+
+const TOLD_OF_A_GROUP: [&str; 2] = [FIRST_FAILED, "ok 1\nfault Device\nfault Broken\n"];
 
 const TOLD_OF_A_SHOW: [&str; 2] = [
     "fault Device\nfault Broken\nfault Broken\nrefused 20 BadLine\n",
@@ -91,10 +88,7 @@ const TOLD_OF_A_SHOW: [&str; 2] = [
 ];
 
 // A settling meets the disk only where something is left to settle.
-const SETTLED: [&str; 2] = [
-    "fault Device\nfault Broken\n",
-    "fault Device\nfault Broken\n",
-];
+const SETTLED: [&str; 2] = ["fault Device\nfault Broken\n"; 2];
 
 fn fail_each(rt: &(impl Abort + AllocGlobal), rows: &[Failed]) {
     for row in rows {
@@ -122,36 +116,51 @@ fn each_failed_call(rt: HostRuntime) {
     fail_each(&rt, CAPTURED);
 }
 
-const MOVED: &[Failed] = &[
+// How many calls a step of one line and a settling make behind the opening, and such steps.
+type Settled = (u64, &'static [&'static Step]);
+
+// The line of each step is settled alone.
+fn fail_steps(rt: &(impl Abort + AllocGlobal), row: &Settled) {
+    let (calls, steps) = row;
+    for step in *steps {
+        fail_at_every_call(rt, &(1, *step, "settle\n", *calls, SETTLED));
+    }
+}
+
+fn fail_each_settled(rt: &(impl Abort + AllocGlobal), rows: &[Settled]) {
+    for row in rows {
+        fail_steps(rt, row);
+    }
+}
+
+const MOVED: &[Settled] = &[
     // Each file is asked for its length and read; the record and the open gate are written with a
     // sync each; each file's patch is written, of which the source's has no bytes, and it is asked
     // for its length; the source is cut; both are synced, and the gate is closed with a sync.
-    (1, ACROSS, "settle\n", 17, SETTLED),
-    (1, REFILE_WITHIN, "settle\n", 11, SETTLED),
-    // the made headings and the entry are one insertion
-    (1, TO_A_HEAD, "settle\n", 11, SETTLED),
-    (1, TO_A_DAY, "settle\n", 11, SETTLED),
+    (17, &[ACROSS]),
+    // one file, of which the made headings and the entry are one insertion
+    (11, &[REFILE_WITHIN, TO_A_HEAD, TO_A_DAY]),
 ];
 
 #[test]
 fn each_failed_call_of_a_move(rt: HostRuntime) {
-    fail_each(&rt, MOVED);
+    fail_each_settled(&rt, MOVED);
 }
 
-const CHANGED: &[Failed] = &[
-    (1, TO_THE_ARCHIVE, "settle\n", 17, SETTLED),
-    (1, ARCHIVE_WITHIN, "settle\n", 11, SETTLED),
+const CHANGED: &[Settled] = &[
+    (17, &[TO_THE_ARCHIVE]),
+    (11, &[ARCHIVE_WITHIN]),
     // The files up to that of the clock that runs, three, are asked for their length and read. Of
     // the two that change each is written in one place, and none is cut.
-    (1, CLOCK_ELSEWHERE, "settle\n", 18, SETTLED),
+    (18, &[CLOCK_ELSEWHERE]),
     // The file is written in two places, at its keyword and from its planning line on: one write
     // more than a refile within it takes.
-    (1, REPEATED, "settle\n", 12, SETTLED),
+    (12, &[REPEATED]),
 ];
 
 #[test]
 fn each_failed_call_of_an_archive_a_clock_and_a_repetition(rt: HostRuntime) {
-    fail_each(&rt, CHANGED);
+    fail_each_settled(&rt, CHANGED);
 }
 
 // The first of the captures, and a show.

@@ -13,6 +13,7 @@ use std::process::Abort;
 type Path = &'static str;
 
 // A command.
+#[derive(Clone, Copy)]
 pub enum Ask {
     // the file, and the template of what is captured at its end
     Capture(&'static str, &'static str),
@@ -27,6 +28,7 @@ pub enum Ask {
 }
 
 // What it is answered.
+#[derive(Clone, Copy)]
 pub enum Answer {
     Done(u64),
     Safe(u64),

@@ -6,10 +6,28 @@ use org_disk::MemoryDisk;
 use org_store::{Refusal, RunFault, Store};
 use std::process::Abort;
 
-// Asks a store that is opened over what another one left.
-fn ask_again(rt: &(impl Abort + AllocGlobal), store: Store<MemoryDisk>, rows: &[Row]) {
+// Asks for both files, which hold these texts, before a command is accepted.
+fn show_both(
+    rt: &(impl Abort + AllocGlobal),
+    store: &mut Store<MemoryDisk>,
+    texts: &[&'static str; 2],
+) {
+    let [a, b] = *texts;
+    let rows = [
+        (Ask::Show("a.org"), Answer::Text(a), 0, 0),
+        (Ask::Show("b.org"), Answer::Text(b), 0, 0),
+    ];
+    ask_each(rt, store, &rows);
+}
+
+// The same of a store that is opened over what another one left.
+fn show_again(
+    rt: &(impl Abort + AllocGlobal),
+    store: Store<MemoryDisk>,
+    texts: &[&'static str; 2],
+) {
     let mut store = open(rt, store.into_disk());
-    ask_each(rt, &mut store, rows);
+    show_both(rt, &mut store, texts);
     drop(store);
 }
 
@@ -25,11 +43,6 @@ const GROUPED: &[Row] = &[
     (Ask::Settle, Answer::Safe(2), 2, 2),
 ];
 
-const CAPTURED: &[Row] = &[
-    (Ask::Show("a.org"), Answer::Text("* B\n* C\n"), 0, 0),
-    (Ask::Show("b.org"), Answer::Text(""), 0, 0),
-];
-
 // The size of the groups changes in the middle.
 #[test]
 fn settles_by_command(rt: HostRuntime) {
@@ -37,7 +50,7 @@ fn settles_by_command(rt: HostRuntime) {
     ask_each(&rt, &mut store, SETTLED);
     store.set_group(1000);
     ask_each(&rt, &mut store, GROUPED);
-    ask_again(&rt, store, CAPTURED);
+    show_again(&rt, store, &["* B\n* C\n", ""]);
 }
 
 const NOT_FOUND: RunFault = RunFault::Refused(Refusal::NotFound);
@@ -52,18 +65,15 @@ const NO_TITLES: &[Ask] = &[
     Ask::CaptureBelow("", "* N"),
 ];
 
-const UNCHANGED: &[Row] = &[
-    (Ask::Show("a.org"), Answer::Text("* TODO A"), 0, 0),
-    (Ask::Show("b.org"), Answer::Text("* T\n* T\n* A"), 0, 0),
-];
+const UNCHANGED: [&str; 2] = ["* TODO A", "* T\n* T\n* A"];
 
 // Each of them is refused, and the files stay.
 #[test]
 fn no_titles(rt: HostRuntime) {
-    let mut store = open(&rt, two(&rt, "* TODO A", "* T\n* T\n* A"));
+    let mut store = open(&rt, two(&rt, UNCHANGED[0], UNCHANGED[1]));
     for ask in NO_TITLES {
         assert!(rt; answers(&rt, &mut store, ask, &Answer::Fault(NOT_FOUND)));
-        ask_each(&rt, &mut store, UNCHANGED);
+        show_both(&rt, &mut store, &UNCHANGED);
     }
-    ask_again(&rt, store, UNCHANGED);
+    show_again(&rt, store, &UNCHANGED);
 }

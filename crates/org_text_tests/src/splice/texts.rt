@@ -5,6 +5,15 @@ use org_splice::{Editing, Patch, size_after};
 use std::alloc::Global;
 use std::process::Abort;
 
+/// A call that takes nothing but the text.
+enum Call {
+    /// A last line without a newline gets one.
+    Terminate,
+    Keep,
+    Undo,
+    Settle,
+}
+
 /// What is done to a text, or said of it.
 enum Step {
     /// A text that is not edited yet.
@@ -15,15 +24,12 @@ enum Step {
     Apply(Splice),
     /// Edits that are made at once, and whether they lie near one another.
     Near(Splice, &'static [Splice], bool),
-    /// A last line without a newline gets one.
-    Terminate,
-    Keep,
-    Undo,
-    Settle,
     /// How long a text is, edits of it, and how long it is after them, if it can be that long.
     Size(usize, &'static [Splice], Option<usize>),
     /// Whether an edit could be taken back, the bytes, and the patches.
     Is(bool, &'static [u8], &'static [Patched]),
+    /// A call, and the same once it was made.
+    After(Call, bool, &'static [u8], &'static [Patched]),
 }
 
 fn splice(rt: &impl Abort, text: &mut Editing, at: usize, removed: usize, bytes: &[u8]) {
@@ -35,6 +41,20 @@ fn splice(rt: &impl Abort, text: &mut Editing, at: usize, removed: usize, bytes:
 /// A text with these bytes.
 fn new_text(rt: &impl Abort, alloc: Global, bytes: &[u8]) -> Editing {
     Editing::new(bytes.to_vec(alloc).expect(rt, "memory"))
+}
+
+fn make_call(rt: &impl Abort, text: &mut Editing, call: &Call) {
+    match call {
+        Call::Terminate => text.terminate().expect(rt, "memory"),
+        Call::Keep => text.keep(),
+        Call::Undo => text.undo(),
+        Call::Settle => text.settle(),
+    }
+}
+
+/// Whether an edit of a text can be taken back or can't, and it has these bytes and patches.
+fn is(rt: &impl Abort, text: &Editing, is_edited: bool, bytes: &[u8], patches: &[Patched]) -> bool {
+    text.is_edited() == is_edited && has(rt, text, bytes, patches)
 }
 
 /// Does what a step says, or answers whether it is so.
@@ -49,15 +69,13 @@ fn go(rt: &impl Abort, alloc: Global, text: &mut Editing, step: &Step) -> bool {
             let part = text.apply_near(&first, &rest).expect(rt, "memory");
             return part.is_some() == *are_near;
         }
-        Step::Terminate => text.terminate().expect(rt, "memory"),
-        Step::Keep => text.keep(),
-        Step::Undo => text.undo(),
-        Step::Settle => text.settle(),
         Step::Size(old, splices, size) => {
             return size_after(*old, &edits_of(rt, alloc, splices)) == *size;
         }
-        Step::Is(is_edited, bytes, patches) => {
-            return text.is_edited() == *is_edited && has(rt, text, bytes, patches);
+        Step::Is(is_edited, bytes, patches) => return is(rt, text, *is_edited, bytes, patches),
+        Step::After(made, is_edited, bytes, patches) => {
+            make_call(rt, text, made);
+            return is(rt, text, *is_edited, bytes, patches);
         }
     }
     true
@@ -121,17 +139,13 @@ const SPLICED: &[Spliced] = &[
 
 const TERMINATED: &[Step] = &[
     Step::Text(b""),
-    Step::Terminate,
-    Step::Is(false, b"", NONE),
+    Step::After(Call::Terminate, false, b"", NONE),
     Step::Text(b"* A\n"),
-    Step::Terminate,
-    Step::Is(false, b"* A\n", NONE),
+    Step::After(Call::Terminate, false, b"* A\n", NONE),
     Step::Text(b"* A"),
-    Step::Terminate,
-    Step::Is(true, b"* A\n", &[(3, b"\n")]),
+    Step::After(Call::Terminate, true, b"* A\n", &[(3, b"\n")]),
     Step::Text(b"\n\n"),
-    Step::Terminate,
-    Step::Is(false, b"\n\n", NONE),
+    Step::After(Call::Terminate, false, b"\n\n", NONE),
 ];
 
 // Edits made, taken back, kept and settled.
@@ -146,25 +160,24 @@ const EDITED: &[Step] = &[
     Step::Splice(0, 3, b""),
     Step::Splice(2, 0, b"* Long\n"),
     Step::Is(true, b"C\n* Long\n* B", &[(0, b"C\n* Long\n* B")]),
-    Step::Terminate,
-    Step::Is(true, b"C\n* Long\n* B\n", &[(0, b"C\n* Long\n* B\n")]),
-    Step::Undo,
-    Step::Is(false, b"* A\n* B", NONE),
+    Step::After(
+        Call::Terminate,
+        true,
+        b"C\n* Long\n* B\n",
+        &[(0, b"C\n* Long\n* B\n")],
+    ),
+    Step::After(Call::Undo, false, b"* A\n* B", NONE),
     // An edit kept, others taken back, and all settled.
     Step::Text(HEADINGS),
     Step::Splice(2, 1, b"C"),
     Step::Is(true, b"* C\n* B\n", &[(2, b"C")]),
-    Step::Keep,
-    Step::Is(false, b"* C\n* B\n", &[(2, b"C")]),
+    Step::After(Call::Keep, false, b"* C\n* B\n", &[(2, b"C")]),
     Step::Splice(6, 1, b"D"),
     Step::Splice(0, 4, b""),
     Step::Is(true, b"* D\n", &[(0, b"* D\n")]),
-    Step::Undo,
-    Step::Is(false, b"* C\n* B\n", &[(2, b"C")]),
-    Step::Settle,
-    Step::Is(false, b"* C\n* B\n", NONE),
-    Step::Undo,
-    Step::Is(false, b"* C\n* B\n", NONE),
+    Step::After(Call::Undo, false, b"* C\n* B\n", &[(2, b"C")]),
+    Step::After(Call::Settle, false, b"* C\n* B\n", NONE),
+    Step::After(Call::Undo, false, b"* C\n* B\n", NONE),
     // Sizes after edits.
     Step::Size(8, &[(2, 3, b""), (0, 0, b"* A\n")], Some(9)),
     Step::Size(usize::MAX, &[(0, 0, b"* A\n")], None),
@@ -178,13 +191,11 @@ const NEAR: &[Step] = &[
     Step::Text(HEADINGS),
     Step::Near((6, 1, b"D"), &[(2, 1, b"C")], true),
     Step::Is(true, b"* C\n* D\n", &[(2, b"C"), (6, b"D")]),
-    Step::Undo,
-    Step::Is(false, b"* A\n* B\n", NONE),
+    Step::After(Call::Undo, false, b"* A\n* B\n", NONE),
     // The places of later edits are those of the text behind the first.
     Step::Near((2, 1, b"CC"), &[(7, 1, b"DDD"), (0, 1, b"**")], true),
     Step::Is(true, b"** CC\n* DDD\n", &[(0, b"** CC\n* DDD\n")]),
-    Step::Undo,
-    Step::Is(false, b"* A\n* B\n", NONE),
+    Step::After(Call::Undo, false, b"* A\n* B\n", NONE),
     // What an edit puts in, another takes out again.
     Step::Near((3, 0, b"xyz"), &[(4, 1, b"")], true),
     Step::Is(true, b"* Axz\n* B\n", &[(3, b"xz\n* B\n")]),
@@ -193,8 +204,7 @@ const NEAR: &[Step] = &[
     // Edits that don't lie in the text, or lie far apart, change nothing.
     Step::Near((5, 0, b"x"), &[(0, 1, b"x")], false),
     Step::Is(true, b"* B\n", &[(0, b"* B\n")]),
-    Step::Undo,
-    Step::Is(false, b"* A\n* B\n", NONE),
+    Step::After(Call::Undo, false, b"* A\n* B\n", NONE),
     Step::Text(LONG),
     Step::Near((19_999, 1, b"x"), &[(0, 1, b"x")], false),
     Step::Is(false, LONG, NONE),

@@ -32,68 +32,74 @@ some_reads (Ok plan) (Ok given) is call = only_reads_fine (fine_is_no_fault (Ok 
 some_reads (Ok plan) (Err fault) is call = absurd is
 some_reads (Err fault) answer is call = only_reads_fault is call
 
-pub returns-in-Capture-clause-plans : goal.returns-in-Capture-clause-plans
-returns-in-Capture-clause-plans g c tally honest =
-    let texts : g.row.D.Denot → Image = λ disk. contents (g.D.Disk.files disk) in
-    let s = session_over texts c.args.states.now c.args.files.now tally in
-    let new = session_over texts c.args.states.now c.plan_capture.new.files tally in
-    let told = some_planned s _ c.plan_capture.result c.plan_capture.new.files.held new c.map.result c.map.ensures.cases (c.plan_capture.ensures.plans tally honest) in
-    subst (λ (change : Change). PlansOrStays s (outcome s (changing change)) c.map.result c.plan_capture.new.files.held new) (sym c.in-Capture.is) told
+pub returns-in-Capture : goal.returns-in-Capture
+returns-in-Capture g c = record {
+  plan = some_fits _ c.plan_capture.result c.map.result c.map.ensures.cases c.plan_capture.ensures.plan;
+  plans = λ tally honest.
+      let texts : g.row.D.Denot → Image = λ disk. contents (g.D.Disk.files disk) in
+      let s = session_over texts c.args.states.now c.args.files.now tally in
+      let new = session_over texts c.args.states.now c.plan_capture.new.files tally in
+      let told = some_planned s _ c.plan_capture.result c.plan_capture.new.files.held new c.map.result c.map.ensures.cases (c.plan_capture.ensures.plans tally honest) in
+      subst (λ (change : Change). PlansOrStays s (outcome s (changing change)) c.map.result c.plan_capture.new.files.held new) (sym c.in-Capture.is) told;
+  disk = some_reads c.plan_capture.result c.map.result c.map.ensures.cases c.plan_capture.ensures.disk;
+}
 
-pub returns-in-Refile-clause-plans : goal.returns-in-Refile-clause-plans
-returns-in-Refile-clause-plans g c tally honest =
-    let texts : g.row.D.Denot → Image = λ disk. contents (g.D.Disk.files disk) in
-    let s = session_over texts c.args.states.now c.args.files.now tally in
-    let new = session_over texts c.args.states.now c.plan_refile.new.files tally in
-    let told = some_planned s _ c.plan_refile.result c.plan_refile.new.files.held new c.map-in-Refile.result c.map-in-Refile.ensures.cases (c.plan_refile.ensures.plans tally honest) in
-    subst (λ (change : Change). PlansOrStays s (outcome s (changing change)) c.map-in-Refile.result c.plan_refile.new.files.held new) (sym c.in-Refile.is) told
+pub returns-in-Refile : goal.returns-in-Refile
+returns-in-Refile g c = record {
+  plan = some_fits _ c.plan_refile.result c.map-in-Refile.result c.map-in-Refile.ensures.cases c.plan_refile.ensures.plan;
+  plans = λ tally honest.
+      let texts : g.row.D.Denot → Image = λ disk. contents (g.D.Disk.files disk) in
+      let s = session_over texts c.args.states.now c.args.files.now tally in
+      let new = session_over texts c.args.states.now c.plan_refile.new.files tally in
+      let told = some_planned s _ c.plan_refile.result c.plan_refile.new.files.held new c.map-in-Refile.result c.map-in-Refile.ensures.cases (c.plan_refile.ensures.plans tally honest) in
+      subst (λ (change : Change). PlansOrStays s (outcome s (changing change)) c.map-in-Refile.result c.plan_refile.new.files.held new) (sym c.in-Refile.is) told;
+  disk = some_reads c.plan_refile.result c.map-in-Refile.result c.map-in-Refile.ensures.cases c.plan_refile.ensures.disk;
+}
 
-pub returns-in-Archive-clause-plans : goal.returns-in-Archive-clause-plans
-returns-in-Archive-clause-plans g c tally honest =
-    let texts : g.row.D.Denot → Image = λ disk. contents (g.D.Disk.files disk) in
-    let s = session_over texts c.args.states.now c.args.files.now tally in
-    let new = session_over texts c.args.states.now c.plan_archive.new.files tally in
-    let told = some_planned s _ c.plan_archive.result c.plan_archive.new.files.held new c.map-in-Archive.result c.map-in-Archive.ensures.cases (c.plan_archive.ensures.plans tally honest) in
-    subst (λ (change : Change). PlansOrStays s (outcome s (changing change)) c.map-in-Archive.result c.plan_archive.new.files.held new) (sym c.in-Archive.is) told
+pub returns-in-Archive : goal.returns-in-Archive
+returns-in-Archive g c = record {
+  plan = some_fits _ c.plan_archive.result c.map-in-Archive.result c.map-in-Archive.ensures.cases c.plan_archive.ensures.plan;
+  plans = λ tally honest.
+      let texts : g.row.D.Denot → Image = λ disk. contents (g.D.Disk.files disk) in
+      let s = session_over texts c.args.states.now c.args.files.now tally in
+      let new = session_over texts c.args.states.now c.plan_archive.new.files tally in
+      let told = some_planned s _ c.plan_archive.result c.plan_archive.new.files.held new c.map-in-Archive.result c.map-in-Archive.ensures.cases (c.plan_archive.ensures.plans tally honest) in
+      subst (λ (change : Change). PlansOrStays s (outcome s (changing change)) c.map-in-Archive.result c.plan_archive.new.files.held new) (sym c.in-Archive.is) told;
+  disk = some_reads c.plan_archive.result c.map-in-Archive.result c.map-in-Archive.ensures.cases c.plan_archive.ensures.disk;
+}
 
-pub returns-in-Todo-clause-plans : goal.returns-in-Todo-clause-plans
-returns-in-Todo-clause-plans g c tally honest =
-    let texts : g.row.D.Denot → Image = λ disk. contents (g.D.Disk.files disk) in
-    let s = session_over texts c.args.states.now c.args.files.now tally in
-    let new = session_over texts c.args.states.now c.plan_todo.new.files tally in
-    subst (λ (change : Change). PlansOrStays s (outcome s (changing change)) c.plan_todo.result c.plan_todo.new.files.held new) (sym c.in-Todo.is) (c.plan_todo.ensures.plans tally honest)
+pub returns-in-Todo : goal.returns-in-Todo
+returns-in-Todo g c = record {
+  plan = c.plan_todo.ensures.plan;
+  plans = λ tally honest.
+      let texts : g.row.D.Denot → Image = λ disk. contents (g.D.Disk.files disk) in
+      let s = session_over texts c.args.states.now c.args.files.now tally in
+      let new = session_over texts c.args.states.now c.plan_todo.new.files tally in
+      subst (λ (change : Change). PlansOrStays s (outcome s (changing change)) c.plan_todo.result c.plan_todo.new.files.held new) (sym c.in-Todo.is) (c.plan_todo.ensures.plans tally honest);
+  disk = c.plan_todo.ensures.disk;
+}
 
-pub returns-in-ClockIn-clause-plans : goal.returns-in-ClockIn-clause-plans
-returns-in-ClockIn-clause-plans g c tally honest =
-    let texts : g.row.D.Denot → Image = λ disk. contents (g.D.Disk.files disk) in
-    let s = session_over texts c.args.states.now c.args.files.now tally in
-    let new = session_over texts c.args.states.now c.plan_clock_in.new.files tally in
-    subst (λ (change : Change). PlansOrStays s (outcome s (changing change)) c.plan_clock_in.result c.plan_clock_in.new.files.held new) (sym c.in-ClockIn.is) (c.plan_clock_in.ensures.plans tally honest)
+pub returns-in-ClockIn : goal.returns-in-ClockIn
+returns-in-ClockIn g c = record {
+  plan = c.plan_clock_in.ensures.plan;
+  plans = λ tally honest.
+      let texts : g.row.D.Denot → Image = λ disk. contents (g.D.Disk.files disk) in
+      let s = session_over texts c.args.states.now c.args.files.now tally in
+      let new = session_over texts c.args.states.now c.plan_clock_in.new.files tally in
+      subst (λ (change : Change). PlansOrStays s (outcome s (changing change)) c.plan_clock_in.result c.plan_clock_in.new.files.held new) (sym c.in-ClockIn.is) (c.plan_clock_in.ensures.plans tally honest);
+  disk = c.plan_clock_in.ensures.disk;
+}
 
-pub returns-in-ClockOut-clause-plans : goal.returns-in-ClockOut-clause-plans
-returns-in-ClockOut-clause-plans g c tally honest =
-    let texts : g.row.D.Denot → Image = λ disk. contents (g.D.Disk.files disk) in
-    let s = session_over texts c.args.states.now c.args.files.now tally in
-    let new = session_over texts c.args.states.now c.plan_clock_out.new.files tally in
-    subst (λ (change : Change). PlansOrStays s (outcome s (changing change)) c.plan_clock_out.result c.plan_clock_out.new.files.held new) (sym c.in-ClockOut.is) (c.plan_clock_out.ensures.plans tally honest)
-
-pub returns-in-Todo-clause-plan : goal.returns-in-Todo-clause-plan
-returns-in-Todo-clause-plan g c = c.plan_todo.ensures.plan
-
-pub returns-in-Todo-clause-disk : goal.returns-in-Todo-clause-disk
-returns-in-Todo-clause-disk g c = c.plan_todo.ensures.disk
-
-pub returns-in-ClockIn-clause-plan : goal.returns-in-ClockIn-clause-plan
-returns-in-ClockIn-clause-plan g c = c.plan_clock_in.ensures.plan
-
-pub returns-in-ClockIn-clause-disk : goal.returns-in-ClockIn-clause-disk
-returns-in-ClockIn-clause-disk g c = c.plan_clock_in.ensures.disk
-
-pub returns-in-ClockOut-clause-plan : goal.returns-in-ClockOut-clause-plan
-returns-in-ClockOut-clause-plan g c = c.plan_clock_out.ensures.plan
-
-pub returns-in-ClockOut-clause-disk : goal.returns-in-ClockOut-clause-disk
-returns-in-ClockOut-clause-disk g c = c.plan_clock_out.ensures.disk
+pub returns-in-ClockOut : goal.returns-in-ClockOut
+returns-in-ClockOut g c = record {
+  plan = c.plan_clock_out.ensures.plan;
+  plans = λ tally honest.
+      let texts : g.row.D.Denot → Image = λ disk. contents (g.D.Disk.files disk) in
+      let s = session_over texts c.args.states.now c.args.files.now tally in
+      let new = session_over texts c.args.states.now c.plan_clock_out.new.files tally in
+      subst (λ (change : Change). PlansOrStays s (outcome s (changing change)) c.plan_clock_out.result c.plan_clock_out.new.files.held new) (sym c.in-ClockOut.is) (c.plan_clock_out.ensures.plans tally honest);
+  disk = c.plan_clock_out.ensures.disk;
+}
 
 pub plan_archive-requires : goal.plan_archive-requires
 plan_archive-requires g c = record { between = c.requires.between }
@@ -112,21 +118,3 @@ plan_refile-requires g c = record { between = c.requires.between }
 
 pub plan_todo-requires : goal.plan_todo-requires
 plan_todo-requires g c = record { between = c.requires.between }
-
-pub returns-in-Capture-clause-plan : goal.returns-in-Capture-clause-plan
-returns-in-Capture-clause-plan g c = some_fits _ c.plan_capture.result c.map.result c.map.ensures.cases c.plan_capture.ensures.plan
-
-pub returns-in-Capture-clause-disk : goal.returns-in-Capture-clause-disk
-returns-in-Capture-clause-disk g c = some_reads c.plan_capture.result c.map.result c.map.ensures.cases c.plan_capture.ensures.disk
-
-pub returns-in-Refile-clause-plan : goal.returns-in-Refile-clause-plan
-returns-in-Refile-clause-plan g c = some_fits _ c.plan_refile.result c.map-in-Refile.result c.map-in-Refile.ensures.cases c.plan_refile.ensures.plan
-
-pub returns-in-Refile-clause-disk : goal.returns-in-Refile-clause-disk
-returns-in-Refile-clause-disk g c = some_reads c.plan_refile.result c.map-in-Refile.result c.map-in-Refile.ensures.cases c.plan_refile.ensures.disk
-
-pub returns-in-Archive-clause-plan : goal.returns-in-Archive-clause-plan
-returns-in-Archive-clause-plan g c = some_fits _ c.plan_archive.result c.map-in-Archive.result c.map-in-Archive.ensures.cases c.plan_archive.ensures.plan
-
-pub returns-in-Archive-clause-disk : goal.returns-in-Archive-clause-disk
-returns-in-Archive-clause-disk g c = some_reads c.plan_archive.result c.map-in-Archive.result c.map-in-Archive.ensures.cases c.plan_archive.ensures.disk

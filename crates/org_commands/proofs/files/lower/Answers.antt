@@ -1,9 +1,9 @@
-use Rattle.std.proofs.Common.{◌≡◌, ℕ, ◌+◌, ◌<◌, ◌≤◌, List, length, get_or, slice_get, Some, Vec, false, sym, ◌∙◌, ap, subst, rules, arith}
+use Rattle.std.proofs.Common.{◌≡◌, ℕ, ◌+◌, ◌<◌, ◌≤◌, List, length, get_or, slice_get, Option, Some, Vec, false, sym, ◌∙◌, ap, subst, rules, arith}
 use Rattle.std.proofs.lemmas.Option.{get_or_from_slice_get, slice_get-get_or}
 use Rattle.std.specs.Global.{Global}
 use Rattle.std.specs.Str.{bytes_eq}
-use Rattle.org_state.specs.declared.searched.Searched.{Searched}
-use Rattle.org_commands.proofs.Clockless.{LowersBelow, lowers_all, lowers_other, lowers_past, lowers_this}
+use Rattle.org_commands.specs.declared.searches.Searches.{Searches}
+use Rattle.org_commands.proofs.Noted.{LowersBelow, lowers_all, lowers_other, lowers_past, lowers_this}
 use Rattle.org_commands.proofs.files.lower.Goals as goal
 use Rattle.org_commands.proofs.files.lower.Goals.{then-index-len+then-eq, else-index-len, else-index-len-via-then-index-len+else-eq, else-index-len-via-else-index-len}
 
@@ -21,10 +21,10 @@ loop-index-preserved c =
       | then-index-len+then-eq w ↦
           let within : index < length mid = omega (arith, c.len.ensures, w.if-index-len.true) in
           let read : w.index.result.now ≡ get_or mid index w.index.result.now = search rules in
-          let here : slice_get mid index ≡ Some w.index.result.now = slice_get-get_or mid index w.index.result.now within ∙ ap (λ (s : Searched). Some s) (sym read) in
-          lowers_this names file size edits index old mid next w.index.result.now w.lowered.result within here (ap (λ (q : Vec Searched Global). q.items) w.notes-is) w.lowered.ensures.stays w.lowered.ensures.follows c.loop-index.invariant
+          let here : slice_get mid index ≡ Some w.index.result.now = slice_get-get_or mid index w.index.result.now within ∙ ap (λ (s : Option Searches). Some s) (sym read) in
+          lowers_this names file size edits index old mid next w.index.result.now w.lowered_note.result within here (ap (λ (q : Vec (Option Searches) Global). q.items) w.notes-is) w.lowered_note.ensures c.loop-index.invariant
       | else-index-len w ↦
-          let same : mid ≡ next = sym (ap (λ (q : Vec Searched Global). q.items) w.notes-is) in
+          let same : mid ≡ next = sym (ap (λ (q : Vec (Option Searches) Global). q.items) w.notes-is) in
           elim w.else-index-len.branch [
             | else-index-len-via-then-index-len+else-eq v ↦
                 let apart : bytes_eq file c.index-names-index.result ≡ false = sym v.eq.ensures ∙ v.if-eq.false in

@@ -1,4 +1,4 @@
-use Rattle.org_commands.proofs.Clockless.{LowersBelow}
+use Rattle.org_commands.proofs.Noted.{LowersBelow}
 use Rattle.org_commands.proofs.files.lower.Given as goal
 
 abbrev pub invariant-loop-index : goal.invariant-loop-index

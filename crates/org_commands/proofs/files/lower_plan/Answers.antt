@@ -5,8 +5,8 @@ use Rattle.std.proofs.lemmas.Bool.{false≢true}
 use Rattle.org_disk.proofs.Names.{same_name}
 use Rattle.org_splice.specs.Texts.{EditedText}
 use Rattle.org_texts.specs.Texts.{text_of}
-use Rattle.org_commands.specs.Clockless.{AreKnown, Lowers}
-use Rattle.org_commands.proofs.Clockless.{first_lowered, plan_of_first, second_lowered}
+use Rattle.org_commands.specs.Noted.{AreKnown, Lowers}
+use Rattle.org_commands.proofs.Noted.{first_lowered, plan_of_first, second_lowered}
 use Rattle.org_commands.proofs.files.lower_plan.Goals as goal
 use Rattle.org_commands.proofs.files.lower_plan.Goals.{then-eq, else-eq}
 

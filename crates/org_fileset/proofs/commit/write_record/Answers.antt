@@ -13,13 +13,13 @@ returns-in_err-arm-clause-writes g c entries reads applicable ended fit =
 pub returns-clause-writes : goal.returns-clause-writes
 returns-clause-writes g c entries reads applicable ended fit =
     let d = g.D.Disk in
-    let mid = c.open_gate.ensures.accounts.was_honest ended in
+    let mid = c.open_gate.ensures.put.accounts.was_honest ended in
     let gate = c.requires.gate (c.arm.ensures.accounts.was_honest mid) in
     opened_writes d c.args.disk.now c.args.journal.now c.requires.journal entries applicable fit gate c.args.body.now reads c.requires.long c.arm.new.disk c.open_gate.new.disk
-    c.open_gate.result (c.arm.ensures.any_moment mid) (c.in_ok-arm.ensures.puts mid) (c.open_gate.ensures.any_moment ended) (c.open_gate.ensures.puts ended)
+    c.open_gate.result (c.arm.ensures.any_moment mid) (c.in_ok-arm.ensures.puts mid) (c.open_gate.ensures.put.any_moment ended) (c.open_gate.ensures.put.puts ended)
 
 pub returns-in_err-arm-clause-accounts : goal.returns-in_err-arm-clause-accounts
 returns-in_err-arm-clause-accounts g c = accounts_failed c.from_residual.ensures.0 c.in_err-arm.ensures.accounts
 
 pub returns-clause-accounts : goal.returns-clause-accounts
-returns-clause-accounts g c = accounts_then (accounts_ok c.in_ok-arm.ensures.accounts) c.open_gate.ensures.accounts
+returns-clause-accounts g c = accounts_then (accounts_ok c.in_ok-arm.ensures.accounts) c.open_gate.ensures.put.accounts

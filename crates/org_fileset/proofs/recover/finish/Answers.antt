@@ -10,20 +10,20 @@ replay-requires-clause-journal g c = c.requires.journal
 
 pub replay-requires-clause-applicable : goal.replay-requires-clause-applicable
 replay-requires-clause-applicable g c honest =
-    let entries = c.entries.result.now in
-    let is = armed_as c.in-Armed.is c.entries.ensures in
+    let entries = c.as_slice.result.now in
+    let is = armed_as c.in-Armed.is c.as_slice.ensures in
     armed_applicable c.args.found.now entries is c.requires.writable
 
 pub replay-requires-clause-opened : goal.replay-requires-clause-opened
 replay-requires-clause-opened g c honest =
-    let entries = c.entries.result.now in
-    let is = armed_as c.in-Armed.is c.entries.ensures in
+    let entries = c.as_slice.result.now in
+    let is = armed_as c.in-Armed.is c.as_slice.ensures in
     (open_over (g.D.Disk.files c.args.disk.now) c.args.found.now entries (c.requires.stable honest) is (c.requires.found honest)).0
 
 pub replay-requires-clause-fits : goal.replay-requires-clause-fits
 replay-requires-clause-fits g c honest =
-    let entries = c.entries.result.now in
-    let is = armed_as c.in-Armed.is c.entries.ensures in
+    let entries = c.as_slice.result.now in
+    let is = armed_as c.in-Armed.is c.as_slice.ensures in
     (open_over (g.D.Disk.files c.args.disk.now) c.args.found.now entries (c.requires.stable honest) is (c.requires.found honest)).1
 
 pub give_gate-requires-clause-journal : goal.give_gate-requires-clause-journal
@@ -40,8 +40,8 @@ returns-in-Armed-clause-reopens g c ended =
     let d = g.D.Disk in
     let old = c.args.disk.now in
     let honest = c.replay.ensures.accounts.was_honest ended in
-    let entries = c.entries.result.now in
-    let is = armed_as c.in-Armed.is c.entries.ensures in
+    let entries = c.as_slice.result.now in
+    let is = armed_as c.in-Armed.is c.as_slice.ensures in
     let over = open_over (d.files old) c.args.found.now entries (c.requires.stable honest) is (c.requires.found honest) in
     replayed_reopens d old (λ image left. g.met.D.Disk.only_now old image honest left) (λ name. g.met.D.Disk.content_is_image old name honest) entries c.replay.new.disk c.replay.result
     (armed_applicable c.args.found.now entries is c.requires.writable) over.0 over.1 (c.replay.ensures.replays ended)

@@ -64,7 +64,7 @@ returns-then-not-branch-clause-found g c ended =
     let files = g.D.Disk.files c.args.disk.now in
     found_bad files (g.D.Disk.files c.size_of.new.disk) (g.D.Disk.files c.record_of.new.disk) c.args.journal.now c.in-Some.size c.in_ok-record.record c.requires
     (rw c.in-Some.is at (c.in_ok-size.ensures.found start)) (c.size_of.ensures.looks start).same (c.record_of.ensures.looks before).same (c.in_ok-record.ensures.found before)
-    c.in_ok-all_fit.field-0 (rw c.entries.ensures at (c.in_ok-all_fit.ensures.fit ended)) c.if-not-branch.true
+    c.in_ok-all_fit.field-0 (rw c.as_slice.ensures at (c.in_ok-all_fit.ensures.fit ended)) c.if-not-branch.true
 
 pub returns-clause-found : goal.returns-clause-found
 returns-clause-found g c ended =
@@ -73,7 +73,7 @@ returns-clause-found g c ended =
     let files = g.D.Disk.files c.args.disk.now in
     found_armed files (g.D.Disk.files c.size_of.new.disk) (g.D.Disk.files c.record_of.new.disk) c.args.journal.now c.in-Some.size c.in_ok-record.record c.requires
     (rw c.in-Some.is at (c.in_ok-size.ensures.found start)) (c.size_of.ensures.looks start).same (c.record_of.ensures.looks before).same (c.in_ok-record.ensures.found before)
-    c.in_ok-all_fit.field-0 (rw c.entries.ensures at (c.in_ok-all_fit.ensures.fit ended)) c.if-not-branch.false
+    c.in_ok-all_fit.field-0 (rw c.as_slice.ensures at (c.in_ok-all_fit.ensures.fit ended)) c.if-not-branch.false
 
 pub returns-in_err-size-clause-writable : goal.returns-in_err-size-clause-writable
 returns-in_err-size-clause-writable g c = no_value _ _ c.from_residual.ensures.0
@@ -112,7 +112,7 @@ record_of-requires-clause-within g c start =
     record_held (g.D.Disk.files c.args.disk.now) (g.D.Disk.files c.size_of.new.disk) c.args.journal.now c.in-Some.size (rw c.in-Some.is at (c.in_ok-size.ensures.found start)) (c.size_of.ensures.looks start).same
 
 pub all_fit-requires : goal.all_fit-requires
-all_fit-requires g c = rw c.entries.ensures c.in_ok-record.ensures.patches
+all_fit-requires g c = rw c.as_slice.ensures c.in_ok-record.ensures.patches
 
 pub returns-in_err-record-clause-found : goal.returns-in_err-record-clause-found
 returns-in_err-record-clause-found g c ended =

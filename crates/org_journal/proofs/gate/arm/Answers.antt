@@ -5,34 +5,30 @@ use Rattle.org_journal.proofs.Accounted.{accounts_failed}
 use Rattle.org_journal.proofs.Gates.{behind_sync, behind_write, puts, puts_failed}
 use Rattle.org_journal.proofs.gate.arm.Goals as goal
 
-pub returns-in_err-write_at-clause-accounts : goal.returns-in_err-write_at-clause-accounts
-returns-in_err-write_at-clause-accounts g c = accounts_failed c.from_residual.ensures.0 (accounts_call _ c.in_err-write_at.ensures.accounts)
+pub returns-in_err-write_at : goal.returns-in_err-write_at
+returns-in_err-write_at g c = record {
+  any_moment = λ ended.
+      passes_as (c.write_at.ensures.time ended)
+      (behind_write c.args.journal.now c.args.body.now (g.D.Disk.files c.args.disk.now) (c.requires (c.write_at.ensures.accounts.was_honest ended)));
+  puts = λ ended.
+      puts_failed c.args.journal.now _ (g.D.Disk.files c.args.disk.now) (g.D.Disk.files c.write_at.new.self) c.from_residual.result c.from_residual.ensures.0 (c.write_at.ensures.effect ended).others;
+  accounts = accounts_failed c.from_residual.ensures.0 (accounts_call _ c.in_err-write_at.ensures.accounts);
+}
 
-pub returns-clause-accounts : goal.returns-clause-accounts
-returns-clause-accounts g c = accounts_then (accounts_call_ok c.in_ok-write_at.ensures.accounts) (accounts_call _ c.sync.ensures.accounts)
-
-pub returns-in_err-write_at-clause-puts : goal.returns-in_err-write_at-clause-puts
-returns-in_err-write_at-clause-puts g c ended =
-    puts_failed c.args.journal.now _ (g.D.Disk.files c.args.disk.now) (g.D.Disk.files c.write_at.new.self) c.from_residual.result c.from_residual.ensures.0 (c.write_at.ensures.effect ended).others
-
-pub returns-clause-puts : goal.returns-clause-puts
-returns-clause-puts g c ended =
-    let written = c.in_ok-write_at.ensures.effect (c.sync.ensures.accounts.was_honest ended) in
-    puts c.args.journal.now 1 c.args.body.now _ (g.D.Disk.files c.args.disk.now) (g.D.Disk.files c.write_at.new.self) (g.D.Disk.files c.sync.new.self) c.sync.result
-    refl written.ok written.others (c.sync.ensures.effect ended)
-
-pub returns-in_err-write_at-clause-any_moment : goal.returns-in_err-write_at-clause-any_moment
-returns-in_err-write_at-clause-any_moment g c ended =
-    passes_as (c.write_at.ensures.time ended)
-    (behind_write c.args.journal.now c.args.body.now (g.D.Disk.files c.args.disk.now) (c.requires (c.write_at.ensures.accounts.was_honest ended)))
-
-pub returns-clause-any_moment : goal.returns-clause-any_moment
-returns-clause-any_moment g c ended =
-    let at_sync = c.sync.ensures.accounts.was_honest ended in
-    let closed = c.requires (c.write_at.ensures.accounts.was_honest at_sync) in
-    let written = c.in_ok-write_at.ensures.effect at_sync in
-    let behind = passes_as (c.write_at.ensures.time at_sync)
-    (behind_write c.args.journal.now c.args.body.now (g.D.Disk.files c.args.disk.now) closed) in
-    passes_then behind (c.sync.ensures.time ended)
-    (behind_sync c.args.journal.now c.args.body.now (g.D.Disk.files c.args.disk.now) closed
-    (g.D.Disk.files c.write_at.new.self) written.ok written.others)
+pub returns : goal.returns
+returns g c = record {
+  any_moment = λ ended.
+      let at_sync = c.sync.ensures.accounts.was_honest ended in
+      let closed = c.requires (c.write_at.ensures.accounts.was_honest at_sync) in
+      let written = c.in_ok-write_at.ensures.effect at_sync in
+      let behind = passes_as (c.write_at.ensures.time at_sync)
+      (behind_write c.args.journal.now c.args.body.now (g.D.Disk.files c.args.disk.now) closed) in
+      passes_then behind (c.sync.ensures.time ended)
+      (behind_sync c.args.journal.now c.args.body.now (g.D.Disk.files c.args.disk.now) closed
+      (g.D.Disk.files c.write_at.new.self) written.ok written.others);
+  puts = λ ended.
+      let written = c.in_ok-write_at.ensures.effect (c.sync.ensures.accounts.was_honest ended) in
+      puts c.args.journal.now 1 c.args.body.now _ (g.D.Disk.files c.args.disk.now) (g.D.Disk.files c.write_at.new.self) (g.D.Disk.files c.sync.new.self) c.sync.result
+      refl written.ok written.others (c.sync.ensures.effect ended);
+  accounts = accounts_then (accounts_call_ok c.in_ok-write_at.ensures.accounts) (accounts_call _ c.sync.ensures.accounts);
+}

@@ -1,10 +1,6 @@
-use Rattle.org_move.specs.Location.{halves_made, heading_made}
-use Rattle.org_move.proofs.Places.{read_is, located}
+use Rattle.org_move.specs.Location.{has_archive_line}
+use Rattle.org_move.proofs.Lines.{archive_lines_stand}
 use Rattle.org_move.proofs.locating.location.Goals as goal
 
-pub returns : goal.returns
-returns c =
-    let to = located _ _ c.args.name.now _ c.args.outline.now.text _ _ _ _ _ _ c.find.ensures.value c.in_ok-node.was c.is_archive.ensures c.if-is_archive.false c.value_for.ensures
-    (read_is halves_made _ _ _ c.halves.ensures c.in-Some.is) c.states.ensures.value
-    (read_is heading_made _ _ _ c.heading.ensures.value c.in-Some-heading.is) in
-    rw to c.place.ensures
+pub location_searched-requires : goal.location_searched-requires
+location_searched-requires c = c.nothing.ensures has_archive_line archive_lines_stand c.args.outline.now.text

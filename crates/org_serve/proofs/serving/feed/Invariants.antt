@@ -2,7 +2,7 @@ use Rattle.std.proofs.Common.{◌≡◌, ◌++◌, List, ℕ, [], length}
 use Rattle.std.specs.Prelude.{IsTrue}
 use Rattle.org_disk.specs.Accounts.{Accounts}
 use Rattle.org_serve.specs.Lines.{cut, Stands}
-use Rattle.org_serve.specs.Serving.{HasBroken, honest_stores}
+use Rattle.org_serve.specs.Serving.{HasBroken, stores_while_honest}
 use Rattle.org_serve.proofs.Feeding.{Fed}
 use Rattle.org_serve.proofs.serving.feed.Given as goal
 
@@ -10,7 +10,7 @@ use Rattle.org_serve.proofs.serving.feed.Given as goal
 abbrev pub invariant-loop-line : goal.invariant-loop-line
 invariant-loop-line g l =
     ((part : List ℕ) → (cut part).lines ≡ [] → Stands l.initial.pending part
-    → Fed (honest_stores g.D.Disk) l.initial.store (part ++ l.piece) l.rest l.store
+    → Fed (stores_while_honest g.D.Disk) l.initial.store (part ++ l.piece) l.rest l.store
     (g.W.Sink.written l.initial.writer) (g.W.Sink.written l.writer) l.pending)
     × (IsTrue l.initial.store.session.broken → l.store ≡ l.initial.store)
     × Accounts g.D.Disk l.initial.store.disk l.store.disk (HasBroken l.initial.store.session l.store.session)

@@ -1,6 +1,6 @@
 use Rattle.std.proofs.Common.{◌≡◌, ◌∙◌, ◌<◌, ◌≤◌, [], false, refl, sym, subst, arith}
 use Rattle.org_serve.specs.Replies.{settled_text}
-use Rattle.org_serve.specs.Serving.{EndsBroken}
+use Rattle.org_serve.specs.Serving.{EndSaysBroken}
 use Rattle.org_serve.proofs.Breaking.{ends_broken, accounts_settled, accounts_still, device_unread, device_unwritten, end_unread, end_unwritten, write_unread}
 use Rattle.org_serve.proofs.Crashes.{finishes_broken, finishes_settled, finishes_settling}
 use Rattle.org_serve.proofs.Joins.{Appends-none}
@@ -24,7 +24,7 @@ pub returns-in-Ok-clause-broken : goal.returns-in-Ok-clause-broken
 returns-in-Ok-clause-broken g c =
     let e = c.settle-answer.ensures in
     let sound : c.args.store.now.session.broken ≡ false = sym c.is_broken.ensures ∙ c.if-is_broken.false in
-    subst (λ end. EndsBroken end c.settle-answer.new.self.session) (sym c.end_of.ensures.value)
+    subst (λ end. EndSaysBroken end c.settle-answer.new.self.session) (sym c.end_of.ensures.value)
     (ends_broken c.settle-answer.result c.args.store.now.session c.settle-answer.new.self.session sound e.broken.behind.0 e.broken.behind.1 e.broken.before.0)
 
 pub returns-in-Err-clause-write : goal.returns-in-Err-clause-write

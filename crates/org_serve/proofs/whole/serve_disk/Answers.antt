@@ -24,16 +24,16 @@ returns-in-Ok-clause-served g c =
     let setup = c.args.setup in
     let opens = c.in-Ok.ensures.opened.session in
     let here = of_disk d setup c.args.disk store begun c.set_group.ensures opens in
-    let reopens = c.in-Ok.ensures.reopens in
+    let reopens = c.in-Ok.ensures.opens.reopens in
     serves_lasting d laws.only_now laws.counts_now setup c.args.disk store begun c.set_group.ensures opens
-    c.in-Ok.ensures.opened.set.few c.in-Ok.ensures.opened.set.sorted c.in-Ok.ensures.opened.set.sizes (here (λ k. d.honest k → d.honest c.args.disk) c.in-Ok.ensures.accounts.was_honest)
+    c.in-Ok.ensures.opened.set.few c.in-Ok.ensures.opened.set.sorted c.in-Ok.ensures.opened.set.sizes (here (λ k. d.honest k → d.honest c.args.disk) c.in-Ok.ensures.opens.accounts.was_honest)
     (here (λ k. d.honest k → IsReopened (d.files c.args.disk) (d.files k)) (λ honestly. (reopens honestly).done))
     c.in-Ok.ensures.opened.dirty_files
     (here (λ k. d.honest k → LeavesAlone d (IsUnconcerned (contents (d.files c.args.disk) journal_name)) c.args.disk k) (λ honestly. (reopens honestly).alone))
     c.serve-end.new.store c.into_disk.result c.into_disk.ensures c.serve-end.ensures.calls
     (λ honest. (c.serve-end.ensures.did (rw (← c.into_disk.ensures) honest)).0)
     (λ fit each. here (λ k. d.honest k → LeavesOver d c.args.disk k (RecoversAsBefore (d.files c.args.disk))) (λ honestly. (reopens honestly).any_moment fit each))
-    (breaks_by_count begun c.serve-end.new.store (here (λ k. Accounts d c.args.disk k ⊥) c.in-Ok.ensures.accounts) c.serve-end.ensures.accounts
+    (breaks_by_count begun c.serve-end.new.store (here (λ k. Accounts d c.args.disk k ⊥) c.in-Ok.ensures.opens.accounts) c.serve-end.ensures.accounts
     (is_sound d setup c.args.disk store begun c.set_group.ensures opens) c.into_disk.ensures)
 
 pub returns-in-Ok-clause-disk : goal.returns-in-Ok-clause-disk
@@ -47,7 +47,7 @@ returns-in-Ok-clause-disk g c honest =
     let here = of_disk d setup c.args.disk store begun c.set_group.ensures opens in
     let now : d.honest c.serve-end.new.store.disk = rw (← c.into_disk.ensures) honest in
     let then = here (λ k. d.honest k → d.honest store.disk) (λ h. h) (c.serve-end.ensures.accounts.was_honest now) in
-    let reopened = (c.in-Ok.ensures.reopens then).done in
+    let reopened = (c.in-Ok.ensures.opens.reopens then).done in
     let served = returns-in-Ok-clause-served g c in
     record {
       unopened = λ fit each. tt;
@@ -66,7 +66,7 @@ returns-in-Ok-clause-accounts g c =
     let begun = c.set_group.new.self in
     let opens = c.in-Ok.ensures.opened.session in
     let here = of_disk d setup c.args.disk c.in-Ok.store begun c.set_group.ensures opens in
-    let opened = here (λ k. Accounts d c.args.disk k ⊥) c.in-Ok.ensures.accounts in
+    let opened = here (λ k. Accounts d c.args.disk k ⊥) c.in-Ok.ensures.opens.accounts in
     let sound = is_sound d setup c.args.disk c.in-Ok.store begun c.set_group.ensures opens in
     served_accounts c.serve-end.result begun c.serve-end.new.store opened c.serve-end.ensures.accounts sound c.serve-end.ensures.broken c.into_disk.ensures
 
@@ -75,7 +75,7 @@ returns-in-Err-clause-disk g c honest =
     let d = g.D.Disk in
     let disk = c.args.disk in
     let now = c.in-Err.field-0.disk in
-    let reopens = c.in-Err.ensures.reopens honest in
+    let reopens = c.in-Err.ensures.opens.reopens honest in
     record {
       unopened = reopens.any_moment;
       unopened_bad = λ none. (refl, reopens.bad none);
@@ -106,10 +106,10 @@ pub returns-in-Err-clause-served : goal.returns-in-Err-clause-served
 returns-in-Err-clause-served g c = tt
 
 pub returns-in-Err-clause-refused : goal.returns-in-Err-clause-refused
-returns-in-Err-clause-refused g c = c.in-Err.ensures.refused.set
+returns-in-Err-clause-refused g c = c.in-Err.ensures.opens.refused
 
 pub returns-in-Err-clause-unserved : goal.returns-in-Err-clause-unserved
 returns-in-Err-clause-unserved g c = (refl, refl)
 
 pub returns-in-Err-clause-accounts : goal.returns-in-Err-clause-accounts
-returns-in-Err-clause-accounts g c = c.in-Err.ensures.accounts
+returns-in-Err-clause-accounts g c = c.in-Err.ensures.opens.accounts

@@ -7,7 +7,7 @@ use Rattle.org_fileset.specs.Names.{AreFew}
 use Rattle.org_fileset.specs.Opening.{IsReason, IsRefusedFor}
 use Rattle.org_store.proofs.Sortings.{few_or_many}
 use Rattle.org_serve.specs.Syncing.{AreSynced, IsNotStored, stored}
-use Rattle.org_serve.specs.Whole.{HasFailed}
+use Rattle.org_serve.specs.Whole.{SaysFailure}
 use Rattle.org_serve.specs.Writes.{pipes}
 use Rattle.org_serve.proofs.Counting.{ended_unserved}
 use Rattle.org_serve.proofs.Syncs.{ok_apart}
@@ -65,7 +65,7 @@ returns-in-Ok-clause-runs g c = record {
       let mid = c.sync_files.new.disk in
       let last = c.serve_disk.result.disk in
       let synced = c.in-Ok.ensures.accounts in
-      accounts_after synced (subst (λ (n : ℕ). Accounts d mid last (HasFailed c.serve_disk.result.end n (d.failures last))) (synced.equal ok_apart) c.serve_disk.ensures.accounts);
+      accounts_after synced (subst (λ (n : ℕ). Accounts d mid last (SaysFailure c.serve_disk.result.end n (d.failures last))) (synced.equal ok_apart) c.serve_disk.ensures.accounts);
 }
 
 pub returns-in-Err-clause-runs : goal.returns-in-Err-clause-runs

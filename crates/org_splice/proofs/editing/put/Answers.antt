@@ -18,15 +18,12 @@ returns-in_err-old_bytes-clause-ok c = not_ok _ _ c.from_residual.ensures.0
 pub returns-in_err-old_bytes-clause-err : goal.returns-in_err-old_bytes-clause-err
 returns-in_err-old_bytes-clause-err c = at_err _ _ refl
 
-pub returns-in_err-old_bytes-clause-before : goal.returns-in_err-old_bytes-clause-before
-returns-in_err-old_bytes-clause-before c = ap (λ (u : List Undo). undone_all u (text_of_parts c.args.text.now.items c.args.changed.now.items)) c.prepared.ensures.undos
-
-pub returns-in_err-old_bytes-clause-changed : goal.returns-in_err-old_bytes-clause-changed
-returns-in_err-old_bytes-clause-changed c = c.requires.changed
-
-pub returns-in_err-old_bytes-clause-can : goal.returns-in_err-old_bytes-clause-can
-returns-in_err-old_bytes-clause-can c =
-    subst (λ (u : List Undo). AreUndos (vec_capacity c.args.text.now) u (text_of_parts c.args.text.now.items c.args.changed.now.items)) (sym c.prepared.ensures.undos) c.requires.can
+pub returns-in_err-old_bytes-clause-back : goal.returns-in_err-old_bytes-clause-back
+returns-in_err-old_bytes-clause-back c = record {
+  before = ap (λ (u : List Undo). undone_all u (text_of_parts c.args.text.now.items c.args.changed.now.items)) c.prepared.ensures.undos;
+  changed = c.requires.changed;
+  can = subst (λ (u : List Undo). AreUndos (vec_capacity c.args.text.now) u (text_of_parts c.args.text.now.items c.args.changed.now.items)) (sym c.prepared.ensures.undos) c.requires.can;
+}
 
 -- what stands after a replacement that failed
 same_text : (bytes were : List ℕ) (ranges : List Span) → bytes ≡ were → text_of_parts bytes ranges ≡ text_of_parts were ranges
@@ -38,18 +35,15 @@ returns-in_err-replace-clause-ok c = not_ok _ _ c.from_residual-in_err-replace.e
 pub returns-in_err-replace-clause-err : goal.returns-in_err-replace-clause-err
 returns-in_err-replace-clause-err c = at_err _ _ (same_text c.replace.new.text.items c.args.text.now.items c.args.changed.now.items c.in_err-replace.ensures.err)
 
-pub returns-in_err-replace-clause-before : goal.returns-in_err-replace-clause-before
-returns-in_err-replace-clause-before c =
-    ap (λ (u : List Undo). undone_all u (text_of_parts c.replace.new.text.items c.args.changed.now.items)) c.prepared.ensures.undos ∙ ap (undone_all c.args.undos.now.items) (same_text c.replace.new.text.items c.args.text.now.items c.args.changed.now.items c.in_err-replace.ensures.err)
-
-pub returns-in_err-replace-clause-changed : goal.returns-in_err-replace-clause-changed
-returns-in_err-replace-clause-changed c = subst (λ (b : List ℕ). AreChanged (length b) c.args.changed.now.items) (sym c.in_err-replace.ensures.err) c.requires.changed
-
-pub returns-in_err-replace-clause-can : goal.returns-in_err-replace-clause-can
-returns-in_err-replace-clause-can c =
+pub returns-in_err-replace-clause-back : goal.returns-in_err-replace-clause-back
+returns-in_err-replace-clause-back c =
     let same : text_of_parts c.replace.new.text.items c.args.changed.now.items ≡ text_of_parts c.args.text.now.items c.args.changed.now.items = ap (λ (b : List ℕ). text_of_parts b c.args.changed.now.items) c.in_err-replace.ensures.err in
     let undos : c.prepared.new.undos.items ≡ c.args.undos.now.items = c.prepared.ensures.undos in
-    rw (same, undos) (AreUndos-wider (vec_capacity c.args.text.now) (vec_capacity c.replace.new.text) c.args.undos.now.items (text_of_parts c.args.text.now.items c.args.changed.now.items) c.replace.ensures.capacity c.requires.can)
+    record {
+      before = ap (λ (u : List Undo). undone_all u (text_of_parts c.replace.new.text.items c.args.changed.now.items)) c.prepared.ensures.undos ∙ ap (undone_all c.args.undos.now.items) (same_text c.replace.new.text.items c.args.text.now.items c.args.changed.now.items c.in_err-replace.ensures.err);
+      changed = subst (λ (b : List ℕ). AreChanged (length b) c.args.changed.now.items) (sym c.in_err-replace.ensures.err) c.requires.changed;
+      can = rw (same, undos) (AreUndos-wider (vec_capacity c.args.text.now) (vec_capacity c.replace.new.text) c.args.undos.now.items (text_of_parts c.args.text.now.items c.args.changed.now.items) c.replace.ensures.capacity c.requires.can);
+    }
 
 -- the text and its changed ranges behind it
 put_in : (c : goal.Else-is_err) → text_of_parts c.replace.new.text.items c.replace-old_changed.new.dest.items ≡ text_of_parts (edited c.args.at c.args.removed c.args.bytes.now c.args.text.now.items) c.args.new_changed.items
@@ -85,13 +79,12 @@ can_undo c =
     let room : length c.args.text.now.items ≤ vec_capacity c.replace.new.text = omega (arith, c.args.text.now.ok.0, c.args.text.now.ok.1, c.replace.ensures.capacity) in
     rw (same, pushed) (AreUndos-put (vec_capacity c.args.text.now) (vec_capacity c.replace.new.text) c.args.undos.now.items undo c.args.at c.args.removed c.args.bytes.now c.args.new_changed.items before c.requires.within room c.replace.ensures.capacity c.requires.changed (takes_back c) c.requires.can)
 
-pub returns-clause-before : goal.returns-clause-before
-returns-clause-before c = (can_undo c).1
-
-pub returns-clause-changed : goal.returns-clause-changed
-returns-clause-changed c =
+pub returns-clause-back : goal.returns-clause-back
+returns-clause-back c =
     let long = length-spliced c.args.at c.args.removed c.args.bytes.now c.args.text.now.items c.requires.within in
-    subst (λ (t : EditedText). AreChanged (length t.bytes) t.changed) (sym (put_in c)) (rw long c.requires.new)
-
-pub returns-clause-can : goal.returns-clause-can
-returns-clause-can c = (can_undo c).0
+    let undo = can_undo c in
+    record {
+      before = undo.1;
+      changed = subst (λ (t : EditedText). AreChanged (length t.bytes) t.changed) (sym (put_in c)) (rw long c.requires.new);
+      can = undo.0;
+    }

@@ -7,8 +7,8 @@ use Rattle.org_state.proofs.changing.todo.Goals as goal
 
 pub returns : goal.returns
 returns c =
-    todo_answers c.args.outline.now.states _ c.args.state.now c.args.now c.args.outline.now.text c.in_ok-node.node c.change.result
+    todo_answers c.args.outline.now.states _ c.args.state.now c.args.now c.args.outline.now.text c.in_ok-node.node c.edits.result
     (sym c.find.ensures.value ∙ c.in_ok-node.was)
     (ap (λ (k : Keywords). is_state k c.args.state.now) (sym c.states.ensures.value) ∙ sym c.is_state.ensures ∙ c.if-not-is_state.false)
     (ap (λ (w : List ℕ). bytes_eq w c.args.state.now) (sym c.parts.ensures.keyword) ∙ sym c.if-eq.ensures)
-    c.change.ensures
+    c.edits.ensures

@@ -19,14 +19,11 @@ guessed c =
 pub returns-in-Some-clause-place : goal.returns-in-Some-clause-place
 returns-in-Some-clause-place c =
     let es = c.args.held.now.entries in
-    sym (first_place (keys_of es) c.args.guess c.args.name.now c.as_slice.ensures.unique (at_place es c.args.guess c.args.name.now c.in-Some.field-0-1.now (guessed c)).0)
-
-pub returns-in-Some-clause-found : goal.returns-in-Some-clause-found
-returns-in-Some-clause-found c =
-    ap is_some (sym (lookup_from_place nat_list_eq_equiv c.args.held.now.entries c.args.guess c.args.name.now c.in-Some.field-0-1.now c.as_slice.ensures.unique (guessed c)))
-
-pub returns-in-Some-clause-value : goal.returns-in-Some-clause-value
-returns-in-Some-clause-value c =
-    let es = c.args.held.now.entries in
     let held : HeldText = c.in-Some.field-0-1.now in
-    (at_place es c.args.guess c.args.name.now held (guessed c)).1 ∙ sym (lookup_from_place nat_list_eq_equiv es c.args.guess c.args.name.now held c.as_slice.ensures.unique (guessed c))
+    let is = sym (lookup_from_place nat_list_eq_equiv es c.args.guess c.args.name.now held c.as_slice.ensures.unique (guessed c)) in
+    let there = at_place es c.args.guess c.args.name.now held (guessed c) in
+    record {
+      named = sym (first_place (keys_of es) c.args.guess c.args.name.now c.as_slice.ensures.unique there.0);
+      found = ap is_some is;
+      value = there.1 ∙ is;
+    }

@@ -1,14 +1,14 @@
-use Rattle.std.proofs.Common.{◌≡◌, ◌∙◌, ◌∷◌, [], List, ℕ, slice_get, Some, Err, sym, ap, subst}
+use Rattle.std.proofs.Common.{◌≡◌, ◌∙◌, ◌∷◌, [], List, ℕ, Err, sym, ap, subst}
 use Rattle.org_journal.specs.Recovered.{Image, contents}
 use Rattle.org_outline.specs.Tree.{tree}
-use Rattle.org_state.specs.Clock.{running_in}
-use Rattle.org_state.specs.Searched.{IsSearched}
-use Rattle.org_commands.specs.Clockless.{IsKnown}
+use Rattle.org_splice.specs.Searched.{IsSearched}
+use Rattle.org_state.specs.Clock.{has_clock, running_in}
+use Rattle.org_commands.specs.Noted.{AreSearched}
 use Rattle.org_commands.specs.Clocks.{RunsIn}
 use Rattle.org_commands.specs.Files.{AreReady}
 use Rattle.org_commands.specs.Session.{StoreView, session_over}
 use Rattle.org_commands.proofs.Acting.{view_same}
-use Rattle.org_commands.proofs.Clockless.{known_ready}
+use Rattle.org_commands.proofs.Noted.{ends_ready, known_ready}
 use Rattle.org_commands.proofs.Held.{keeps_same, none_ready}
 use Rattle.org_commands.proofs.Plans.{is_ready, one_name}
 use Rattle.org_commands.proofs.Running.{runs_ready}
@@ -31,18 +31,37 @@ held-requires g c =
     let ready : AreReady (file ∷ []) held = c.in_ok-ready.ensures.ready [] (none_ready c.args.files.now.held c.requires.between.unedited) in
     is_ready (file ∷ []) held file ready (one_name file)
 
-pub note-requires-clause-known : goal.note-requires-clause-known
-note-requires-clause-known g c name there =
+pub note-requires-clause-before : goal.note-requires-clause-before
+note-requires-clause-before g c =
     let held = c.ready.new.self.held in
     let file = c.args.file.now in
     let seen = c.held.result.now.text in
-    let searched = c.search-found.result.1 in
     let ready : AreReady (file ∷ []) held = c.in_ok-ready.ensures.ready [] (none_ready c.args.files.now.held c.requires.between.unedited) in
-    let known : IsSearched searched seen.bytes = subst (IsSearched searched) c.outline_of.ensures.0 c.search-found.ensures.searched in
-    let both : Some file ≡ Some name = sym c.requires.index ∙ ap (λ (ns : List (List ℕ)). slice_get ns c.args.index) (sym (c.undo.ensures.memory.names ∙ c.ready.ensures.disk.names)) ∙ there in
-    let one : file ≡ name = cc in
-    subst (λ (n : List ℕ). IsKnown searched c.undo.new.self.held.before n) one
-    (known_ready held c.undo.new.self.held.before file seen searched ready c.held.ensures.text c.undo.ensures.before known)
+    let ended = ends_ready (file ∷ []) held file ready (one_name file) seen c.held.ensures.text in
+    let was = subst (AreSearched c.searched-before.result) ended (c.searched-before.ensures seen c.held.ensures.text) in
+    let clocks = subst (IsSearched has_clock c.search-found.result.1) c.outline_of.ensures.0 c.search-found.ensures.searched in
+    known_ready held c.undo.new.self.held.before file seen (record { clocks = c.search-found.result.1; archive_lines = c.searched-before.result.archive_lines }) ready c.held.ensures.text c.undo.ensures.before (record { clocks = clocks; archive_lines = was.archive_lines })
+
+pub note-requires-clause-now : goal.note-requires-clause-now
+note-requires-clause-now g c =
+    let held = c.ready.new.self.held in
+    let file = c.args.file.now in
+    let seen = c.held.result.now.text in
+    let ready : AreReady (file ∷ []) held = c.in_ok-ready.ensures.ready [] (none_ready c.args.files.now.held c.requires.between.unedited) in
+    let ended = ends_ready (file ∷ []) held file ready (one_name file) seen c.held.ensures.text in
+    let was = subst (AreSearched c.searched-before.result) ended (c.searched-before.ensures seen c.held.ensures.text) in
+    let clocks = subst (IsSearched has_clock c.search-found.result.1) c.outline_of.ensures.0 c.search-found.ensures.searched in
+    known_ready held c.undo.new.self.held.now file seen (record { clocks = c.search-found.result.1; archive_lines = c.searched-before.result.archive_lines }) ready c.held.ensures.text c.undo.ensures.now (record { clocks = clocks; archive_lines = was.archive_lines })
+
+pub search-found-requires : goal.search-found-requires
+search-found-requires g c =
+    let held = c.ready.new.self.held in
+    let file = c.args.file.now in
+    let seen = c.held.result.now.text in
+    let ready : AreReady (file ∷ []) held = c.in_ok-ready.ensures.ready [] (none_ready c.args.files.now.held c.requires.between.unedited) in
+    let ended = ends_ready (file ∷ []) held file ready (one_name file) seen c.held.ensures.text in
+    let was = subst (AreSearched c.searched-before.result) ended (c.searched-before.ensures seen c.held.ensures.text) in
+    subst (IsSearched has_clock c.searched-before.result.clocks) (sym c.outline_of.ensures.0) was.clocks
 
 pub returns-clause-runs : goal.returns-clause-runs
 returns-clause-runs g c =

@@ -13,7 +13,6 @@ use Rattle.org_commands.specs.InOrder.{texts_of}
 use Rattle.org_commands.specs.Left.{IsLeft, IsLeftAlone}
 use Rattle.org_commands.specs.Outcome.{Accepts}
 use Rattle.org_commands.specs.Executing.{view_of}
-use Rattle.org_commands.specs.Session.{view_over}
 use Rattle.org_commands.specs.Step.{fills}
 use Rattle.org_commands.proofs.Faults.{accounts_as, accounts_memory, fine_is_no_fault, whole_behind}
 use Rattle.org_commands.proofs.Leaving.{leaves_unwritten}

@@ -5,7 +5,7 @@ use Rattle.org_commands.specs.Files.{AreSmallToWrite, CommitsTexts}
 use Rattle.org_commands.specs.InOrder.{texts_of}
 use Rattle.org_commands.proofs.Commits.{commit_done, commit_failed, made_held, pairs_edits, pairs_named, pairs_small, sound_settled, starved, texts_settled_are}
 use Rattle.org_commands.proofs.Held.{sound_still}
-use Rattle.org_commands.proofs.Clockless.{noted_settled, noted_still}
+use Rattle.org_commands.proofs.Noted.{noted_settled, noted_still}
 use Rattle.org_commands.proofs.Handing.{handed_on}
 use Rattle.org_commands.proofs.files.Files.commit.Goals as goal
 

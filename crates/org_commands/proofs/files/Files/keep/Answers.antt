@@ -2,7 +2,7 @@ use Rattle.std.proofs.Common.{◌≡◌, false}
 use Rattle.org_journal.specs.Recovered.{contents}
 use Rattle.org_commands.specs.Files.{AreSmallToWrite}
 use Rattle.org_commands.proofs.Held.{sound_kept}
-use Rattle.org_commands.proofs.Clockless.{noted_kept}
+use Rattle.org_commands.proofs.Noted.{noted_kept}
 use Rattle.org_commands.proofs.files.Files.keep.Goals as goal
 
 pub invariant_of-self : goal.invariant_of-self

@@ -6,27 +6,27 @@ use Rattle.org_journal.specs.Recovered.{Image, contents}
 use Rattle.org_fileset.specs.declared.fault.SetFault.{SetFault}
 use Rattle.org_fileset.specs.declared.fault.SetFault.TheVariants as set
 use Rattle.org_outline.specs.States.{Keywords}
-use Rattle.org_state.specs.declared.searched.Searched.{Searched}
 use Rattle.org_splice.specs.Texts.{EditedText}
 use Rattle.org_texts.specs.Texts.{Holding, TextSet, held_over, text_of, with_text}
 use Rattle.org_commands.specs.declared.command.RunFault.{RunFault}
 use Rattle.org_commands.specs.declared.command.RunFault.TheVariants.{OutOfMemory, Device, Broken}
 use Rattle.org_commands.specs.declared.tally.Tally.{Tally}
+use Rattle.org_commands.specs.declared.searches.Searches.{Searches}
 use Rattle.org_commands.specs.Files.{IsSound, OpenFiles}
 use Rattle.org_commands.specs.InOrder.{is_name}
 use Rattle.org_commands.specs.Keeping.{Reads, fault_of_set}
-use Rattle.org_commands.specs.Clockless.{IsNoted}
+use Rattle.org_commands.specs.Noted.{IsNoted}
 use Rattle.org_commands.specs.Session.{session_over}
 use Rattle.org_commands.proofs.Faults.{fine_is_no_fault}
 use Rattle.org_commands.proofs.Held.{held_this, keeps_held, none_found, over_held, ready_held, sound_held, sound_still}
-use Rattle.org_commands.proofs.Clockless.{noted_held, noted_still}
+use Rattle.org_commands.proofs.Noted.{noted_held, noted_still}
 use Rattle.org_commands.proofs.Reading.{only_reads_none, only_reads_set, set_back, set_on, set_works}
 use Rattle.org_commands.proofs.Sessions.{session_failed, session_still}
 use Rattle.org_commands.proofs.Handing.{handed_on}
 use Rattle.org_commands.proofs.files.Files.load.Goals as goal
 
 -- what is held is still sound and noted where the set read a file
-still_held : (names more : List (List ℕ)) (live now : Type 0) (old new : Image) (notes : List Searched) (held : Holding) → IsSound names live old held × IsNoted names notes held → more ≡ names → (now → live × (new ≡ old))
+still_held : (names more : List (List ℕ)) (live now : Type 0) (old new : Image) (notes : List (Option Searches)) (held : Holding) → IsSound names live old held × IsNoted names notes held → more ≡ names → (now → live × (new ≡ old))
     → IsSound more now new held × IsNoted more notes held
 still_held names more live now old new notes held was same alike = (sound_still names more live now old new held was.0 same alike, noted_still names more notes held same was.1)
 

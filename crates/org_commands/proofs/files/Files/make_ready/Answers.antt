@@ -3,7 +3,7 @@ use Rattle.std.specs.Option.{IsSome}
 use Rattle.org_journal.specs.Recovered.{contents}
 use Rattle.org_texts.specs.Texts.{text_of}
 use Rattle.org_commands.proofs.Held.{ready_made, sound_made_ready}
-use Rattle.org_commands.proofs.Clockless.{noted_made_ready}
+use Rattle.org_commands.proofs.Noted.{noted_made_ready}
 use Rattle.org_commands.proofs.files.Files.make_ready.Goals as goal
 
 pub invariant_of-self : goal.invariant_of-self

@@ -1,17 +1,14 @@
 use Rattle.std.proofs.Common.{ap, rules}
 use Rattle.org_texts.specs.Texts.{Holding}
-use Rattle.org_commands.proofs.Clockless.{nothing_noted}
+use Rattle.org_fileset.proofs.Openings.{opened_as, refused_as}
+use Rattle.org_commands.proofs.Noted.{nothing_noted}
 use Rattle.org_commands.proofs.files.Files.open.Goals as goal
 
-pub returns-in-Ok-clause-reopens : goal.returns-in-Ok-clause-reopens
-returns-in-Ok-clause-reopens g c ended =
-    let made = c.in-Ok.ensures.reopens ended in
-    record { done = made.done; any_moment = made.any_moment; recoverable = made.recoverable; bad = made.bad; idle = made.idle; alone = made.alone }
+pub returns-in-Ok-clause-opens : goal.returns-in-Ok-clause-opens
+returns-in-Ok-clause-opens g c = opened_as c.in-Ok.ensures.opens
 
-pub returns-in-Err-clause-reopens : goal.returns-in-Err-clause-reopens
-returns-in-Err-clause-reopens g c ended =
-    let made = c.in-Err.ensures.reopens ended in
-    record { done = tt; any_moment = made.any_moment; recoverable = made.recoverable; bad = made.bad; idle = made.idle; alone = made.alone }
+pub returns-in-Err-clause-opens : goal.returns-in-Err-clause-opens
+returns-in-Err-clause-opens g c = refused_as c.in-Err.ensures.opens
 
 pub returns-in-Ok-clause-opened : goal.returns-in-Ok-clause-opened
 returns-in-Ok-clause-opened g c =

@@ -9,7 +9,7 @@ use Rattle.org_commands.specs.declared.command.Refusal.TheVariants.{TooLarge}
 use Rattle.org_commands.specs.Files.{AreReady, AreSmallToWrite, OpenFiles, PutsPlan, files_of, has_large, new_texts, texts_in}
 use Rattle.org_commands.proofs.Held.{first_held, second_held, small_put, sound_put, sound_undone}
 use Rattle.org_commands.proofs.Handing.{handed_on}
-use Rattle.org_commands.proofs.Clockless.{noted_not_put, noted_put, noted_undone}
+use Rattle.org_commands.proofs.Noted.{noted_not_put, noted_put, noted_undone}
 use Rattle.org_commands.proofs.files.Files.put.Goals as goal
 
 pub is_large-requires-clause-first : goal.is_large-requires-clause-first

@@ -1,7 +1,7 @@
 use Rattle.std.proofs.Common.{◌≡◌, false}
 use Rattle.org_journal.specs.Recovered.{contents}
 use Rattle.org_commands.proofs.Held.{sound_undone}
-use Rattle.org_commands.proofs.Clockless.{noted_undone}
+use Rattle.org_commands.proofs.Noted.{noted_undone}
 use Rattle.org_commands.proofs.files.Files.undo.Goals as goal
 
 pub invariant_of-self : goal.invariant_of-self

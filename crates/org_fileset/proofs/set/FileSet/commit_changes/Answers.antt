@@ -64,13 +64,13 @@ returns-in-Ok g c = record {
       let entries = c.in_ok-entries_of.field-0.items in
       let files = contents (d.files disk) in
       let made : CommitsOver {A = Unit {0}} {E = DiskFault} d (replayed entries files) (IsUnwritten entries) disk after (Ok tt) =
-      subst (λ (l : List Entry). CommitsOver {A = Unit {0}} {E = DiskFault} d (replayed l files) (IsUnwritten l) disk after (Ok tt)) (c.entries.ensures ∙ c.new-record.ensures) (c.in-Ok.ensures.commits ended) in
+      subst (λ (l : List Entry). CommitsOver {A = Unit {0}} {E = DiskFault} d (replayed l files) (IsUnwritten l) disk after (Ok tt)) (c.as_slice.ensures ∙ c.new-record.ensures) (c.in-Ok.ensures.commits ended) in
       commits_changes d (g.C.Changes.pairs c.args.changes.now) entries disk after (Ok tt) (Ok tt) c.requires.some c.in_ok-entries_of.ensures.entries
       (all_edits files (g.C.Changes.pairs c.args.changes.now) (edits honest)) made made.done);
   record_stands =
       λ ended. let journal = contents (g.D.Disk.files c.commit_entries.new.disk) journal_name in
       has_record (g.C.Changes.pairs c.args.changes.now) c.in_ok-entries_of.field-0.items journal c.in_ok-entries_of.ensures.entries
-      (c.in-Ok.ensures.record ended ∙ ap (λ (l : List Entry). let o : Option (List Entry) = Some l in o) (c.entries.ensures ∙ c.new-record.ensures));
+      (c.in-Ok.ensures.record ended ∙ ap (λ (l : List Entry). let o : Option (List Entry) = Some l in o) (c.as_slice.ensures ∙ c.new-record.ensures));
   memory = λ e. absurd (ok_apart e);
   set =
       let whole = rw (← c.self.view_is) at c.requires.whole in
@@ -90,7 +90,7 @@ returns g c = record {
       let entries = c.in_ok-entries_of.field-0.items in
       let files = contents (d.files disk) in
       let made : CommitsOver {A = Unit {0}} {E = DiskFault} d (replayed entries files) (IsUnwritten entries) disk after c.commit_entries.result =
-      subst (λ (l : List Entry). CommitsOver {A = Unit {0}} {E = DiskFault} d (replayed l files) (IsUnwritten l) disk after c.commit_entries.result) (c.entries.ensures ∙ c.new-record.ensures) (c.commit_entries.ensures.commits ended) in
+      subst (λ (l : List Entry). CommitsOver {A = Unit {0}} {E = DiskFault} d (replayed l files) (IsUnwritten l) disk after c.commit_entries.result) (c.as_slice.ensures ∙ c.new-record.ensures) (c.commit_entries.ensures.commits ended) in
       commits_changes d (g.C.Changes.pairs c.args.changes.now) entries disk after c.commit_entries.result (Err Device) c.requires.some c.in_ok-entries_of.ensures.entries
       (all_edits files (g.C.Changes.pairs c.args.changes.now) (edits honest)) made tt);
   record_stands = λ honest. tt;
@@ -111,7 +111,7 @@ encode-requires g c =
 pub commit_entries-requires-clause-applicable : goal.commit_entries-requires-clause-applicable
 commit_entries-requires-clause-applicable g c honest =
     let named = rw (← c.self.view_is) at c.requires.can.named in
-    subst AreApplicable (sym (c.entries.ensures ∙ c.new-record.ensures))
+    subst AreApplicable (sym (c.as_slice.ensures ∙ c.new-record.ensures))
     (changes_applicable (g.C.Changes.pairs c.args.changes.now) c.in_ok-entries_of.field-0.items c.in_ok-entries_of.ensures.entries c.in_ok-entries_of.ensures.distinct
     (committable c.self.inside.names.items (g.C.Changes.pairs c.args.changes.now) c.self.invariant.each named c.requires.can.small))
 
@@ -119,7 +119,7 @@ pub commit_entries-requires-clause-fits : goal.commit_entries-requires-clause-fi
 commit_entries-requires-clause-fits g c honest =
     let edits = (rw (← c.self.view_is) at c.requires.can.edits) (rw (← c.self.view_is) at c.requires.whole) in
     let files = contents (g.D.Disk.files c.self.inside.disk) in
-    subst (λ (l : List Entry). IsTrue (all_fit l files)) (sym (c.entries.ensures ∙ c.new-record.ensures))
+    subst (λ (l : List Entry). IsTrue (all_fit l files)) (sym (c.as_slice.ensures ∙ c.new-record.ensures))
     (changes_fit (g.C.Changes.pairs c.args.changes.now) c.in_ok-entries_of.field-0.items files c.in_ok-entries_of.ensures.entries (all_edits files (g.C.Changes.pairs c.args.changes.now) (edits honest)))
 
 pub commit_entries-requires-clause-journal : goal.commit_entries-requires-clause-journal

@@ -15,30 +15,6 @@ use Rattle.org_fileset.proofs.Starting.{since_start}
 use Rattle.org_fileset.proofs.Recovering.{as_before}
 use Rattle.org_fileset.proofs.set.FileSet.open.Goals as goal
 
-pub returns-in-Err-clause-reopens : goal.returns-in-Err-clause-reopens
-returns-in-Err-clause-reopens g c honest =
-    let old = g.D.Disk.files c.args.disk in
-    let same = since_start (passes_none (g.D.Disk.instant c.args.disk) (g.D.Disk.left_since c.args.disk) (AreImages old)) old (g.met.D.Disk.only_now c.args.disk) honest (λ image left. left) in
-    record {
-      done = tt;
-      any_moment = λ fit each. since_start (passes_none (g.D.Disk.instant c.args.disk) (g.D.Disk.left_since c.args.disk) (RecoversAsBefore old))
-          old (g.met.D.Disk.only_now c.args.disk) honest (as_before old each);
-      recoverable = λ fit each. fit;
-      bad = λ none. same;
-      idle = λ closed. same;
-      alone = alone_none g.D.Disk (IsUnconcerned (contents old journal_name)) c.args.disk;
-    }
-
-pub returns-in-Ok-make_ready-clause-reopens : goal.returns-in-Ok-make_ready-clause-reopens
-returns-in-Ok-make_ready-clause-reopens g c ended =
-    let made = c.in-Ok-make_ready.ensures.reopens ended in
-    record { done = made.done; any_moment = made.any_moment; recoverable = made.recoverable; bad = made.bad; idle = made.idle; alone = made.alone }
-
-pub returns-in-Err-make_ready-clause-reopens : goal.returns-in-Err-make_ready-clause-reopens
-returns-in-Err-make_ready-clause-reopens g c ended =
-    let made = c.in-Err-make_ready.ensures.reopens ended in
-    record { done = tt; any_moment = made.any_moment; recoverable = made.recoverable; bad = made.bad; idle = made.idle; alone = made.alone }
-
 pub returns-in-Err-clause-opened : goal.returns-in-Err-clause-opened
 returns-in-Err-clause-opened g c = tt
 
@@ -48,25 +24,44 @@ returns-in-Err-make_ready-clause-opened g c = tt
 pub returns-in-Ok-make_ready-clause-opened : goal.returns-in-Ok-make_ready-clause-opened
 returns-in-Ok-make_ready-clause-opened g c = (refl, record { few = c.in-Ok.ensures.names.0; sorted = c.in-Ok.ensures.names.1; sizes = rw (← c.deref.ensures.value) c.in-Ok-make_ready.ensures.answer })
 
-pub returns-in-Ok-make_ready-clause-refused : goal.returns-in-Ok-make_ready-clause-refused
-returns-in-Ok-make_ready-clause-refused g c = tt
+-- too many names, or no memory for theirs: the disk is as it was
+pub returns-in-Err-clause-opens : goal.returns-in-Err-clause-opens
+returns-in-Err-clause-opens g c =
+    let d = g.D.Disk in
+    let disk = c.args.disk in
+    let old = d.files disk in
+    record {
+      reopens = λ honest.
+          let same = since_start (passes_none (d.instant disk) (d.left_since disk) (AreImages old)) old (g.met.D.Disk.only_now disk) honest (λ image left. left) in
+          record {
+            done = tt;
+            any_moment = λ fit each. since_start (passes_none (d.instant disk) (d.left_since disk) (RecoversAsBefore old)) old (g.met.D.Disk.only_now disk) honest (as_before old each);
+            recoverable = λ fit each. fit;
+            bad = λ none. same;
+            idle = λ closed. same;
+            alone = alone_none d (IsUnconcerned (contents old journal_name)) disk;
+          };
+      refused = record { reason = names_reason c.args.names.items (d.honest disk) (contents old) (contents old) c.in-Err.fault c.in-Err.ensures.refused; unused = λ is. refl };
+      accounts = accounts_quiet (names_apart _ c.in-Err.fault c.in-Err.ensures.refused) (accounts_none _ _);
+    }
 
-pub returns-in-Err-clause-refused : goal.returns-in-Err-clause-refused
-returns-in-Err-clause-refused g c =
-    let files = contents (g.D.Disk.files c.args.disk) in
-    record { reason = names_reason c.args.names.items (g.D.Disk.honest c.args.disk) files files c.in-Err.fault c.in-Err.ensures.refused; unused = λ is. refl }
+pub returns-in-Err-make_ready-clause-opens : goal.returns-in-Err-make_ready-clause-opens
+returns-in-Err-make_ready-clause-opens g c = record {
+  reopens = λ ended.
+      let made = c.in-Err-make_ready.ensures.reopens ended in
+      record { done = tt; any_moment = made.any_moment; recoverable = made.recoverable; bad = made.bad; idle = made.idle; alone = made.alone };
+  refused = record { reason = search rules; unused = λ is. absurd (c.in-Err-make_ready.ensures.not_too_many (ap (λ e. Err e) is)) };
+  accounts = accounts_fault c.in-Err-make_ready.ensures.accounts;
+}
 
-pub returns-in-Err-make_ready-clause-refused : goal.returns-in-Err-make_ready-clause-refused
-returns-in-Err-make_ready-clause-refused g c = record { reason = search rules; unused = λ is. absurd (c.in-Err-make_ready.ensures.not_too_many (ap (λ e. Err e) is)) }
-
-pub returns-in-Err-clause-accounts : goal.returns-in-Err-clause-accounts
-returns-in-Err-clause-accounts g c = accounts_quiet (names_apart _ c.in-Err.fault c.in-Err.ensures.refused) (accounts_none _ _)
-
-pub returns-in-Err-make_ready-clause-accounts : goal.returns-in-Err-make_ready-clause-accounts
-returns-in-Err-make_ready-clause-accounts g c = accounts_fault c.in-Err-make_ready.ensures.accounts
-
-pub returns-in-Ok-make_ready-clause-accounts : goal.returns-in-Ok-make_ready-clause-accounts
-returns-in-Ok-make_ready-clause-accounts g c = accounts_fine ok_apart c.in-Ok-make_ready.ensures.accounts
+pub returns-in-Ok-make_ready-clause-opens : goal.returns-in-Ok-make_ready-clause-opens
+returns-in-Ok-make_ready-clause-opens g c = record {
+  reopens = λ ended.
+      let made = c.in-Ok-make_ready.ensures.reopens ended in
+      record { done = made.done; any_moment = made.any_moment; recoverable = made.recoverable; bad = made.bad; idle = made.idle; alone = made.alone };
+  refused = tt;
+  accounts = accounts_fine ok_apart c.in-Ok-make_ready.ensures.accounts;
+}
 
 pub invariant_of-result : goal.invariant_of-result
 invariant_of-result g c =

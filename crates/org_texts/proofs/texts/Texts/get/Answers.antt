@@ -9,10 +9,10 @@ use Rattle.org_texts.proofs.Looking.{not_there}
 use Rattle.org_texts.proofs.texts.Texts.get.Goals as goal
 
 held : (c : goal.After-index) → Some c.index.result.now ≡ lookup (bytes_eq c.args.name.now) c.self.inside.held.entries
-held c = sym c.index.ensures ∙ c.in-Some.ensures.value
+held c = sym c.index.ensures ∙ c.in-Some.ensures.place.value
 
 not_held : (c : goal.In-None) → None ≡ lookup (bytes_eq c.args.name.now) c.self.inside.held.entries
-not_held c = sym (not_there (lookup (bytes_eq c.args.name.now) c.self.inside.held.entries) (sym c.in-None.ensures.found))
+not_held c = sym (not_there (lookup (bytes_eq c.args.name.now) c.self.inside.held.entries) (sym c.in-None.ensures.place.found))
 
 pub returns-in-Some-clause-text : goal.returns-in-Some-clause-text
 returns-in-Some-clause-text c =

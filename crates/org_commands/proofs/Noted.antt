@@ -1,0 +1,380 @@
+-- What is noted of a store's files stays true of their texts.
+use Rattle.std.proofs.Common.{◌≡◌, ◌≢◌, ◌⊎◌, inl, inr, ℕ, zero, suc, ◌+◌, ◌<◌, ◌≤◌, true, false, List, [], ◌∷◌, length, drop, get_or, slice_get, Option, Some, None, refl, sym, ◌∙◌, ap, subst, below_more, arith}
+use Rattle.std.proofs.Math.ListN.{set}
+use Rattle.std.proofs.lemmas.Option.{slice_get_within}
+use Rattle.std.specs.Prelude.{OnErr, OnOk, Result, Ok, Err}
+use Rattle.std.specs.Option.{ForSome, IsSome, option_map}
+use Rattle.std.proofs.lemmas.Bool.{false≢true}
+use Rattle.std.specs.Prelude.{IsSomeAnd}
+use Rattle.std.specs.Str.{bytes_eq}
+use Rattle.org_disk.proofs.Names.{name_cases}
+use Rattle.org_splice.specs.declared.edit.Edit.{Edit}
+use Rattle.org_splice.specs.Edits.{CanApply, applied, applied_each}
+use Rattle.org_splice.specs.Lines.{terminated}
+use Rattle.org_splice.specs.Texts.{EditedText, terminated_text, settled, spliced_each}
+use Rattle.org_splice.proofs.Lines.{terminated_twice}
+use Rattle.org_outline.specs.Tree.{tree}
+use Rattle.org_outline.proofs.Trees.{tree-terminated}
+use Rattle.org_splice.specs.declared.searched.Searched.{Searched}
+use Rattle.org_splice.specs.declared.searched.Searched.TheVariants.{Nowhere}
+use Rattle.org_splice.specs.Searched.{IsSearched}
+use Rattle.org_state.specs.Clock.{has_clock, running_in}
+use Rattle.org_state.proofs.Known.{no_clock}
+use Rattle.org_texts.specs.declared.plan.FileEdits.{FileEdits}
+use Rattle.org_texts.specs.declared.plan.Plan.{Plan}
+use Rattle.org_texts.specs.Plan.{CanEdit, IsPlan, planned, with_edits, with_second}
+use Rattle.org_texts.specs.Texts.{Holding, TextSet, bytes_or, terminated_in, settled_set, text_of, with_text}
+use Rattle.org_texts.proofs.Heads.{terminated_text-bytes}
+use Rattle.org_texts.proofs.Looking.{change_other, change_this, text_of-settled}
+use Rattle.org_commands.specs.Clocks.{RunsIn}
+use Rattle.org_commands.specs.Files.{AreReady, files_of, second_file}
+use Rattle.org_commands.specs.InOrder.{is_name}
+use Rattle.org_commands.specs.declared.searches.Searches.{Searches}
+use Rattle.org_move.specs.Location.{has_archive_line}
+use Rattle.org_commands.specs.Noted.{AreKnown, AreSearched, FollowsEdits, IsKnown, IsNoted, Lowers, LowersNote, StaysKnown}
+use Rattle.org_commands.proofs.Held.{held_other}
+use Rattle.org_commands.proofs.Plans.{first_name, now_held, one_name, ready_text, second_name}
+
+-- ---- one text
+
+-- a text that is the same
+same_text : (old new : TextSet) (name : List ℕ) (searched : Searches) → text_of new name ≡ text_of old name → IsKnown searched old name → IsKnown searched new name
+same_text old new name searched same known = (known.0, same ∙ known.1, known.2)
+
+-- another text is held
+known_held : (own bytes : List ℕ) (set : TextSet) (name : List ℕ) (searched : Searches) → text_of set own ≡ None → IsKnown searched set name → IsKnown searched (with_text own bytes set) name
+known_held own bytes set name searched none known = elim (name_cases own name) [
+  | inl is ↦
+      let no : Some known.0 ≡ None = sym known.1 ∙ ap (text_of set) (sym is.0) ∙ none in
+      absurd (cc)
+  | inr apart ↦ same_text set (with_text own bytes set) name searched (held_other own bytes set name apart.0) known
+]
+
+-- a text is terminated
+known_terminated : (own : List ℕ) (set : TextSet) (name : List ℕ) (searched : Searches) → IsKnown searched set name → IsKnown searched (terminated_in own set) name
+known_terminated own set name searched known = elim (name_cases own name) [
+  | inl is ↦
+      let here : text_of set own ≡ Some known.0 = ap (text_of set) is.0 ∙ known.1 in
+      let bytes : terminated known.0.bytes ≡ terminated (terminated_text known.0).bytes = sym (ap terminated (terminated_text-bytes known.0) ∙ terminated_twice known.0.bytes) in
+      subst (λ (n : List ℕ). IsKnown searched (terminated_in own set) n) is.0 (
+        terminated_text known.0,
+        change_this own terminated_text set.texts ∙ ap (option_map terminated_text) here,
+        subst (AreSearched searched) bytes known.2,
+      )
+  | inr apart ↦ same_text set (terminated_in own set) name searched (change_other own name terminated_text set.texts apart.0) known
+]
+
+-- the texts are on the disk
+known_settled : (set : TextSet) (name : List ℕ) (searched : Searches) → IsKnown searched set name → IsKnown searched (settled_set set) name
+known_settled set name searched known =
+    (settled known.0.bytes, text_of-settled set name ∙ ap (option_map (λ (t : EditedText). settled t.bytes)) known.1, known.2)
+
+-- no clock runs in a text of which that is known
+pub clockless_known : (searched : Searches) (set : TextSet) (name : List ℕ) → searched.clocks ≡ Nowhere → IsKnown searched set name → RunsIn set name None
+clockless_known searched set name is known =
+    let none : running_in (tree (terminated known.0.bytes)) ≡ None =
+    no_clock (terminated known.0.bytes) (subst (λ (s : Searched). IsSearched has_clock s (terminated known.0.bytes)) is known.2.clocks) in
+    (known.0, known.1, ap running_in (sym (tree-terminated known.0.bytes)) ∙ none)
+
+-- ---- the notes
+
+known_still : (names : List (List ℕ)) (notes : List (Option Searches)) (old new : TextSet) → ((name : List ℕ) (searched : Searches) → IsKnown searched old name → IsKnown searched new name) → AreKnown names notes old → AreKnown names notes new
+known_still names notes old new still are i searched at name is = still name searched (are i searched at name is)
+
+pub noted_still : (names more : List (List ℕ)) (notes : List (Option Searches)) (held : Holding) → more ≡ names → IsNoted names notes held → IsNoted more notes held
+noted_still names more notes held same noted = subst (λ (ns : List (List ℕ)). IsNoted ns notes held) (sym same) noted
+
+pub noted_held : (own bytes : List ℕ) (names : List (List ℕ)) (notes : List (Option Searches)) (held next : Holding) → text_of held.now own ≡ None → text_of held.before own ≡ None → next.now ≡ with_text own bytes held.now
+    → next.before ≡ with_text own bytes held.before → IsNoted names notes held → IsNoted names notes next
+noted_held own bytes names notes held next none none_before now before noted = record {
+  now = subst (AreKnown names notes) (sym now) (known_still names notes held.now (with_text own bytes held.now) (λ name searched known. known_held own bytes held.now name searched none known) noted.now);
+  before = subst (AreKnown names notes) (sym before) (known_still names notes held.before (with_text own bytes held.before) (λ name searched known. known_held own bytes held.before name searched none_before known) noted.before);
+}
+
+-- the edits of a command, taken back or kept
+pub noted_undone : (names : List (List ℕ)) (notes : List (Option Searches)) (held next : Holding) → next.now ≡ held.before → next.before ≡ held.before → IsNoted names notes held → IsNoted names notes next
+noted_undone names notes held next now before noted = record {
+  now = subst (AreKnown names notes) (sym now) noted.before;
+  before = subst (AreKnown names notes) (sym before) noted.before;
+}
+
+pub noted_kept : (names : List (List ℕ)) (notes : List (Option Searches)) (held next : Holding) → next.now ≡ held.now → next.before ≡ held.now → IsNoted names notes held → IsNoted names notes next
+noted_kept names notes held next now before noted = record {
+  now = subst (AreKnown names notes) (sym now) noted.now;
+  before = subst (AreKnown names notes) (sym before) noted.now;
+}
+
+pub noted_settled : (names : List (List ℕ)) (notes : List (Option Searches)) (held next : Holding) → next.now ≡ settled_set held.now → next.before ≡ settled_set held.now → IsNoted names notes held → IsNoted names notes next
+noted_settled names notes held next now before noted =
+    let are : AreKnown names notes (settled_set held.now) = known_still names notes held.now (settled_set held.now) (λ name searched known. known_settled held.now name searched known) noted.now in
+    record { now = subst (AreKnown names notes) (sym now) are; before = subst (AreKnown names notes) (sym before) are }
+
+-- a text that is made ready, or the command's edits that were taken back
+pub noted_made_ready : {E : Type 0} (result : Result (Unit {0}) E) (own : List ℕ) (names : List (List ℕ)) (notes : List (Option Searches)) (held next : Holding)
+    → OnOk result (next.now ≡ terminated_in own held.now) → OnErr result (next.now ≡ held.before) → next.before ≡ held.before → IsNoted names notes held → IsNoted names notes next
+noted_made_ready (Ok _) own names notes held next now undone before noted = record {
+  now = subst (AreKnown names notes) (sym now) (known_still names notes held.now (terminated_in own held.now) (λ name searched known. known_terminated own held.now name searched known) noted.now);
+  before = subst (AreKnown names notes) (sym before) noted.before;
+}
+noted_made_ready (Err e) own names notes held next now undone before noted = noted_undone names notes held next undone before noted
+
+pub nothing_noted : (names : List (List ℕ)) (notes : List (Option Searches)) (held : Holding) → notes ≡ [] → IsNoted names notes held
+nothing_noted names notes held none =
+    let no : (set : TextSet) → AreKnown names notes set = λ set i searched at. absurd (not_in i searched (ap (λ (q : List (Option Searches)). slice_get q i) (sym none) ∙ at)) in
+    record { now = no held.now; before = no held.before }
+  where
+    not_in : (i : ℕ) (searched : Searches) → ◌≡◌ {A = Option (Option Searches)} (slice_get [] i) (Some (Some searched)) → ⊥
+    not_in i searched at = cc
+
+-- ---- a file is noted
+
+pub noted_more : (names : List (List ℕ)) (old new : List (Option Searches)) (held : Holding) (index : ℕ) (file : List ℕ) (searched : Searches)
+    → ((i : ℕ) (s : Searches) → slice_get new i ≡ Some (Some s) → ((i ≡ index) × (s ≡ searched)) ⊎ (slice_get old i ≡ Some (Some s))) → slice_get names index ≡ Some file
+    → IsKnown searched held.now file → IsKnown searched held.before file → IsNoted names old held → IsNoted names new held
+noted_more names old new held index file searched more there now before noted =
+    record { now = are held.now now noted.now; before = are held.before before noted.before }
+  where
+    are : (set : TextSet) → IsKnown searched set file → AreKnown names old set → AreKnown names new set
+    are set known others i s at name is = elim (more i s at) [
+      | inl here ↦
+          let both : Some file ≡ Some name = sym there ∙ ap (slice_get names) (sym here.0) ∙ is in
+          let one : file ≡ name = cc in
+          subst (λ (q : Searches). IsKnown q set name) (sym here.1) (subst (IsKnown searched set) one known)
+      | inr was ↦ others i s was name is
+    ]
+
+-- ---- edits
+
+-- the notes of a text whose edits are made
+pub stays_lowered : (names : List (List ℕ)) (file : List ℕ) (size : ℕ) (edits : List Edit) (old new : List (Option Searches)) (set : TextSet) → Lowers names file size edits old new → AreKnown names old set → AreKnown names new set
+stays_lowered names file size edits old new set lowers are i searched at name is =
+    let low = lowers i searched at in
+    let known = are i low.0 low.1 name is in
+    (known.0, known.1, low.2 (terminated known.0.bytes) known.2)
+
+-- the bytes behind edits
+pub spliced_bytes : (edits : List Edit) (text : EditedText) → (spliced_each edits text).bytes ≡ applied_each edits text.bytes
+spliced_bytes [] text = refl
+spliced_bytes (e ∷ es) text = spliced_bytes es _
+
+applied_ends : (edits : List Edit) (text : List ℕ) → terminated text ≡ text → CanApply edits text → terminated (applied_each edits text) ≡ applied_each edits text
+applied_ends [] text whole can = whole
+applied_ends (e ∷ es) text whole can = applied_ends es (applied e text) can.1 can.2
+
+pub follows_lowered : (names : List (List ℕ)) (change : FileEdits) (size : ℕ) (old new : List (Option Searches)) (set : TextSet) → Lowers names change.file size change.edits.items old new
+    → CanEdit change set → ForSome (text_of set change.file) (λ (text : EditedText). size ≤ length text.bytes) → ForSome (text_of set change.file) (λ (text : EditedText). terminated text.bytes ≡ text.bytes)
+    → AreKnown names old set → AreKnown names new (with_edits change set)
+follows_lowered names change size old new set lowers can long whole are i searched at name is =
+    let low = lowers i searched at in
+    let known = are i low.0 low.1 name is in
+    let text = known.0 in
+    elim (name_cases change.file name) [
+      | inl same ↦
+          let here : text_of set change.file ≡ Some text = ap (text_of set) same.0 ∙ known.1 in
+          let able : CanApply change.edits.items text.bytes = subst (λ (o : Option EditedText). IsSomeAnd o (λ t. CanApply change.edits.items t.bytes)) here can in
+          let ended : terminated text.bytes ≡ text.bytes = whole text here in
+          let follows = low.3 name is same.1 text.bytes (long text here) able (subst (AreSearched low.0) ended known.2) in
+          let bytes : (spliced_each change.edits.items text).bytes ≡ applied_each change.edits.items text.bytes = spliced_bytes change.edits.items text in
+          let after : applied_each change.edits.items text.bytes ≡ terminated (spliced_each change.edits.items text).bytes = sym (ap terminated bytes ∙ applied_ends change.edits.items text.bytes ended able) in
+          subst (λ (n : List ℕ). IsKnown searched (with_edits change set) n) same.0 (
+            spliced_each change.edits.items text,
+            change_this change.file (spliced_each change.edits.items) set.texts ∙ ap (option_map (spliced_each change.edits.items)) here,
+            subst (AreSearched searched) after follows,
+          )
+      | inr apart ↦
+          same_text set (with_edits change set) name searched (change_other change.file name (spliced_each change.edits.items) set.texts apart.0) (text, known.1, low.2 (terminated text.bytes) known.2)
+    ]
+
+-- ---- the notes of one file lowered
+
+-- .. as far as the names that were looked at
+abbrev pub LowersBelow : List (List ℕ) → List ℕ → ℕ → List Edit → ℕ → List (Option Searches) → List (Option Searches) → Type 0
+LowersBelow names file size edits index old new =
+    (i : ℕ) (searched : Searches) → slice_get new i ≡ Some (Some searched)
+    → (was : Searches) × (slice_get old i ≡ Some (Some was)) × StaysKnown was searched
+    × (i < index → (name : List ℕ) → slice_get names i ≡ Some name → bytes_eq file name ≡ true → FollowsEdits size edits was searched)
+
+pub lowers_none : (names : List (List ℕ)) (file : List ℕ) (size : ℕ) (edits : List Edit) (old : List (Option Searches)) → LowersBelow names file size edits 0 old old
+lowers_none names file size edits old i searched at = (searched, at, λ text known. known, λ below. absurd (omega (arith, below)))
+
+-- a note that was put in another's place
+replaced : (notes : List (Option Searches)) (index i : ℕ) (new s : Option Searches) → index < length notes → slice_get (set notes index new) i ≡ Some s → ((i ≡ index) × (s ≡ new)) ⊎ ((i ≢ index) × (slice_get notes i ≡ Some s))
+replaced [] index i new s within at = absurd (omega (arith, within))
+replaced (x ∷ xs) zero zero new s within at = inl (refl, cc)
+replaced (x ∷ xs) zero (suc i) new s within at = inr (λ is. cc, at)
+replaced (x ∷ xs) (suc index) zero new s within at = inr (λ is. cc, at)
+replaced (x ∷ xs) (suc index) (suc i) new s within at = elim (replaced xs index i new s (omega (arith, within)) at) [
+  | inl here ↦ inl (ap suc here.0, here.1)
+  | inr other ↦ inr (λ is. let same : i ≡ index = omega (arith, is) in other.0 same, other.1)
+]
+
+pub lowers_this : (names : List (List ℕ)) (file : List ℕ) (size : ℕ) (edits : List Edit) (index : ℕ) (old mid new : List (Option Searches)) (here lower : Option Searches) → index < length mid → slice_get mid index ≡ Some here
+    → new ≡ set mid index lower → LowersNote size edits here lower
+    → LowersBelow names file size edits index old mid → LowersBelow names file size edits (index + 1) old new
+lowers_this names file size edits index old mid new here lower within at_here is lowers sofar i searched at =
+    elim (replaced mid index i lower (Some searched) within (ap (λ (q : List (Option Searches)). slice_get q i) (sym is) ∙ at)) [
+      | inl this ↦
+          let down = lowers searched (sym this.1) in
+          let was_here : slice_get mid i ≡ Some (Some down.0) = ap (slice_get mid) this.0 ∙ at_here ∙ ap (λ (o : Option Searches). Some o) down.1 in
+          let was = sofar i down.0 was_here in
+          (was.0, was.1, λ text known. down.2 text (was.2 text known), λ below name at_name same text long can known. down.3 text long can (was.2 text known))
+      | inr other ↦
+          let was = sofar i searched other.1 in
+          (was.0, was.1, was.2, λ below. was.3 (omega (arith, below, other.0)))
+    ]
+
+pub lowers_other : (names : List (List ℕ)) (file : List ℕ) (size : ℕ) (edits : List Edit) (index : ℕ) (old new : List (Option Searches)) → ((name : List ℕ) → slice_get names index ≡ Some name → bytes_eq file name ≡ false) → LowersBelow names file size edits index old new
+    → LowersBelow names file size edits (index + 1) old new
+lowers_other names file size edits index old new other sofar i searched at =
+    let was = sofar i searched at in (
+      was.0,
+      was.1,
+      was.2,
+      λ below name at_name same. below_more (λ (j : ℕ). j ≡ i → slice_get names j ≡ Some name → FollowsEdits size edits was.0 searched) index
+          (λ j sooner is there. was.3 (omega (arith, sooner, is)) name at_name same)
+          (λ is there. absurd (let no = other name there in cc)) i below refl at_name,
+    )
+
+pub lowers_past : (names : List (List ℕ)) (file : List ℕ) (size : ℕ) (edits : List Edit) (index next : ℕ) (old new : List (Option Searches)) → length new ≤ index → LowersBelow names file size edits index old new → LowersBelow names file size edits next old new
+lowers_past names file size edits index next old new past sofar i searched at =
+    let was = sofar i searched at in
+    (was.0, was.1, was.2, λ below. was.3 (omega (arith, past, slice_get_within new i (Some searched) at)))
+
+pub lowers_all : (names : List (List ℕ)) (file : List ℕ) (size : ℕ) (edits : List Edit) (index : ℕ) (old new : List (Option Searches)) → length names ≤ index → LowersBelow names file size edits index old new → Lowers names file size edits old new
+lowers_all names file size edits index old new past sofar i searched at =
+    let was = sofar i searched at in
+    (was.0, was.1, was.2, λ name at_name same. was.3 (omega (arith, past, slice_get_within names i name at_name)) name at_name same)
+
+pub note_lowered : (size : ℕ) (edits : List Edit) (note : Option Searches) (here lower : Searches) → note ≡ Some here → StaysKnown here lower → FollowsEdits size edits here lower → LowersNote size edits note (Some lower)
+note_lowered size edits note here lower is stays follows searched same =
+    let one : lower ≡ searched = cc in
+    subst (λ (s : Searches). (was : Searches) × (note ≡ Some was) × StaysKnown was s × FollowsEdits size edits was s) one (here, is, stays, follows)
+
+-- a plan's edits, in memory
+pub noted_put : (plan : Plan) (names ns : List (List ℕ)) (old new : List (Option Searches)) (held next : Holding) → ns ≡ names → next.now ≡ planned plan held.now → next.before ≡ held.before
+    → ((set : TextSet) → AreKnown ns old set → AreKnown ns new set) → (AreKnown ns old held.now → AreKnown ns new (planned plan held.now)) → IsNoted names old held → IsNoted names new next
+noted_put plan names ns old new held next same now before stays follows noted =
+    let N : List (Option Searches) → TextSet → Type 0 = λ notes set. AreKnown names notes set in
+    let stays_here : N old held.before → N new held.before = subst (λ (k : List (List ℕ)). AreKnown k old held.before → AreKnown k new held.before) same (stays held.before) in
+    let follows_here : N old held.now → N new (planned plan held.now) = subst (λ (k : List (List ℕ)). AreKnown k old held.now → AreKnown k new (planned plan held.now)) same follows in
+    record {
+      now = subst (N new) (sym now) (follows_here noted.now);
+      before = subst (N new) (sym before) (stays_here noted.before);
+    }
+
+pub noted_not_put : (names ns : List (List ℕ)) (old new : List (Option Searches)) (held next : Holding) → ns ≡ names → next.now ≡ held.before → next.before ≡ held.before
+    → ((set : TextSet) → AreKnown ns old set → AreKnown ns new set) → IsNoted names old held → IsNoted names new next
+noted_not_put names ns old new held next same now before stays noted =
+    let stays_here : AreKnown names old held.before → AreKnown names new held.before = subst (λ (k : List (List ℕ)). AreKnown k old held.before → AreKnown k new held.before) same (stays held.before) in
+    record {
+      now = subst (AreKnown names new) (sym now) (stays_here noted.before);
+      before = subst (AreKnown names new) (sym before) (stays_here noted.before);
+    }
+
+-- what a search found of a text that was ready
+pub known_ready : (held : Holding) (before : TextSet) (file : List ℕ) (seen : EditedText) (searched : Searches) → AreReady (file ∷ []) held → text_of held.now file ≡ Some seen → before ≡ held.before → AreSearched searched seen.bytes
+    → IsKnown searched before file
+known_ready held before file seen searched ready at same known =
+    let old = ready_text (file ∷ []) held file seen ready (one_name file) at in
+    subst (λ (set : TextSet). IsKnown searched set file) (sym same) (old.0, old.1, subst (AreSearched searched) old.2 known)
+
+-- what is left of edits, of which one is made
+pub edits_left : (rest : List Edit) (index size next : ℕ) (was searched : Searches) (e : Edit) (text : List ℕ) (edits : List Edit) → index < length rest → e ≡ get_or rest index e
+    → ((t : List ℕ) → size ≤ length t → e.at + e.removed ≤ length t → next ≤ length (applied e t))
+    → ((t : List ℕ) → size ≤ length t → e.at + e.removed ≤ length t → AreSearched was t → AreSearched searched (applied e t))
+    → (now : List ℕ) × (size ≤ length now) × CanApply (drop index rest) now × (applied_each (drop index rest) now ≡ applied_each edits text) × AreSearched was now
+    → (now : List ℕ) × (next ≤ length now) × CanApply (drop (index + 1) rest) now × (applied_each (drop (index + 1) rest) now ≡ applied_each edits text) × AreSearched searched now
+edits_left rest index size next was searched e text edits within is smaller behind (now, small, able, same, known) =
+    let next_index : suc index ≡ index + 1 = omega arith in
+    let split : drop index rest ≡ e ∷ drop (index + 1) rest =
+    drop_split rest index e within ∙ ap (λ (x : Edit). x ∷ drop (suc index) rest) (sym is) ∙ ap (λ (n : ℕ). e ∷ drop n rest) next_index in
+    let can : CanApply (e ∷ drop (index + 1) rest) now = subst (λ (es : List Edit). CanApply es now) split able in
+    (applied e now, smaller now small can.0, can.2, ap (λ (es : List Edit). applied_each es now) (sym split) ∙ same, behind now small can.0 known)
+  where
+    drop_split : (xs : List Edit) (i : ℕ) (d : Edit) → i < length xs → drop i xs ≡ get_or xs i d ∷ drop (suc i) xs
+    drop_split [] i d less = absurd (omega (arith, less))
+    drop_split (x ∷ xs) zero d less = refl
+    drop_split (x ∷ xs) (suc i) d less = drop_split xs i d (omega (arith, less))
+
+-- ---- a plan
+
+pub ends_ready : (names : List (List ℕ)) (held : Holding) (file : List ℕ) → AreReady names held → is_name names file ≡ true → ForSome (text_of held.now file) (λ (text : EditedText). terminated text.bytes ≡ text.bytes)
+ends_ready names held file ready there text at =
+    let old = ready_text names held file text ready there at in
+    ap terminated old.2 ∙ terminated_twice old.0.bytes ∙ sym old.2
+
+second_there : (plan : Plan) (change : FileEdits) → plan.second ≡ Some change → is_name (files_of plan) change.file ≡ true
+second_there plan change is = subst (λ (o : Option FileEdits). is_name (plan.first.file ∷ second_file o) change.file ≡ true) (sym is) (second_name plan.first.file change.file)
+
+pub plan_of_first : (plan : Plan) → plan.second ≡ None → (set : TextSet) → with_edits plan.first set ≡ planned plan set
+plan_of_first plan none set = ap (λ (o : Option FileEdits). with_second o (with_edits plan.first set)) (sym none)
+
+pub plan_of_both : (plan : Plan) (change : FileEdits) → plan.second ≡ Some change → (set : TextSet) → with_edits change (with_edits plan.first set) ≡ planned plan set
+plan_of_both plan change some set = ap (λ (o : Option FileEdits). with_second o (with_edits plan.first set)) (sym some)
+
+pub first_lowered : (plan : Plan) (names : List (List ℕ)) (size : ℕ) (old new : List (Option Searches)) (held : Holding) → IsPlan plan held.now → AreReady (files_of plan) held → Lowers names plan.first.file size plan.first.edits.items old new
+    → ForSome (text_of held.now plan.first.file) (λ (text : EditedText). size ≤ length text.bytes) → AreKnown names old held.now → AreKnown names new (with_edits plan.first held.now)
+first_lowered plan names size old new held is ready lowers long are =
+    follows_lowered names plan.first size old new held.now lowers is.first long (ends_ready (files_of plan) held plan.first.file ready (first_name plan.first.file (second_file plan.second))) are
+
+-- the text of the second file, where the first edits are made: its size isn't told where it is the first file
+pub second_lowered : (plan : Plan) (change : FileEdits) (names : List (List ℕ)) (size : ℕ) (old new : List (Option Searches)) (held : Holding) → IsPlan plan held.now → AreReady (files_of plan) held → plan.second ≡ Some change
+    → Lowers names change.file size change.edits.items old new
+    → (plan.first.file ≡ change.file → size ≡ 0) → (plan.first.file ≢ change.file → ForSome (text_of held.now change.file) (λ (text : EditedText). size ≤ length text.bytes))
+    → AreKnown names old (with_edits plan.first held.now) → AreKnown names new (planned plan held.now)
+second_lowered plan change names size old new held is ready some lowers same_file other_file are =
+    let mid = with_edits plan.first held.now in
+    subst (AreKnown names new) (plan_of_both plan change some held.now)
+    (follows_lowered names change size old new mid lowers (is.second change some) long whole are)
+  where
+    long : ForSome (text_of (with_edits plan.first held.now) change.file) (λ (text : EditedText). size ≤ length text.bytes)
+    long text at = elim (name_cases plan.first.file change.file) [
+      | inl same ↦ let none : size ≡ 0 = same_file same.0 in omega (arith, none)
+      | inr apart ↦ other_file apart.0 text (sym (change_other plan.first.file change.file (spliced_each plan.first.edits.items) held.now.texts apart.0) ∙ at)
+    ]
+
+    whole : ForSome (text_of (with_edits plan.first held.now) change.file) (λ (text : EditedText). terminated text.bytes ≡ text.bytes)
+    whole text at = elim (name_cases plan.first.file change.file) [
+      | inl same ↦ edited_ends (text_of held.now plan.first.file) refl is.first
+          (sym (change_this plan.first.file (spliced_each plan.first.edits.items) held.now.texts) ∙ ap (text_of (with_edits plan.first held.now)) same.0 ∙ at)
+      | inr apart ↦ ends_ready (files_of plan) held change.file ready (second_there plan change some) text (sym (change_other plan.first.file change.file (spliced_each plan.first.edits.items) held.now.texts apart.0) ∙ at)
+    ]
+      where
+        edited_ends : (o : Option EditedText) → text_of held.now plan.first.file ≡ o → IsSomeAnd o (λ (t : EditedText). CanApply plan.first.edits.items t.bytes) → option_map (spliced_each plan.first.edits.items) (text_of held.now plan.first.file) ≡ Some text → terminated text.bytes ≡ text.bytes
+        edited_ends None was can made = absurd can
+        edited_ends (Some own) was can made =
+            let ended : terminated own.bytes ≡ own.bytes = ends_ready (files_of plan) held plan.first.file ready (first_name plan.first.file (second_file plan.second)) own was in
+            let one : spliced_each plan.first.edits.items own ≡ text = let both : Some (spliced_each plan.first.edits.items own) ≡ Some text = sym (ap (option_map (spliced_each plan.first.edits.items)) was) ∙ made in cc in
+            let bytes : text.bytes ≡ applied_each plan.first.edits.items own.bytes = ap (λ (t : EditedText). t.bytes) (sym one) ∙ spliced_bytes plan.first.edits.items own in
+            ap terminated bytes ∙ applied_ends plan.first.edits.items own.bytes ended can ∙ sym bytes
+
+-- ---- a text that is ready
+
+held_now : (held : Holding) (file : List ℕ) → AreReady (file ∷ []) held → (text : EditedText) × (text_of held.now file ≡ Some text)
+held_now held file ready = the_text (text_of held.now file) (now_held (file ∷ []) held file ready (one_name file))
+  where
+    the_text : (o : Option EditedText) → IsSome o → (text : EditedText) × (o ≡ Some text)
+    the_text None some = absurd (false≢true some)
+    the_text (Some text) some = (text, refl)
+
+-- what is known of the bytes that are held
+pub known_text : (held : Holding) (file : List ℕ) → AreReady (file ∷ []) held → (searched : Searches) → ForSome (text_of held.now file) (λ (text : EditedText). AreSearched searched (terminated text.bytes)) → AreSearched searched (bytes_or [] (text_of held.now file))
+known_text held file ready searched known =
+    let seen = held_now held file ready in
+    let ended = ends_ready (file ∷ []) held file ready (one_name file) seen.0 seen.1 in
+    subst (λ (o : Option EditedText). AreSearched searched (bytes_or [] o)) (sym seen.1) (subst (AreSearched searched) ended (known seen.0 seen.1))
+
+pub known_at : (held : Holding) (file : List ℕ) → AreReady (file ∷ []) held → (searched : Searches) → AreSearched searched (bytes_or [] (text_of held.now file)) → IsKnown searched held.now file × IsKnown searched held.before file
+known_at held file ready searched known =
+    let seen = held_now held file ready in
+    let ended = ends_ready (file ∷ []) held file ready (one_name file) seen.0 seen.1 in
+    let here : AreSearched searched seen.0.bytes = subst (λ (o : Option EditedText). AreSearched searched (bytes_or [] o)) seen.1 known in
+    ((seen.0, seen.1, subst (AreSearched searched) (sym ended) here), known_ready held held.before file seen.0 searched ready seen.1 refl here)
+
+-- .. where archive lines were looked for again
+pub known_lines : (held : Holding) (file : List ℕ) → AreReady (file ∷ []) held → (searched : Searches) → ForSome (text_of held.now file) (λ (text : EditedText). AreSearched searched (terminated text.bytes))
+    → (lines : Searched) → IsSearched has_archive_line lines (bytes_or [] (text_of held.now file))
+    → IsKnown (record { clocks = searched.clocks; archive_lines = lines }) held.now file × IsKnown (record { clocks = searched.clocks; archive_lines = lines }) held.before file
+known_lines held file ready searched known lines found =
+    let seen = known_text held file ready searched known in
+    known_at held file ready (record { clocks = searched.clocks; archive_lines = lines }) (record { clocks = seen.clocks; archive_lines = found })

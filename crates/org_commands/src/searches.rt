@@ -1,0 +1,39 @@
+//! What is known of a file's text behind searches.
+//!
+//! The clock that runs, and the line that names a place for archived subtrees, are each searched for
+//! where they aren't known to be missing.
+ghost use Rattle.std.specs.Prelude.{List, ℕ};
+ghost use Rattle.org_commands.specs.Noted.{AreSearched, FollowsEdit, StaysKnown};
+
+use org_splice::{Edit, Searched};
+
+/// Where a text is known to have no clock that runs, and no `#+ARCHIVE:` line.
+#[derive(Clone, Copy)]
+pub(crate) struct Searches {
+    pub(crate) clocks: Searched,
+    pub(crate) archive_lines: Searched,
+}
+
+impl Searches {
+    /// Nothing is known yet.
+    pub(crate) fn nothing() -> Searches
+        ensures { (text : List ℕ) → AreSearched result text }
+    {
+        Searches {
+            clocks: Searched::nothing(),
+            archive_lines: Searched::nothing(),
+        }
+    }
+
+    /// What is known behind an edit of a text of this size, or of a larger one. It is so of the
+    /// text before the edit, too.
+    pub(crate) fn behind(self, size: usize, edit: &Edit) -> Searches
+        ensures edited { FollowsEdit size edit.now self result }
+        ensures unedited { StaysKnown self result }
+    {
+        Searches {
+            clocks: self.clocks.behind(size, edit),
+            archive_lines: self.archive_lines.behind(size, edit),
+        }
+    }
+}
