@@ -1,5 +1,6 @@
 """TODO changes, with planning lines, repeaters and notes."""
-from .shared import BAD_REPEAT, DATE_RANGE, NOT_FOUND, NOT_UNIQUE, NOW, ODD_PLANNING, UNKNOWN_STATE, alone, both, goes
+from .shared import (
+    BAD_REPEAT, DATE_RANGE, NOT_FOUND, NOT_UNIQUE, NOW, ODD_PLANNING, UNKNOWN_STATE, alone, answers, both, goes, shown)
 
 # The text of a.org, the path of a heading in it, the state that it is to have, the moment, and the text after it or why
 # it is refused.
@@ -203,6 +204,31 @@ REFUSED_CHANGES = [
     ("* TODO A\nDEADLINE: <9999-06-01 Tue +1y> SCHEDULED: <2026-01-05 Mon +1h>\n", "A", "DONE", NOW, DATE_RANGE),
 ]
 
+# Titles that open alike: which heading has the title.
+OPEN_ALIKE = [
+    ("* TODO TA\n* TODO T\n* T\tA\n", "T", "DONE", NOW, "* TODO TA\n* DONE T\nCLOSED: [2026-07-01 Wed 10:00]\n* T\tA\n"),
+    ("* TODO Tx\n* TODO\n** T\n", "T", "DONE", NOW, NOT_FOUND),
+    ("* To\n* TODO to\n* \t TODO \t To \t\n", "To", "", NOW, NOT_UNIQUE),
+    ("* Too\n* TODO to\n*  \t TODO \t To \t\n", "To", "", NOW, "* Too\n* TODO to\n*  \t To \t\n"),
+    ("* TODO [#A] To :x:\n* [#B]\n* Top\n", "To", "", NOW, "* [#A] To :x:\n* [#B]\n* Top\n"),
+    ("* [#A] x] A\n* [x] A\n* [#A]x\n", "[x] A", "TODO", NOW, "* [#A] x] A\n* TODO [x] A\n* [#A]x\n"),
+    ("* TODO [#A]x\n* [x\n", "x", "", NOW, "* [#A]x\n* [x\n"),
+    # a word that is no state is a part of the title
+    ("* NEXT To\n* TODO NEXT\n", "To", "TODO", NOW, NOT_FOUND),
+    ("* NEXT To\n* TODO NEXT\n", "NEXT To", "TODO", NOW, "* TODO NEXT To\n* TODO NEXT\n"),
+    ("* TODO NEXT\n* NEXT To\n* NEXT\n* NE\n", "NEXT", "TODO", NOW, NOT_UNIQUE),
+    # titles of no byte, also before tags, and one of tags' form
+    ("* TODO :x:\n** \n* A\n", "/", "TODO", NOW, "* TODO :x:\n** TODO \n* A\n"),
+    ("* :a::b:\n* :a:\n* A :a:\n", ":a::b:", "TODO", NOW, "* TODO :a::b:\n* :a:\n* A :a:\n"),
+    # the line ends directly behind the title, by a newline or a carriage return
+    ("* É\r\n* TODO É", "É", "TODO", NOW, NOT_UNIQUE),
+    ("* È\r\n* TODO É", "É", "", NOW, "* È\r\n* É\n"),
+    # a child is what no other heading between holds, whatever its level
+    ("* A\n*** B\n** C\n*** B\n", "A/B", "TODO", NOW, "* A\n*** TODO B\n** C\n*** B\n"),
+    ("* A\n*** B\n** B\n**** B\n* B\n", "A/B", "TODO", NOW, NOT_UNIQUE),
+    ("* A\n*** C\n** B\n*** B\n* B\n", "A/B/B", "TODO", NOW, "* A\n*** C\n** B\n*** TODO B\n* B\n"),
+]
+
 # The same with the active states TODO and NEXT, and the done states DONE and GONE.
 FOUR_STATES = [
     ("* A\n", "A", "TODO", NOW, "* TODO A\n"),
@@ -271,7 +297,7 @@ FOUR_STATES = [
 
 def changes(room):
     for text, path, state, moment, after in (SET_STATES + KEPT_STATES + PLANNED + REPEATED + STEPPED + NOTED
-                                             + REFUSED_CHANGES):
+                                             + REFUSED_CHANGES + OPEN_ALIKE):
         goes(room, "todo\ta.org\t%s\t%s\t%s\n" % (path, state, moment), both(text, "* Z"), alone(after))
     for text, path, state, moment, after in FOUR_STATES:
         goes(room, "todo\ta.org\t%s\t%s\t%s\n" % (path, state, moment), {"a.org": text}, alone(after),
@@ -296,10 +322,17 @@ def many_states(room):
              "--done", "LAST")
 
 
+def a_title_behind_edits(room):
+    lines = "".join("todo\ta.org\t%s\t%s\t%s\n" % (path, state, NOW) for path, state in (
+        ("A", ""), ("A", "DONE"), ("B", ""), ("A", ""), ("B", "TODO"), ("A", "TODO")))
+    answers(room, {"a.org": "* TODO A\n* TODO B\n"}, lines + "show\ta.org\n",
+            "".join("ok %d\nsafe %d\n" % (count, count) for count in range(1, 7)) + shown("* TODO A\n* TODO B\n"))
+
+
 def a_section_of_a_million_lines(room):
     section = 1_000_000 * "x\n"
     new = "* DONE A\nCLOSED: [2026-07-01 Wed 10:00]\n" + section
     goes(room, "todo\ta.org\tA\tDONE\t%s\n" % NOW, {"a.org": "* TODO A\n" + section}, alone(new))
 
 
-PARTS = (changes, many_states, a_section_of_a_million_lines)
+PARTS = (changes, many_states, a_title_behind_edits, a_section_of_a_million_lines)

@@ -80,7 +80,7 @@
              (orgstore-program
               (orgstore-test-script
                "slow" "if mkdir \"$0.once\" 2> /dev/null; then"
-               (format "  while read -r line; do printf '%%s\\n' \"$line\"; sleep 0.003; done | exec '%s' \"$@\""
+               (format "  while read -r line; do printf '%%s\\n' \"$line\"; sleep 0.05; done | exec '%s' \"$@\""
                        orgstore-test-program)
                "  exit" "fi" (format "exec '%s' \"$@\"" orgstore-test-program)))
              (told

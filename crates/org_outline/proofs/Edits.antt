@@ -16,12 +16,13 @@ use Rattle.std.proofs.lemmas.Iterator.Adapters.{YieldsList-from_vec}
 use Rattle.memchr.specs.Find.{IsFirstByte, IsLastByte, Nowhere, Passes, is_byte}
 use Rattle.org_outline.specs.declared.heads.Heading.{Heading}
 use Rattle.org_splice.specs.Lines.{terminated, IsLine}
-use Rattle.org_outline.specs.Text.{stars, level_of}
+use Rattle.org_outline.specs.Text.{stars, level_of, line_at}
+use Rattle.org_outline.specs.Beginnings.{beginnings_of}
 use Rattle.org_outline.specs.Outline.{headings_of, heads_from, ends_line, with_heading, moved, CanMove, IsEdit}
 use Rattle.org_outline.proofs.Lines.{AllByRecursion-append}
 use Rattle.org_outline.proofs.LineWalk.{line_of, tail_is}
 use Rattle.org_outline.proofs.Nodes.{AllByRecursion-at}
-use Rattle.org_outline.proofs.HeadsFrom.{ends_line-append, take-plus, heads_from-text, level_of-append}
+use Rattle.org_outline.proofs.HeadsFrom.{line_at-more, ends_line-append, take-plus, heads_from-text, level_of-append}
 
 -- ---- line starts and line ends that the code finds
 
@@ -96,9 +97,18 @@ stars_short f x (y ∷ ys) e =
       | inr other ↦ rw other (omega arith)
     ]
 
-with_heading-joined : (o : Option ℕ) (at : ℕ) (xs ys : List Heading) → with_heading o at (xs ++ ys) ≡ with_heading o at xs ++ ys
-with_heading-joined None at xs ys = refl
-with_heading-joined (Some n) at xs ys = refl
+-- what follows a line's end doesn't count
+line_short : (f : Bool) (x : ℕ) (a b : List ℕ) → ends_line f (x ∷ a) ≡ true → line_at (x ∷ (a ++ b)) ≡ line_at (x ∷ a)
+line_short f x [] b e = let is : x ≡ 10 = eqb-true x 10 e in rw is refl
+line_short f x (y ∷ a) b e =
+    elim (cases_Bool (eqb x 10)) [
+      | inl is ↦ rw is refl
+      | inr other ↦ line_at-more x (y ∷ (a ++ b)) other ∙ ap (λ (l : List ℕ). x ∷ l) (line_short (eqb x 10) y a b e) ∙ sym (line_at-more x (y ∷ a) other)
+    ]
+
+with_heading-joined : (o : Option ℕ) (at : ℕ) (line : List ℕ) (xs ys : List Heading) → with_heading o at line (xs ++ ys) ≡ with_heading o at line xs ++ ys
+with_heading-joined None at line xs ys = refl
+with_heading-joined (Some n) at line xs ys = refl
 
 heads_from-append : (at : ℕ) (f : Bool) (a b : List ℕ) → ends_line f a ≡ true → heads_from at f (a ++ b) ≡ heads_from at f a ++ heads_from (at + length a) true b
 heads_from-append at f [] b e = ap (λ g. heads_from at g b) e ∙ ap (λ k. heads_from k true b) (sym (add-zero at))
@@ -106,19 +116,20 @@ heads_from-append at f (x ∷ a) b e =
     let o = level_of (x ∷ a) in
     let same : level_of (x ∷ (a ++ b)) ≡ o = level_of-append (x ∷ a) b (stars_short f x a e) in
     let next : suc at + length a ≡ at + suc (length a) = omega arith in
-    ap (λ p. with_heading (cond f p None) at (heads_from (suc at) (eqb x 10) (a ++ b))) same
-    ∙ ap (with_heading (cond f o None) at) (heads_from-append (suc at) (eqb x 10) a b e ∙ ap (λ k. heads_from (suc at) (eqb x 10) a ++ heads_from k true b) next)
-    ∙ with_heading-joined (cond f o None) at (heads_from (suc at) (eqb x 10) a) (heads_from (at + suc (length a)) true b)
+    ap (λ p. with_heading (cond f p None) at (line_at (x ∷ (a ++ b))) (heads_from (suc at) (eqb x 10) (a ++ b))) same
+    ∙ ap (λ line. with_heading (cond f o None) at line (heads_from (suc at) (eqb x 10) (a ++ b))) (line_short f x a b e)
+    ∙ ap (with_heading (cond f o None) at (line_at (x ∷ a))) (heads_from-append (suc at) (eqb x 10) a b e ∙ ap (λ k. heads_from (suc at) (eqb x 10) a ++ heads_from k true b) next)
+    ∙ with_heading-joined (cond f o None) at (line_at (x ∷ a)) (heads_from (suc at) (eqb x 10) a) (heads_from (at + suc (length a)) true b)
 
 -- ---- where headings begin
 
-with_low : (k at : ℕ) (o : Option ℕ) (hs : List Heading) → k ≤ at → AllByRecursion (λ (h : Heading). k ≤ h.start) hs → AllByRecursion (λ (h : Heading). k ≤ h.start) (with_heading o at hs)
-with_low k at None hs le all = all
-with_low k at (Some n) hs le all = (le, all)
+with_low : (k at : ℕ) (o : Option ℕ) (line : List ℕ) (hs : List Heading) → k ≤ at → AllByRecursion (λ (h : Heading). k ≤ h.start) hs → AllByRecursion (λ (h : Heading). k ≤ h.start) (with_heading o at line hs)
+with_low k at None line hs le all = all
+with_low k at (Some n) line hs le all = (le, all)
 
 begin_after : (k at : ℕ) (f : Bool) (b : List ℕ) → k ≤ at → AllByRecursion (λ (h : Heading). k ≤ h.start) (heads_from at f b)
 begin_after k at f [] le = tt
-begin_after k at f (x ∷ b) le = with_low k at (cond f (level_of (x ∷ b)) None) (heads_from (suc at) (eqb x 10) b) le (begin_after k (suc at) (eqb x 10) b (omega (arith, le)))
+begin_after k at f (x ∷ b) le = with_low k at (cond f (level_of (x ∷ b)) None) (line_at (x ∷ b)) (heads_from (suc at) (eqb x 10) b) le (begin_after k (suc at) (eqb x 10) b (omega (arith, le)))
 
 rising-cons : (h : Heading) (hs : List Heading) → AllByRecursion (λ (g : Heading). h.start ≤ g.start) hs → IsNonDecreasingBy (λ (g : Heading). g.start) hs
     → IsNonDecreasingBy (λ (g : Heading). g.start) (h ∷ hs)
@@ -127,16 +138,16 @@ rising-cons h hs low rise zero (suc j) d le lt = AllByRecursion-at (λ (g : Head
 rising-cons h hs low rise (suc i) zero d le lt = absurd (omega (arith, le))
 rising-cons h hs low rise (suc i) (suc j) d le lt = rise i j d (omega (arith, le)) (omega (arith, lt))
 
-with_rising : (at : ℕ) (o : Option ℕ) (hs : List Heading) → AllByRecursion (λ (h : Heading). at ≤ h.start) hs → IsNonDecreasingBy (λ (h : Heading). h.start) hs
-    → IsNonDecreasingBy (λ (h : Heading). h.start) (with_heading o at hs)
-with_rising at None hs low rise = rise
-with_rising at (Some n) hs low rise = rising-cons (record { start = at; level = n }) hs low rise
+with_rising : (at : ℕ) (o : Option ℕ) (line : List ℕ) (hs : List Heading) → AllByRecursion (λ (h : Heading). at ≤ h.start) hs → IsNonDecreasingBy (λ (h : Heading). h.start) hs
+    → IsNonDecreasingBy (λ (h : Heading). h.start) (with_heading o at line hs)
+with_rising at None line hs low rise = rise
+with_rising at (Some n) line hs low rise = rising-cons (record { start = at; level = n; beginnings = beginnings_of (drop n line) }) hs low rise
 
 -- they stand in the order of their starts
 pub rising : (at : ℕ) (f : Bool) (b : List ℕ) → IsNonDecreasingBy (λ (h : Heading). h.start) (heads_from at f b)
 rising at f [] = λ i j d le lt. absurd (omega (arith, lt))
 rising at f (x ∷ b) =
-    with_rising at (cond f (level_of (x ∷ b)) None) (heads_from (suc at) (eqb x 10) b) (begin_after at (suc at) (eqb x 10) b (omega arith)) (rising (suc at) (eqb x 10) b)
+    with_rising at (cond f (level_of (x ∷ b)) None) (line_at (x ∷ b)) (heads_from (suc at) (eqb x 10) b) (begin_after at (suc at) (eqb x 10) b (omega arith)) (rising (suc at) (eqb x 10) b)
 
 pub rising_now : (hs ks : List Heading) (c : List ℕ) (at removed added : ℕ) → IsEdit hs c at removed added → ks ≡ hs → IsNonDecreasingBy (λ (h : Heading). h.start) ks
 rising_now hs ks c at removed added e same =
@@ -146,17 +157,17 @@ rising_now hs ks c at removed added e same =
 -- where a search ends, as a count of the first ones
 pub count_at : (p : Heading → Bool) (hs : List Heading) (r : ℕ) → r ≤ length hs → IsPartitionPoint (λ h. p h ≡ true) (λ h. p h ≡ false) hs r → r ≡ prefix_len p hs
 count_at p hs r bound point =
-    let d : Heading = record { start = 0; level = 0 } in
+    let d : Heading = record { start = 0; level = 0; beginnings = beginnings_of [] } in
     sym (prefix_len_is p hs r d bound (λ k lt. point.0 k d (omega arith) lt) (λ lt. point.1 r d (omega arith) lt))
 
-with_high : (k at : ℕ) (o : Option ℕ) (hs : List Heading) → at < k → AllByRecursion (λ (h : Heading). h.start < k) hs → AllByRecursion (λ (h : Heading). h.start < k) (with_heading o at hs)
-with_high k at None hs lt all = all
-with_high k at (Some n) hs lt all = (lt, all)
+with_high : (k at : ℕ) (o : Option ℕ) (line : List ℕ) (hs : List Heading) → at < k → AllByRecursion (λ (h : Heading). h.start < k) hs → AllByRecursion (λ (h : Heading). h.start < k) (with_heading o at line hs)
+with_high k at None line hs lt all = all
+with_high k at (Some n) line hs lt all = (lt, all)
 
 begin_before : (k at : ℕ) (f : Bool) (b : List ℕ) → at + length b ≤ k → AllByRecursion (λ (h : Heading). h.start < k) (heads_from at f b)
 begin_before k at f [] le = tt
 begin_before k at f (x ∷ b) le =
-    with_high k at (cond f (level_of (x ∷ b)) None) (heads_from (suc at) (eqb x 10) b) (omega (arith, le)) (begin_before k (suc at) (eqb x 10) b (omega (arith, le)))
+    with_high k at (cond f (level_of (x ∷ b)) None) (line_at (x ∷ b)) (heads_from (suc at) (eqb x 10) b) (omega (arith, le)) (begin_before k (suc at) (eqb x 10) b (omega (arith, le)))
 
 -- how many begin before k, where the first part does and the second doesn't
 before_count : (k : ℕ) (xs ys : List Heading) → AllByRecursion (λ (h : Heading). h.start < k) xs → AllByRecursion (λ (h : Heading). k ≤ h.start) ys → prefix_len (λ (h : Heading). ltb h.start k) (xs ++ ys) ≡ length xs
@@ -168,18 +179,18 @@ before_count k (x ∷ xs) ys p q =
     let one : 1 + length xs ≡ suc (length xs) = omega arith in
     rw yes_more (ap (λ n. 1 + n) (before_count k xs ys p.1 q) ∙ one)
 
-with_moved : (removed added p : ℕ) (o : Option ℕ) (hs : List Heading) → map (moved removed added) (with_heading o p hs) ≡ with_heading o (p - removed + added) (map (moved removed added) hs)
-with_moved removed added p None hs = refl
-with_moved removed added p (Some n) hs = refl
+with_moved : (removed added p : ℕ) (o : Option ℕ) (line : List ℕ) (hs : List Heading) → map (moved removed added) (with_heading o p line hs) ≡ with_heading o (p - removed + added) line (map (moved removed added) hs)
+with_moved removed added p None line hs = refl
+with_moved removed added p (Some n) line hs = refl
 
 heads_moved : (removed added p q : ℕ) (f : Bool) (b : List ℕ) → removed ≤ p → p - removed + added ≡ q → map (moved removed added) (heads_from p f b) ≡ heads_from q f b
 heads_moved removed added p q f [] le e = refl
 heads_moved removed added p q f (x ∷ b) le e =
     let next : suc p - removed + added ≡ suc q = omega (arith, e, le) in
     let o = cond f (level_of (x ∷ b)) None in
-    with_moved removed added p o (heads_from (suc p) (eqb x 10) b)
-    ∙ ap (λ k. with_heading o k (map (moved removed added) (heads_from (suc p) (eqb x 10) b))) e
-    ∙ ap (with_heading o q) (heads_moved removed added (suc p) (suc q) (eqb x 10) b (omega (arith, le)) next)
+    with_moved removed added p o (line_at (x ∷ b)) (heads_from (suc p) (eqb x 10) b)
+    ∙ ap (λ k. with_heading o k (line_at (x ∷ b)) (map (moved removed added) (heads_from (suc p) (eqb x 10) b))) e
+    ∙ ap (with_heading o q (line_at (x ∷ b))) (heads_moved removed added (suc p) (suc q) (eqb x 10) b (omega (arith, le)) next)
 
 can_move : (removed added p q size : ℕ) (hs : List Heading) → removed ≤ p → p - removed + added ≡ q → q + size < 2 ^ 64
     → AllByRecursion (λ (h : Heading). p ≤ h.start) hs → AllByRecursion (λ (h : Heading). h.start < p + size) hs → AllByRecursion (λ h. CanMove removed added h) hs

@@ -4,12 +4,13 @@ use Rattle.std.specs.Prelude.{◌≢◌, replicate}
 use Rattle.std.specs.List.{AllByRecursion}
 use Rattle.std.proofs.lemmas.Bool.{cases_Bool, eqb-true}
 use Rattle.std.proofs.lemmas.Bool.Decides.{nat_tests}
-use Rattle.std.proofs.lemmas.List.{append-nil, take-append-drop, length-replicate, drop-drop, length-drop, take_rest, length-take-le, get_or-drop, take_at, take_all}
+use Rattle.std.proofs.lemmas.List.{append-nil, take-append-drop, length-replicate, drop-drop, length-drop, take_rest, length-take-le, get_or-drop, take_at, take_all, drop_at}
 use Rattle.memchr.specs.Find.{IsFirstByte, is_byte}
 use Rattle.org_splice.proofs.Lines.{print_lines-lines_of, lines_of-lines}
 use Rattle.org_outline.specs.declared.heads.Heading.{Heading}
 use Rattle.org_splice.specs.Lines.{terminated, lines_of, print_lines, IsLine}
-use Rattle.org_outline.specs.Text.{stars, level_of}
+use Rattle.org_outline.specs.Text.{stars, level_of, line_at}
+use Rattle.org_outline.specs.Beginnings.{beginnings_of}
 use Rattle.org_outline.specs.Outline.{headings_of, with_heading, heads_from, ends_line}
 use Rattle.org_outline.proofs.Lines.{stars-split, one-add}
 use Rattle.org_outline.proofs.Nodes.{headings_from, headings_of-lines}
@@ -66,19 +67,37 @@ rest_of_line at (b ∷ l) r p =
     let next : suc at + length l + 1 ≡ at + suc (length l) + 1 = omega arith in
     ap (λ f. heads_from (suc at) f (l ++ 10 ∷ r)) no ∙ rest_of_line (suc at) l r p.1 ∙ ap (λ k. heads_from k true r) next
 
-first_line : (at : ℕ) (l r : List ℕ) → IsLine l → heads_from at true (l ++ 10 ∷ r) ≡ with_heading (level_of l) at (heads_from (at + length l + 1) true r)
+-- a byte that is no newline is one of the first line
+pub line_at-more : (x : ℕ) (l : List ℕ) → eqb x 10 ≡ false → line_at (x ∷ l) ≡ x ∷ line_at l
+line_at-more x l other = rw (other, one-add) refl
+
+-- what the first line of a text is
+pub line_at-line : (l r : List ℕ) → IsLine l → line_at (l ++ 10 ∷ r) ≡ l
+line_at-line [] r p = refl
+line_at-line (b ∷ l) r p =
+    let ne : b ≢ 10 = p.0 in
+    let no : eqb b 10 ≡ false = grind (arith, nat_tests) in
+    line_at-more b (l ++ 10 ∷ r) no ∙ ap (λ (l : List ℕ). b ∷ l) (line_at-line l r p.1)
+
+-- behind stars it goes on
+pub line_at-stars : (n : ℕ) (u : List ℕ) → line_at (replicate n 42 ++ u) ≡ replicate n 42 ++ line_at u
+line_at-stars zero u = refl
+line_at-stars (suc n) u = line_at-more 42 (replicate n 42 ++ u) refl ∙ ap (λ (l : List ℕ). 42 ∷ l) (line_at-stars n u)
+
+first_line : (at : ℕ) (l r : List ℕ) → IsLine l → heads_from at true (l ++ 10 ∷ r) ≡ with_heading (level_of l) at l (heads_from (at + length l + 1) true r)
 first_line at [] r p = let one : suc at ≡ at + 0 + 1 = omega arith in ap (λ k. heads_from k true r) one
 first_line at (b ∷ l) r p =
     let ne : b ≢ 10 = p.0 in
     let no : eqb b 10 ≡ false = grind (arith, nat_tests) in
     let next : suc at + length l + 1 ≡ at + suc (length l) + 1 = omega arith in
-    ap (λ o. with_heading o at (heads_from (suc at) (eqb b 10) (l ++ 10 ∷ r))) (level_of-newline (b ∷ l) r)
-    ∙ ap (with_heading (level_of (b ∷ l)) at) (ap (λ f. heads_from (suc at) f (l ++ 10 ∷ r)) no ∙ rest_of_line (suc at) l r p.1 ∙ ap (λ k. heads_from k true r) next)
+    ap (λ o. with_heading o at (line_at (b ∷ (l ++ 10 ∷ r))) (heads_from (suc at) (eqb b 10) (l ++ 10 ∷ r))) (level_of-newline (b ∷ l) r)
+    ∙ ap (λ line. with_heading (level_of (b ∷ l)) at line (heads_from (suc at) (eqb b 10) (l ++ 10 ∷ r))) (line_at-line (b ∷ l) r p)
+    ∙ ap (with_heading (level_of (b ∷ l)) at (b ∷ l)) (ap (λ f. heads_from (suc at) f (l ++ 10 ∷ r)) no ∙ rest_of_line (suc at) l r p.1 ∙ ap (λ k. heads_from k true r) next)
 
 heads_from-lines : (at : ℕ) (ls : List (List ℕ)) → AllByRecursion IsLine ls → heads_from at true (print_lines ls) ≡ headings_from at ls
 heads_from-lines at [] p = refl
 heads_from-lines at (l ∷ ls) p =
-    first_line at l (print_lines ls) p.0 ∙ ap (with_heading (level_of l) at) (heads_from-lines (at + length l + 1) ls p.1)
+    first_line at l (print_lines ls) p.0 ∙ ap (with_heading (level_of l) at l) (heads_from-lines (at + length l + 1) ls p.1)
 
 pub heads_from-text : (t : List ℕ) → terminated t ≡ t → heads_from 0 true t ≡ headings_of t
 heads_from-text t c =
@@ -101,7 +120,7 @@ skip_plain at f (x ∷ a) b p =
     let ne : x ≢ 42 = p.0 in
     let no : eqb x 42 ≡ false = grind (arith, nat_tests) in
     let next : suc at + length a ≡ at + suc (length a) = omega arith in
-    ap (λ o. with_heading o at (heads_from (suc at) (eqb x 10) (a ++ b))) (no_level f x (a ++ b) no)
+    ap (λ o. with_heading o at (line_at (x ∷ (a ++ b))) (heads_from (suc at) (eqb x 10) (a ++ b))) (no_level f x (a ++ b) no)
     ∙ skip_plain (suc at) (eqb x 10) a b p.1 ∙ ap (λ k. heads_from k (ends_line (eqb x 10) a) b) next
 
 run_of_stars : (at n : ℕ) (b : List ℕ) → heads_from at false (replicate n 42 ++ b) ≡ heads_from (at + n) false b
@@ -115,7 +134,7 @@ ends_line-stars f zero = refl
 ends_line-stars f (suc n) = ends_line-stars false n
 
 -- a text that begins with a star, by its stars
-stars_first : (at : ℕ) (f : Bool) (u : List ℕ) → 0 < stars u → heads_from at f u ≡ with_heading (cond f (level_of u) None) at (heads_from (at + stars u) false (drop (stars u) u))
+stars_first : (at : ℕ) (f : Bool) (u : List ℕ) → 0 < stars u → heads_from at f u ≡ with_heading (cond f (level_of u) None) at (line_at u) (heads_from (at + stars u) false (drop (stars u) u))
 stars_first at f [] lt = absurd (omega arith)
 stars_first at f (b ∷ bs) lt =
     elim (cases_Bool (eqb b 42)) [
@@ -127,8 +146,8 @@ stars_first at f (b ∷ bs) lt =
           let rest : heads_from (suc at) false bs ≡ heads_from (suc at + stars bs) false (drop (stars bs) bs) =
           ap (heads_from (suc at) false) (sym parts) ∙ run_of_stars (suc at) (stars bs) (drop (stars bs) bs) in
           let more : stars (b ∷ bs) ≡ 1 + stars bs = rw e refl in
-          ap (λ g. with_heading (cond f (level_of (b ∷ bs)) None) at (heads_from (suc at) g bs)) not10
-          ∙ ap (with_heading (cond f (level_of (b ∷ bs)) None) at) (rest
+          ap (λ g. with_heading (cond f (level_of (b ∷ bs)) None) at (line_at (b ∷ bs)) (heads_from (suc at) g bs)) not10
+          ∙ ap (with_heading (cond f (level_of (b ∷ bs)) None) at (line_at (b ∷ bs))) (rest
           ∙ ap (λ k. heads_from k false (drop (stars bs) bs)) next
           ∙ ap (λ k. heads_from (at + (1 + stars bs)) false (drop k (b ∷ bs))) (sym (one-add (stars bs)))
           ∙ ap (λ k. heads_from (at + k) false (drop k (b ∷ bs))) (sym more))
@@ -182,7 +201,7 @@ pub record Passes (text : List ℕ) (base start n from : ℕ) (found : List Head
   pub within : from ≤ length text
   pub later : start < from
   pub all : found
-      ++ with_heading (cond (ends_line true (take start text)) (level_of (drop start text)) None) (base + start) (heads_from (base + from) (ends_line true (take from text)) (drop from text))
+      ++ with_heading (cond (ends_line true (take start text)) (level_of (drop start text)) None) (base + start) (line_at (drop start text)) (heads_from (base + from) (ends_line true (take from text)) (drop from text))
       ≡ heads_from base true text
 
 passes : (text : List ℕ) (base from s : ℕ) (found : List Heading) → Scanned text base from found → IsFirstByte (is_byte 42) (drop from text) (Some s)
@@ -223,7 +242,7 @@ passes text base from s found sc h =
           ∙ ap (λ g. heads_from (base + from + s) g u) fresh
           ∙ ap (λ k. heads_from k (ends_line true (take start text)) u) place
           ∙ stars_first (base + start) (ends_line true (take start text)) u some
-          ∙ ap (with_heading o (base + start)) (ap (λ k. heads_from k false (drop n u)) next ∙ ap (λ g. heads_from (base + (start + n)) g (drop n u)) stale ∙ ap (heads_from (base + (start + n)) (ends_line true (take (start + n) text))) rest)))
+          ∙ ap (with_heading o (base + start) (line_at u)) (ap (λ k. heads_from k false (drop n u)) next ∙ ap (λ g. heads_from (base + (start + n)) g (drop n u)) stale ∙ ap (heads_from (base + (start + n)) (ends_line true (take (start + n) text))) rest)))
           ∙ sc.all;
     }
 
@@ -240,14 +259,14 @@ pub record Looked (c : ℕ) (text : List ℕ) (from : ℕ) (r : Option ℕ) : Ty
 level_by_space : (n : ℕ) (u : List ℕ) (y : Bool) → stars u ≡ n → 0 < n → eqb (get_or u n 0) 32 ≡ y → level_of u ≡ cond y (Some n) None
 level_by_space n u y e lt s = let some : ltb 0 n ≡ true = grind (arith, nat_tests) in rw (e, some, s) refl
 
-with_heading-append : (o : Option ℕ) (at : ℕ) (hs : List Heading) → with_heading o at [] ++ hs ≡ with_heading o at hs
-with_heading-append None at hs = refl
-with_heading-append (Some n) at hs = refl
+with_heading-append : (o : Option ℕ) (at : ℕ) (line : List ℕ) (hs : List Heading) → with_heading o at line [] ++ hs ≡ with_heading o at line hs
+with_heading-append None at line hs = refl
+with_heading-append (Some n) at line hs = refl
 
 -- after a run of n stars: `new` is what is found now
 scanned_next : (text : List ℕ) (base from s n : ℕ) (found new : List Heading) (r : Option ℕ) (x y : Bool) → Scanned text base from found → Looked 42 text from r → r ≡ Some s
     → n ≡ stars (take (length text - (from + s)) (drop (from + s) text)) → x ≡ ends_line true (take (from + s) text) → y ≡ eqb (get_or text (from + s + n) 0) 32
-    → with_heading (cond x (cond y (Some n) None) None) (base + (from + s)) [] ≡ new
+    → with_heading (cond x (cond y (Some n) None) None) (base + (from + s)) (line_at (drop (from + s) text)) [] ≡ new
     → Scanned text base (from + s + n) (found ++ new)
 scanned_next text base from s n found new r x y sc h is en ex ey enew =
     let start = from + s in
@@ -265,23 +284,33 @@ scanned_next text base from s n found new r x y sc h is en ex ey enew =
       within = let w = p.within in omega (arith, w, count);
       all =
           append_assoc found new rest ∙ ap (λ hs. found ++ hs) (
-          ap (λ hs. hs ++ rest) (sym enew) ∙ with_heading-append (cond x (cond y (Some n) None) None) (base + start) rest
-          ∙ ap (λ o. with_heading o (base + start) rest) (sym level)
-          ∙ ap (λ k. with_heading (cond (ends_line true (take start text)) (level_of u) None) (base + start) (heads_from (base + k) (ends_line true (take k text)) (drop k text))) (sym next))
+          ap (λ hs. hs ++ rest) (sym enew) ∙ with_heading-append (cond x (cond y (Some n) None) None) (base + start) (line_at u) rest
+          ∙ ap (λ o. with_heading o (base + start) (line_at u) rest) (sym level)
+          ∙ ap (λ k. with_heading (cond (ends_line true (take start text)) (level_of u) None) (base + start) (line_at u) (heads_from (base + k) (ends_line true (take k text)) (drop k text))) (sym next))
           ∙ p.all;
     }
 
-pub scanned_heading : (text : List ℕ) (base from s n : ℕ) (found : List Heading) (r : Option ℕ) (x y : Bool) → Scanned text base from found → Looked 42 text from r → r ≡ Some s
-    → n ≡ stars (take (length text - (from + s)) (drop (from + s) text)) → x ≡ ends_line true (take (from + s) text) → y ≡ eqb (get_or text (from + s + n) 0) 32
-    → x ≡ true → y ≡ true
-    → Scanned text base (from + s + n) (found ++ record { start = base + (from + s); level = n } ∷ [])
-scanned_heading text base from s n found r x y sc h is en ex ey ix iy =
-    scanned_next text base from s n found (record { start = base + (from + s); level = n } ∷ []) r x y sc h is en ex ey (rw (ix, iy) refl)
+-- what the code finds behind the n stars at `start`: the line's rest
+rest_is : (text : List ℕ) (start n : ℕ) → n ≡ stars (drop start text) → drop n (line_at (drop start text)) ≡ line_at (drop (start + n) text)
+rest_is text start n count =
+    let u = drop start text in
+    let split : replicate n 42 ++ drop n u ≡ u = ap (λ k. replicate k 42 ++ drop k u) count ∙ stars-split u in
+    ap (λ u. drop n (line_at u)) (sym split) ∙ ap (drop n) (line_at-stars n (drop n u)) ∙ drop_at (replicate n 42) (line_at (drop n u)) n (length-replicate n 42)
+    ∙ ap line_at (drop-drop n start text)
 
-none_at : (x y : Bool) (n at : ℕ) → (x && y) ≡ false → with_heading (cond x (cond y (Some n) None) None) at [] ≡ []
-none_at true true n at e = absurd cc
-none_at true false n at e = refl
-none_at false y n at e = refl
+pub scanned_heading : (text : List ℕ) (base from s n : ℕ) (found : List Heading) (tail : List ℕ) (r : Option ℕ) (x y : Bool) → Scanned text base from found → Looked 42 text from r → r ≡ Some s
+    → n ≡ stars (take (length text - (from + s)) (drop (from + s) text)) → x ≡ ends_line true (take (from + s) text) → y ≡ eqb (get_or text (from + s + n) 0) 32
+    → x ≡ true → y ≡ true → tail ≡ drop (from + s + n) text
+    → Scanned text base (from + s + n) (found ++ record { start = base + (from + s); level = n; beginnings = beginnings_of (line_at tail) } ∷ [])
+scanned_heading text base from s n found tail r x y sc h is en ex ey ix iy at =
+    let count : n ≡ stars (drop (from + s) text) = en ∙ ap stars (take_rest text (from + s)) in
+    scanned_next text base from s n found (record { start = base + (from + s); level = n; beginnings = beginnings_of (line_at tail) } ∷ []) r x y sc h is en ex ey
+    (rw (ix, iy, rest_is text (from + s) n count ∙ ap line_at (sym at)) refl)
+
+none_at : (x y : Bool) (n at : ℕ) (line : List ℕ) → (x && y) ≡ false → with_heading (cond x (cond y (Some n) None) None) at line [] ≡ []
+none_at true true n at line e = absurd cc
+none_at true false n at line e = refl
+none_at false y n at line e = refl
 
 pub scanned_other : (text : List ℕ) (base from s n : ℕ) (found : List Heading) (r : Option ℕ) (x y : Bool) → Scanned text base from found → Looked 42 text from r → r ≡ Some s
     → n ≡ stars (take (length text - (from + s)) (drop (from + s) text)) → x ≡ ends_line true (take (from + s) text) → y ≡ eqb (get_or text (from + s + n) 0) 32
@@ -289,7 +318,7 @@ pub scanned_other : (text : List ℕ) (base from s n : ℕ) (found : List Headin
     → Scanned text base (from + s + n) found
 scanned_other text base from s n found r x y sc h is en ex ey not_both =
     let P : List Heading → Type 0 = λ hs. Scanned text base (from + s + n) hs in
-    subst P (append-nil found) (scanned_next text base from s n found [] r x y sc h is en ex ey (none_at x y n (base + (from + s)) not_both))
+    subst P (append-nil found) (scanned_next text base from s n found [] r x y sc h is en ex ey (none_at x y n (base + (from + s)) (line_at (drop (from + s) text)) not_both))
 
 -- a pass that puts what it finds behind others
 pub record ScannedOnto (text : List ℕ) (base from : ℕ) (held all : List Heading) : Type 0 where

@@ -1,4 +1,4 @@
--- The title of a heading line, or a priority before it, stands behind the gap or behind the first
+-- The title of a heading line, or a priority before it, begins_so behind the gap or behind the first
 -- word after it.
 use Rattle.std.proofs.Common.{◌≡◌, ℕ, zero, suc, ◌+◌, ◌-◌, ◌<◌, Bool, true, false, ◌&&◌, ◌||◌, eqb, List, [], ◌∷◌, ◌++◌, length, take, drop, refl, sym, ap, subst, ◌∙◌, append_assoc, arith, inl, inr, eq-eqb}
 use Rattle.std.specs.Prelude.{◌⊎◌, slice_index}
@@ -14,7 +14,8 @@ use Rattle.org_splice.specs.Blanks.{is_blank, is_trailing, is_solid, front, behi
 use Rattle.org_splice.proofs.Ends.{both, kept_end}
 use Rattle.org_outline.specs.States.{Keywords, has_word}
 use Rattle.org_outline.specs.Parts.{tags_of, keyword_of, priority_of, after_keyword, after_priority, without_blanks}
-use Rattle.org_outline.specs.Paths.{title_of, can_begin, begins_with_digit}
+use Rattle.org_outline.specs.Beginnings.{first_place, second_place, beginning_of, may_begin, may_begin_date, beginnings_of}
+use Rattle.org_outline.specs.Paths.{title_of, can_begin}
 
 -- ---- the bytes behind those that pass
 
@@ -58,9 +59,6 @@ behind-more p (a ∷ l) z some =
       | inr e ↦ rw e refl
     ]
 
-behind-nothing : (p : ℕ → Bool) (l : List ℕ) → l ≡ [] → length (behind p l) ≡ 0
-behind-nothing p l e = rw e refl
-
 -- ---- where a title begins
 
 -- the title, or the bracket of a priority before it
@@ -99,13 +97,6 @@ begins (a ∷ b ∷ x ∷ c ∷ l) z m none =
       | inr e ↦ short (a ∷ b ∷ x ∷ c ∷ l) z m (rw e refl) none
     ]
 
--- the places of a line's tail
-abbrev pub first_place : List ℕ → List ℕ
-first_place tail = behind is_blank tail
-
-abbrev pub second_place : List ℕ → List ℕ
-second_place tail = behind is_blank (behind is_solid (behind is_blank tail))
-
 abbrev Somewhere : List ℕ → List ℕ → Type 0
 Somewhere title tail = Begins title (first_place tail) ⊎ Begins title (second_place tail)
 
@@ -114,7 +105,7 @@ nothing_left [] zero e = refl
 nothing_left [] (suc m) e = refl
 nothing_left (a ∷ l) m e = absurd (omega (arith, e))
 
--- behind the gap, where no keyword stands there
+-- behind the gap, where no keyword begins_so there
 without_keyword : (states : Keywords) (content z : List ℕ) (m : ℕ) → prefix_len is_blank content ≡ 0 → keyword_of states content ≡ []
     → Begins (left_of (after_keyword states content) m) (content ++ z)
 without_keyword states content z m none no_word =
@@ -139,16 +130,13 @@ behind_keyword states content z m word some =
     subst (λ (l : List ℕ). Begins (left_of l m) (behind is_blank (behind is_solid (content ++ z)))) (sym next)
     (subst (λ (place : List ℕ). Begins (left_of (behind is_blank w) m) place) (sym there) found)
 
-somewhere : (states : Keywords) (rest more : List ℕ) → 0 < length (title_of states rest) → Somewhere (title_of states rest) (rest ++ 10 ∷ more)
-somewhere states rest more some =
+somewhere : (states : Keywords) (rest tail z : List ℕ) → first_place tail ≡ trimmed rest ++ z → 0 < length (title_of states rest) → Somewhere (title_of states rest) tail
+somewhere states rest tail z here some =
     let after = behind is_blank rest in
     let content = trimmed rest in
-    let z = end_of is_trailing after ++ 10 ∷ more in
     let run = front is_solid content in
     let m = length (after_priority (after_keyword states content)) - length (tags_of content) in
     let none : prefix_len is_blank content ≡ 0 = take-none is_blank (length after - suffix_len is_trailing after) after (behind-none is_blank rest) in
-    let here : first_place (rest ++ 10 ∷ more) ≡ content ++ z =
-    behind-stop is_blank rest 10 more refl ∙ ap (λ l. l ++ 10 ∷ more) (kept_end is_trailing after) ∙ append_assoc content (end_of is_trailing after) (10 ∷ more) in
     let P : List ℕ → Type 0 = λ place. Begins (title_of states rest) place in
     elim (cases_Bool (has_word states.active run || has_word states.done run)) [
       | inl e ↦
@@ -158,6 +146,20 @@ somewhere states rest more some =
           let word : keyword_of states content ≡ [] = rw e refl in
           inl (subst P (sym here) (without_keyword states content z m none word))
     ]
+
+-- in the rest of the line, and in all that follows its stars
+in_rest : (states : Keywords) (rest : List ℕ) → 0 < length (title_of states rest) → Somewhere (title_of states rest) rest
+in_rest states rest some =
+    let after = behind is_blank rest in
+    somewhere states rest rest (end_of is_trailing after) (kept_end is_trailing after) some
+
+in_tail : (states : Keywords) (rest more : List ℕ) → 0 < length (title_of states rest) → Somewhere (title_of states rest) (rest ++ 10 ∷ more)
+in_tail states rest more some =
+    let after = behind is_blank rest in
+    let content = trimmed rest in
+    let here : first_place (rest ++ 10 ∷ more) ≡ content ++ (end_of is_trailing after ++ 10 ∷ more) =
+    behind-stop is_blank rest 10 more refl ∙ ap (λ l. l ++ 10 ∷ more) (kept_end is_trailing after) ∙ append_assoc content (end_of is_trailing after) (10 ∷ more) in
+    somewhere states rest (rest ++ 10 ∷ more) (end_of is_trailing after ++ 10 ∷ more) here some
 
 -- ---- what the tests of the two places say
 
@@ -185,12 +187,56 @@ no_title states rest more title tail split some first second =
     elim (cases_Bool (bytes_eq (title_of states rest) title)) [
       | inl e ↦
           let is : title_of states rest ≡ title = (bytes_eq-Decides (title_of states rest) title).0 e in
-          let found = somewhere states rest more (omega (arith, some, ap length is)) in
+          let found = in_tail states rest more (omega (arith, some, ap length is)) in
           absurd (none_of title tail (subst (λ (t : List ℕ). Somewhere title t) (sym split) (subst (λ (t : List ℕ). Somewhere t (rest ++ 10 ∷ more)) is found)) first second)
       | inr e ↦ e
     ]
 
-no_digit_at : (title place : List ℕ) → Begins title place → 0 < length title → begins_with_digit place ≡ false → is_ascii_digit (slice_index title 0) ≡ false
+-- ---- what the kept bytes say
+
+-- a second byte that doesn't fit is another one
+pub fits_next : (b n p : ℕ) → p ≡ n → (eqb b b && (eqb n 0 || eqb p n)) ≡ true
+fits_next b n p is =
+    let same : eqb b b ≡ true = eq-eqb b b refl in
+    let there : eqb p n ≡ true = eq-eqb p n is in
+    rw (same, there) (elim (cases_Bool (eqb n 0)) [ inl e ↦ rw e refl | inr e ↦ rw e refl ])
+
+begins_so : (title place : List ℕ) → 0 < length title → Begins title place → may_begin (beginning_of title) (beginning_of place) ≡ false → ⊥
+begins_so title place some (inl bracket) fails =
+    let first = (neither (eqb (slice_index place 0) 91) (eqb (slice_index place 0) (slice_index title 0) && (eqb (slice_index title 1) 0 || eqb (slice_index place 1) (slice_index title 1))) fails).0 in
+    let yes : eqb (slice_index place 0) 91 ≡ true = eq-eqb (slice_index place 0) 91 bracket in
+    absurd cc
+begins_so [] place some (inr (more, is)) fails = absurd (omega (arith, some))
+begins_so (b ∷ []) place some (inr (more, is)) fails =
+    let second = (neither (eqb (slice_index place 0) 91) (eqb (slice_index place 0) b && true) fails).1 in
+    let yes : eqb (slice_index place 0) b ≡ true = eq-eqb (slice_index place 0) b (ap (λ l. slice_index l 0) is) in
+    let no_more = rw yes at second in absurd cc
+begins_so (b ∷ c ∷ title) place some (inr (more, is)) fails =
+    let second = (neither (eqb (slice_index place 0) 91) (eqb (slice_index place 0) b && (eqb c 0 || eqb (slice_index place 1) c)) fails).1 in
+    let first_is : slice_index place 0 ≡ b = ap (λ l. slice_index l 0) is in
+    let next_is : slice_index place 1 ≡ c = ap (λ l. slice_index l 1) is in
+    let all = ap (λ k. eqb k b && (eqb c 0 || eqb (slice_index place 1) c)) first_is ∙ fits_next b c (slice_index place 1) next_is in
+    absurd cc
+
+begins_nowhere : (title rest : List ℕ) → 0 < length title → Somewhere title rest → may_begin (beginning_of title) (beginnings_of rest).first ≡ false
+    → may_begin (beginning_of title) (beginnings_of rest).second ≡ false → ⊥
+begins_nowhere title rest some (inl found) first second = begins_so title (first_place rest) some found first
+begins_nowhere title rest some (inr found) first second = begins_so title (second_place rest) some found second
+
+pub cannot_begin : (states : Keywords) (rest title : List ℕ) → 0 < length title
+    → (may_begin (beginning_of title) (beginnings_of rest).first || may_begin (beginning_of title) (beginnings_of rest).second) ≡ false
+    → bytes_eq (title_of states rest) title ≡ false
+cannot_begin states rest title some fails =
+    let both_fail = neither (may_begin (beginning_of title) (beginnings_of rest).first) (may_begin (beginning_of title) (beginnings_of rest).second) fails in
+    elim (cases_Bool (bytes_eq (title_of states rest) title)) [
+      | inl e ↦
+          let is : title_of states rest ≡ title = (bytes_eq-Decides (title_of states rest) title).0 e in
+          let found = in_rest states rest (omega (arith, some, ap length is)) in
+          absurd (begins_nowhere title rest some (subst (λ (t : List ℕ). Somewhere t rest) is found) both_fail.0 both_fail.1)
+      | inr e ↦ e
+    ]
+
+no_digit_at : (title place : List ℕ) → Begins title place → 0 < length title → may_begin_date (beginning_of place) ≡ false → is_ascii_digit (slice_index title 0) ≡ false
 no_digit_at [] place found some fails = absurd (omega (arith, some))
 no_digit_at (b ∷ title) place (inl bracket) some fails =
     let first = (neither (eqb (slice_index place 0) 91) (is_ascii_digit (slice_index place 0)) fails).0 in
@@ -200,18 +246,20 @@ no_digit_at (b ∷ title) place (inr (more, is)) some fails =
     let second = (neither (eqb (slice_index place 0) 91) (is_ascii_digit (slice_index place 0)) fails).1 in
     sym (ap (λ l. is_ascii_digit (slice_index l 0)) is) ∙ second
 
-no_digit_in : (title tail : List ℕ) → Somewhere title tail → 0 < length title → begins_with_digit (first_place tail) ≡ false → begins_with_digit (second_place tail) ≡ false → is_ascii_digit (slice_index title 0) ≡ false
-no_digit_in title tail (inl found) some first second = no_digit_at title (first_place tail) found some first
-no_digit_in title tail (inr found) some first second = no_digit_at title (second_place tail) found some second
+no_digit_in : (title rest : List ℕ) → Somewhere title rest → 0 < length title → may_begin_date (beginnings_of rest).first ≡ false → may_begin_date (beginnings_of rest).second ≡ false
+    → is_ascii_digit (slice_index title 0) ≡ false
+no_digit_in title rest (inl found) some first second = no_digit_at title (first_place rest) found some first
+no_digit_in title rest (inr found) some first second = no_digit_at title (second_place rest) found some second
 
 of_some : (title : List ℕ) → (0 < length title → is_ascii_digit (slice_index title 0) ≡ false) → is_ascii_digit (slice_index title 0) ≡ false
 of_some [] f = refl
 of_some (b ∷ title) f = f (omega arith)
 
-pub no_digit : (states : Keywords) (rest more tail : List ℕ) → tail ≡ rest ++ 10 ∷ more → begins_with_digit (first_place tail) ≡ false → begins_with_digit (second_place tail) ≡ false
+pub no_date : (states : Keywords) (rest : List ℕ) → (may_begin_date (beginnings_of rest).first || may_begin_date (beginnings_of rest).second) ≡ false
     → is_ascii_digit (slice_index (title_of states rest) 0) ≡ false
-no_digit states rest more tail split first second =
-    of_some (title_of states rest) (λ some. no_digit_in (title_of states rest) tail (subst (λ (t : List ℕ). Somewhere (title_of states rest) t) (sym split) (somewhere states rest more some)) some first second)
+no_date states rest fails =
+    let no = neither (may_begin_date (beginnings_of rest).first) (may_begin_date (beginnings_of rest).second) fails in
+    of_some (title_of states rest) (λ some. no_digit_in (title_of states rest) rest (in_rest states rest some) some no.0 no.1)
 
 -- ---- the same as the code says it
 
@@ -221,10 +269,3 @@ pub no_title_read : (states : Keywords) (rest more title tail first second : Lis
 no_title_read states rest more title tail first second r s split some fe se re r_is ce s_is =
     no_title states rest more title tail split some (ap (λ place. can_begin place title) (sym fe) ∙ sym re ∙ r_is)
     (ap (λ place. can_begin place title) (sym (se ∙ ap (λ l. behind is_blank (behind is_solid l)) fe)) ∙ sym ce ∙ s_is)
-
-pub no_digit_read : (states : Keywords) (rest more tail first second : List ℕ) (r s : Bool) → tail ≡ rest ++ 10 ∷ more
-    → first ≡ first_place tail → second ≡ behind is_blank (behind is_solid first) → r ≡ begins_with_digit first → r ≡ false → s ≡ begins_with_digit second → s ≡ false
-    → is_ascii_digit (slice_index (title_of states rest) 0) ≡ false
-no_digit_read states rest more tail first second r s split fe se re r_is ce s_is =
-    no_digit states rest more tail split (ap begins_with_digit (sym fe) ∙ sym re ∙ r_is)
-    (ap begins_with_digit (sym (se ∙ ap (λ l. behind is_blank (behind is_solid l)) fe)) ∙ sym ce ∙ s_is)

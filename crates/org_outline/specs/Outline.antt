@@ -1,14 +1,16 @@
--- What is kept of a text's headings: where each begins, and its level.
+-- What is kept of a text's headings: where each begins, its level, and how its title
+-- can begin.
 use Rattle.std.specs.Prelude.{◌≡◌, ℕ, suc, nat_lt, Bool, ◌==◌, Option, Some, None, if◌then◌else◌, [], ◌∷◌, ◌+◌, List, map, find, length, nat_le, slice_range, ◌-◌, ◌<◌, ◌≤◌, ◌^◌, take, drop}
 use Rattle.std.specs.Option.{option_map_or}
 use Rattle.org_outline.specs.declared.heads.Heading.{Heading}
 use Rattle.org_splice.specs.declared.Span.{Span}
 use Rattle.org_splice.specs.Lines.{terminated, print_lines}
-use Rattle.org_outline.specs.Text.{level_of, heading_line}
+use Rattle.org_outline.specs.Beginnings.{beginnings_of}
+use Rattle.org_outline.specs.Text.{level_of, heading_line, line_at}
 use Rattle.org_outline.specs.Tree.{Placed, own_lines, print_node, nodes_of}
 
 abbrev pub heading_of : Placed → Heading
-heading_of p = record { start = p.at; level = p.node.level }
+heading_of p = record { start = p.at; level = p.node.level; beginnings = beginnings_of p.node.rest }
 
 -- the headings of a text, in document order
 abbrev pub headings_of : List ℕ → List Heading
@@ -51,16 +53,19 @@ abbrev pub ends_line : Bool → List ℕ → Bool
 ends_line before [] = before
 ends_line before (b ∷ bs) = ends_line (b == 10) bs
 
-abbrev pub with_heading : Option ℕ → ℕ → List Heading → List Heading
-with_heading None at hs = hs
-with_heading (Some n) at hs = record { start = at; level = n } ∷ hs
+-- a heading in front of others, where the line that begins at `at` has a level
+abbrev pub with_heading : Option ℕ → ℕ → List ℕ → List Heading → List Heading
+with_heading None at line hs = hs
+with_heading (Some n) at line hs =
+    record { start = at; level = n; beginnings = beginnings_of (drop n line) } ∷ hs
 
 -- the headings of a text that begins at `at` of another one; `fresh` says whether a line begins
 -- there
 abbrev pub heads_from : ℕ → Bool → List ℕ → List Heading
 heads_from at fresh [] = []
 heads_from at fresh (b ∷ bs) =
-    with_heading (if fresh then level_of (b ∷ bs) else None) at (heads_from (suc at) (b == 10) bs)
+    with_heading (if fresh then level_of (b ∷ bs) else None) at (line_at (b ∷ bs))
+    (heads_from (suc at) (b == 10) bs)
 
 -- ---- an edit
 
@@ -79,7 +84,8 @@ pub record IsEdit (headings : List Heading) (after : List ℕ) (at removed added
 
 -- a heading behind an edit, moved by it
 abbrev pub moved : ℕ → ℕ → Heading → Heading
-moved removed added h = record { start = h.start - removed + added; level = h.level }
+moved removed added h =
+    record { start = h.start - removed + added; level = h.level; beginnings = h.beginnings }
 
 pub record CanMove (removed added : ℕ) (h : Heading) : Type 0 where
   pub low : removed ≤ h.start

@@ -1,9 +1,20 @@
-use Rattle.std.proofs.Common.{◌∙◌, ◌+◌, ◌++◌, [], ◌∷◌, ap, arith, refl}
-use Rattle.org_splice.proofs.Splicing.{where_true}
-use Rattle.org_outline.specs.declared.heads.Heading.{Heading}
+use Rattle.std.proofs.Common.{◌≡◌, ◌∙◌, ◌++◌, Bool, true, false, take, ap, sym, arith, refl}
+use Rattle.std.specs.Prelude.{OnOk, OnErr, Result, Ok, Err}
+use Rattle.std.specs.Result.{is_err}
+use Rattle.std.proofs.lemmas.List.{take_at}
+use Rattle.std.specs.declared.alloc.AllocError.{AllocError}
 use Rattle.org_outline.proofs.HeadsFrom.{onto_none, onto_more, scanned_heading, scanned_other, scanned_all, run_room}
 use Rattle.org_outline.proofs.heads.scan.Goals as goal
 use Rattle.org_outline.proofs.heads.scan.Goals.{else-is_line_start-via-then-is_line_start+else-has_space, else-is_line_start-via-else-is_line_start}
+
+-- what is so after a call that didn't fail
+ok_is : {P : Type 0} (r : Result (Unit {0}) AllocError) (failed : Bool) → OnOk r P → failed ≡ is_err r → failed ≡ false → P
+ok_is (Ok _) failed so is none = so
+ok_is (Err _) failed so is none = absurd cc
+
+err_is : {P : Type 0} (r : Result (Unit {0}) AllocError) (failed : Bool) → OnErr r P → failed ≡ is_err r → failed ≡ true → P
+err_is (Ok _) failed so is failing = absurd cc
+err_is (Err _) failed so is failing = so
 
 pub loop-skipped-init : goal.loop-skipped-init
 loop-skipped-init c = onto_none _ _ _
@@ -16,10 +27,9 @@ overflow_add-from c =
 pub loop-skipped-preserved-then-has_space : goal.loop-skipped-preserved-then-has_space
 loop-skipped-preserved-then-has_space c =
     let i = c.loop-skipped.invariant in
-    let heading : Heading = record { start = c.args.base + (c.loop-skipped.from + c.in-Some.skipped); level = c.star_count-level.result } in
-    let pushed = where_true c.push.new.self.items (c.loop-skipped.headings.items ++ heading ∷ []) c.loop-skipped.headings.items _ c.push.ensures.items c.if-is_err.ensures.negation in
+    let pushed = ok_is c.push.result _ c.push.ensures.ok c.is_err.ensures.value c.if-is_err.false in
     onto_more _ _ _ _ _ _ _ _ i pushed
-    (scanned_heading _ _ _ _ _ _ _ _ _ i.scanned (record { first = c.memchr.ensures }) c.in-Some.is c.star_count-level.ensures c.is_line_start.ensures c.has_space.ensures c.if-is_line_start.true c.if-has_space.true)
+    (scanned_heading _ _ _ _ _ _ _ _ _ _ i.scanned (record { first = c.memchr.ensures }) c.in-Some.is c.star_count-level.ensures c.is_line_start.ensures c.has_space.ensures c.if-is_line_start.true c.if-has_space.true c.split_at.ensures.back)
 
 pub loop-skipped-preserved : goal.loop-skipped-preserved
 loop-skipped-preserved c =
@@ -46,3 +56,10 @@ returns-clause-ok c =
 
 pub slice_bounds-memchr-count : goal.slice_bounds-memchr-count
 slice_bounds-memchr-count c = omega arith
+
+pub returns-then-is_err-clause-err : goal.returns-then-is_err-clause-err
+returns-then-is_err-clause-err c =
+    let held = c.args.headings.now in
+    let i = c.loop-skipped.invariant in
+    c.truncate.ensures.items ∙ ap (take c.len-count.result) (err_is c.push.result _ c.push.ensures.err c.is_err.ensures.value c.if-is_err.true ∙ i.behind)
+    ∙ take_at held.items i.found c.len-count.result (sym (c.len-count.ensures ∙ held.ok.0))

@@ -1,13 +1,16 @@
-use Rattle.std.proofs.Common.{ℕ, List, sym, ap, ◌∙◌}
-use Rattle.std.specs.Str.{bytes_eq}
-use Rattle.org_outline.specs.Paths.{title_of}
+use Rattle.std.proofs.Common.{◌||◌, ◌<◌, length, ap, sym, arith, ◌∙◌}
+use Rattle.std.proofs.lemmas.Bool.Decides.{nat_tests}
+use Rattle.org_outline.specs.declared.beginnings.Beginnings.{Beginnings}
+use Rattle.org_outline.specs.declared.beginnings.Beginning.{Beginning}
+use Rattle.org_outline.specs.Beginnings.{may_begin, beginning_of}
+use Rattle.org_outline.specs.Tree.{tree, node_at}
+use Rattle.org_outline.proofs.TitlePlaces.{cannot_begin}
 use Rattle.org_outline.proofs.outline.Outline.may_have.Goals as goal
 
-pub returns-else-can_have : goal.returns-else-can_have
-returns-else-can_have c = λ fails.
-    c.can_have.ensures c.args.self.now.states _ c.tail.ensures.0 c.tail.ensures.1 c.if-can_have.false
-
-pub returns-then-can_have : goal.returns-then-can_have
-returns-then-can_have c = λ fails.
-    ap (λ (rest : List ℕ). bytes_eq (title_of c.args.self.now.states rest) c.args.title.now) (sym c.rest.ensures)
-    ∙ c.can_end.ensures c.args.self.now.states fails
+pub returns-else-is_empty : goal.returns-else-is_empty
+returns-else-is_empty c = λ fails.
+    let title = c.args.title.now in
+    let some : 0 < length title = grind (arith, nat_tests) in
+    cannot_begin c.args.self.now.states (node_at (tree c.args.self.now.text) c.args.node).node.rest title some
+    (ap (λ (f : Beginnings). may_begin (beginning_of title) f.first || may_begin (beginning_of title) f.second) (sym c.beginnings.ensures)
+    ∙ ap (λ (o : Beginning). may_begin o c.beginnings.result.first || may_begin o c.beginnings.result.second) (sym c.of.ensures) ∙ sym c.allow.ensures ∙ fails)

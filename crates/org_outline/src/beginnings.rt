@@ -1,0 +1,110 @@
+//! How a heading line lets its title begin.
+//!
+//! The title, or a priority before it, stands behind the gap, or behind the first word there, which
+//! may be a keyword. Two bytes of each place are kept with the heading, so that a look-up by title
+//! reads few lines.
+ghost use Rattle.std.specs.Prelude.{◌≡◌, ◌≤◌, ◌||◌, length};
+ghost use Rattle.std.specs.List.{prefix_len};
+ghost use Rattle.org_outline.specs.Beginnings.{beginning_of, beginnings_of, is_of_word, may_begin, may_begin_date};
+ghost use Rattle.org_outline.specs.Text.{line_at};
+
+use org_splice::blanks::{behind_blanks, is_blank};
+
+/// The first two bytes of a title, or of a place where one can stand; 0 where there is none.
+#[derive(Clone, Copy)]
+pub(crate) struct Beginning {
+    pub(crate) byte: u8,
+    pub(crate) next: u8,
+}
+
+/// What stands at the two places of a heading line.
+#[derive(Clone, Copy)]
+pub(crate) struct Beginnings {
+    /// Behind the gap.
+    pub(crate) first: Beginning,
+    /// Behind the first word there.
+    pub(crate) second: Beginning,
+}
+
+/// How many bytes of its line a text begins with that are no blanks: a word, which is short.
+fn word_len(text: &[u8]) -> usize
+    ensures count { result ≡ prefix_len is_of_word text.now }
+    ensures within { result ≤ length text.now }
+{
+    for (count, byte) in text.iter().enumerate() {
+        if is_blank(*byte) || *byte == b'\n' {
+            return count;
+        }
+    }
+    text.len()
+}
+
+impl Beginning {
+    /// The first two of these bytes.
+    pub(crate) fn of(bytes: &[u8]) -> Beginning
+        ensures { result ≡ beginning_of bytes.now }
+    {
+        let (byte, next) = match bytes {
+            [] => (0, 0),
+            [byte] => (*byte, 0),
+            [byte, next, ..] => (*byte, *next),
+        };
+        Beginning { byte, next }
+    }
+
+    /// Those of the line that a text begins with.
+    fn of_line(text: &[u8]) -> Beginning
+        ensures { result ≡ beginning_of (line_at text.now) }
+    {
+        let (byte, next) = match text {
+            [] | [b'\n', ..] => (0, 0),
+            [byte] => (*byte, 0),
+            [byte, b'\n', ..] => (*byte, 0),
+            [byte, next, ..] => (*byte, *next),
+        };
+        Beginning { byte, next }
+    }
+
+    /// Whether a title that begins so may stand at a place, or behind a priority there.
+    fn may_begin(self, place: Beginning) -> bool
+        ensures { result ≡ may_begin self place }
+    {
+        place.byte == b'['
+            || (place.byte == self.byte && (self.next == 0 || place.next == self.next))
+    }
+
+    /// Whether a title that begins with a digit may stand at this place, or behind a priority there.
+    fn may_begin_date(self) -> bool
+        ensures { result ≡ may_begin_date self }
+    {
+        self.byte == b'[' || self.byte.is_ascii_digit()
+    }
+}
+
+impl Beginnings {
+    /// The beginnings of a heading line, by what stands behind its stars and all that follows it.
+    pub(crate) fn of_line(tail: &[u8]) -> Beginnings
+        ensures { result ≡ beginnings_of (line_at tail.now) }
+    {
+        let place = behind_blanks(tail);
+        let word = place.split_at(word_len(place)).1;
+        Beginnings {
+            first: Beginning::of_line(place),
+            second: Beginning::of_line(behind_blanks(word)),
+        }
+    }
+
+    /// Whether the line may have a title that begins so.
+    pub(crate) fn allow(self, title: Beginning) -> bool
+        ensures { result ≡ (may_begin title self.first || may_begin title self.second) }
+    {
+        title.may_begin(self.first) || title.may_begin(self.second)
+    }
+
+    /// Whether it may have a title that begins with a digit.
+    pub(crate) fn allow_digit(self) -> bool
+        ensures { result ≡ (may_begin_date self.first || may_begin_date self.second) }
+    {
+        self.first.may_begin_date() || self.second.may_begin_date()
+    }
+}
