@@ -9,7 +9,7 @@ mod refusals;
 
 use crate::disk::name_of;
 use org_disk::{Disk, DiskFault, FileName};
-use org_folder::{Calls, CallsDisk, FolderDisk, Start, Unknown, lock_folder};
+use org_folder::{AbsentNames, Calls, CallsDisk, FolderDisk, Start, Unknown, lock_folder};
 use std::fs::{Files, Permissions};
 use std::os::unix::fs::{FileExt, PermissionsExt, symlink};
 use std::process::Abort;
@@ -83,7 +83,13 @@ where
     ensures { record_of result ≡ [] }
 {
     let folder = lock_folder(host, folder).expect(rt, "not locked");
-    FolderDisk::new(system, host.alloc(), &folder).expect(rt, "memory")
+    FolderDisk::new(
+        system,
+        host.alloc(),
+        &folder,
+        AbsentNames::none(host.alloc()),
+    )
+    .expect(rt, "memory")
 }
 
 // A call of a disk on a file.

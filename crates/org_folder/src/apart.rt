@@ -9,9 +9,10 @@ ghost use Rattle.org_folder.specs.Apart.{is_again, is_same, MayReport};
 ghost use Rattle.org_folder.specs.Faults.{IsReportedAs};
 ghost use Rattle.org_folder.specs.declared.apart.AliasFault.TheVariants.{Device, OutOfMemory};
 
+use crate::absent_names::AbsentNames;
 use crate::lock::LockedFolder;
 use org_disk::FileName;
-use std::alloc::AllocError;
+use std::alloc::{AllocError, Global};
 use std::fs::{self, Files, Metadata};
 use std::io::{self, ErrorKind};
 use std::os::unix::fs::MetadataExt;
@@ -47,23 +48,44 @@ pub struct Node {
     number: u64,
 }
 
-/// Looks where names of a locked folder lead, and reports the first that leads to the file of one
-/// before it. Links are followed; a name without a file leads nowhere. It changes nothing.
+/// Looks where names of a locked folder lead, and answers those that lead nowhere: no file is
+/// there. Links are followed. It changes nothing.
 ///
 /// What the system answers of a name is no clause, so whether two names lead to one file isn't
 /// either.
+///
+/// # Errors
+///
+/// - `SameFile`: the first name that leads to the file of one before it.
+/// - `Device`: a name can't be looked at.
+/// - `OutOfMemory`.
 pub fn check_aliases<R: Files + AllocGlobal>(
     rt: &R,
     folder: &LockedFolder<'_>,
     names: &[FileName],
-) -> Result<(), AliasFault>
+) -> Result<AbsentNames, AliasFault>
     ensures { IfErr result (MayReport names.now) }
 {
     let nodes = nodes_of(rt, folder.path(), names)?;
     match first_again(nodes.as_slice()) {
         Some(at) => Err(AliasFault::SameFile(names[at].clone()?)),
-        None => Ok(()),
+        None => Ok(absent_of(rt.alloc(), names, nodes.as_slice())?),
     }
+}
+
+// The names that lead nowhere.
+fn absent_of(
+    alloc: Global,
+    names: &[FileName],
+    nodes: &[Option<Node>],
+) -> Result<AbsentNames, AllocError> {
+    let mut absent = AbsentNames::none(alloc);
+    for (name, node) in names.iter().zip(nodes.iter()) {
+        if node.is_none() {
+            absent.insert(name.clone()?)?;
+        }
+    }
+    Ok(absent)
 }
 
 // The files that these names lead to, one by one.

@@ -8,6 +8,7 @@ ghost use Rattle.org_folder.specs.Calls.{LeftSince};
 ghost use Rattle.org_folder.specs.FolderDisk.{path_of, record_of};
 ghost use Rattle.org_folder.specs.Right.{file_of, HasBeenRight};
 
+use crate::absent_names::AbsentNames;
 use crate::calls::{Calls, SystemCalls};
 use crate::folder::Folder;
 use crate::lock::LockedFolder;
@@ -70,7 +71,8 @@ where
     R::File: FileExt,
 {
     /// The disk of a locked folder, by the folder's path. It makes no call of the system, and its
-    /// record is empty. The folder is to be kept as long as the disk.
+    /// record is empty. The folder is to be kept as long as the disk. Of names that were found
+    /// absent since the folder was locked, the first call on each doesn't look again.
     ///
     /// # Errors
     ///
@@ -79,12 +81,14 @@ where
         rt: R,
         alloc: Global,
         folder: &LockedFolder<'_>,
+        absent: AbsentNames,
     ) -> Result<FolderDisk<R, S>, AllocError>
         ensures failures { IfOk result (λ disk. disk.failures ≡ 0) }
         ensures empty { IfOk result (λ disk. record_of disk ≡ []) }
         ensures path { IfOk result (λ disk. path_of disk ≡ folder.now.path.now) }
     {
-        Ok(CallsDisk::over(alloc, SystemCalls::new(rt, alloc, folder.path())?))
+        let calls = SystemCalls::new(rt, alloc, folder.path(), absent)?;
+        Ok(CallsDisk::over(alloc, calls))
     }
 }
 

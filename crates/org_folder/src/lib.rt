@@ -9,6 +9,7 @@
 //! makes, and no other proof by hand may set a record.
 #![tactic(auto)]
 
+mod absent_names;
 mod apart;
 mod calls;
 mod disk;
@@ -19,6 +20,7 @@ mod lock;
 mod record;
 mod start;
 
+pub use absent_names::AbsentNames;
 pub use apart::{AliasFault, Node, check_aliases};
 pub use calls::{Calls, Opened, SystemCalls};
 pub use disk::{CallsDisk, FolderDisk};

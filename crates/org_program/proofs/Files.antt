@@ -18,9 +18,9 @@ shared new listed states apart.Device good accepted org may = (good, accepted)
 shared new listed states apart.OutOfMemory good accepted org may = tt
 
 -- a name that is told of the files is one of the store's
-pub may_share : (names files : List (List ℕ)) → AreFew names → AreSorted (journal_name ∷ with_archives names) files → (result : Result (Unit {0}) AliasFault) → IfErr result (MayReport files)
+pub may_share : {T : Type 0} (names files : List (List ℕ)) → AreFew names → AreSorted (journal_name ∷ with_archives names) files → (result : Result T AliasFault) → IfErr result (MayReport files)
     → IfErr result (MayShare names)
-may_share names files few sorted (Ok done) may = tt
+may_share names files few sorted (Ok absent) may = tt
 may_share names files few sorted (Err (apart.SameFile name)) may = record { few = few; files = files; sorted = sorted; behind = may }
 may_share names files few sorted (Err apart.Device) may = few
 may_share names files few sorted (Err apart.OutOfMemory) may = tt

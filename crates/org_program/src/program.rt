@@ -17,8 +17,8 @@ use crate::names::new_names;
 use crate::states::states;
 use org_disk::FileName;
 use org_folder::{
-    AliasFault, FolderDisk, LockedFolder, Start, check_aliases, fill_streams, lock_folder,
-    org_files,
+    AbsentNames, AliasFault, FolderDisk, LockedFolder, Start, check_aliases, fill_streams,
+    lock_folder, org_files,
 };
 use org_serve::{ServeEnd, Served, Setup, Sink, Source, file_names, serve_synced};
 use org_store::OpenFault;
@@ -97,8 +97,8 @@ fn serve<S: Start, R: Source, W: Sink>(
         (IsCause (map string_bytes arguments.now.new.items) (states_in arguments.now)) }
 {
     // The folder is locked until all is served.
-    let (setup, folder) = setup(rt, arguments)?;
-    let disk = FolderDisk::new(rt.clone()?, rt.alloc(), &folder)?;
+    let (setup, folder, absent) = setup(rt, arguments)?;
+    let disk = FolderDisk::new(rt.clone()?, rt.alloc(), &folder, absent)?;
     Ok(serve_synced(rt.alloc(), disk, setup, reader, writer, TURNS))
 }
 
@@ -113,8 +113,11 @@ fn reported(end: Result<ServeEnd, OpenFault>) -> Result<(), Fault>
     }
 }
 
-// What the store is opened with, and its folder, locked.
-fn setup<'a>(rt: &HostRuntime, arguments: &'a Arguments) -> Result<(Setup, LockedFolder<'a>), Fault>
+// What the store is opened with, its folder, locked, and which of its files aren't there.
+fn setup<'a>(
+    rt: &HostRuntime,
+    arguments: &'a Arguments,
+) -> Result<(Setup, LockedFolder<'a>, AbsentNames), Fault>
     requires { IsGroupSize arguments.now.group }
     ensures folder { IfOk result (λ made. made.1.path.now ≡ string_bytes arguments.now.folder) }
     ensures names { IfOk result (λ made. All IsOrgFile made.0.names.items) }
@@ -126,7 +129,7 @@ fn setup<'a>(rt: &HostRuntime, arguments: &'a Arguments) -> Result<(Setup, Locke
     let states = states(rt.alloc(), &arguments.todo, &arguments.done)?;
     let folder = lock_folder(rt, &arguments.folder)?;
     names.append(&mut org_files(rt, &folder)?)?;
-    check_files(rt, &folder, &names)?;
+    let absent = check_files(rt, &folder, &names)?;
     let group = arguments.group;
     Ok((
         Setup {
@@ -135,21 +138,22 @@ fn setup<'a>(rt: &HostRuntime, arguments: &'a Arguments) -> Result<(Setup, Locke
             group,
         },
         folder,
+        absent,
     ))
 }
 
-// Whether the files of a store with these names are one each. Too many names are reported by the
-// opening.
+// Checks that the files of a store with these names are one each, and answers which aren't there.
+// Too many names are reported by the opening.
 fn check_files(
     rt: &HostRuntime,
     folder: &LockedFolder<'_>,
     names: &[FileName],
-) -> Result<(), AliasFault>
+) -> Result<AbsentNames, AliasFault>
     requires { All IsOrgFile names.now }
     ensures { IfErr result (MayShare names.now) }
 {
     match file_names(rt.alloc(), names)? {
         Some(files) => check_aliases(rt, folder, &files),
-        None => Ok(()),
+        None => Ok(AbsentNames::none(rt.alloc())),
     }
 }

@@ -1,8 +1,8 @@
 //! What calls of a disk do to the files of a folder.
-use super::{Call, Entry, Step, disk, go, is_there, make_folder, remove};
+use super::{Call, Entry, Step, disk, go, holds, is_there, make, make_folder, remove};
 use crate::disk::{hold, name_of};
-use org_disk::{Disk, DiskFault};
-use org_folder::{FolderDisk, Start};
+use org_disk::{Disk, DiskFault, FileName};
+use org_folder::{FolderDisk, Start, Unknown, check_aliases, lock_folder};
 use std::process::Abort;
 
 // What a disk does to no file makes none.
@@ -157,4 +157,46 @@ fn absent_where_a_byte_is_supposed(rt: HostRuntime) {
     hold(&rt, fails(&rt, &rt, true) && fails(&rt, &rt, false));
     hold(&rt, !is_there(&rt, "supposed/a.org"));
     remove(&rt, &rt, "supposed");
+}
+
+// The disk of a folder in which this file was found absent.
+fn disk_without(
+    rt: &impl Abort,
+    host: &HostRuntime,
+    folder: &str,
+    name: &FileName,
+) -> FolderDisk<HostRuntime, Unknown> {
+    let folder = lock_folder(host, folder).expect(rt, "not locked");
+    let names = vec![in host.alloc(); name.clone().expect(rt, "memory")].expect(rt, "memory");
+    let absent = check_aliases(host, &folder, &names).expect(rt, "no aliases");
+    let own = host.clone().expect(rt, "memory");
+    FolderDisk::new(own, host.alloc(), &folder, absent).expect(rt, "memory")
+}
+
+// A file that was found absent is believed to be so by the first call, and once more by the next:
+// then what another program made there is seen.
+#[test]
+fn found_absent(rt: HostRuntime) {
+    make_folder(&rt, &rt, "known", &[]);
+    let name = name_of(&rt, rt.alloc(), "a.org");
+    let mut disk = disk_without(&rt, &rt, "known", &name);
+    make(&rt, "known/a.org", &Entry::File(b"* A\n")).expect(&rt, "not made");
+    hold(&rt, disk.length(&name) == Ok(0));
+    hold(&rt, disk.length(&name) == Ok(0));
+    hold(&rt, disk.length(&name) == Ok(4));
+    drop(disk);
+    remove(&rt, &rt, "known");
+}
+
+// A file that was found absent and is made is there.
+#[test]
+fn found_absent_and_made(rt: HostRuntime) {
+    make_folder(&rt, &rt, "new", &[]);
+    let name = name_of(&rt, rt.alloc(), "a.org");
+    let mut disk = disk_without(&rt, &rt, "new", &name);
+    hold(&rt, disk.write_at(&name, 0, b"* A\n").is_ok());
+    hold(&rt, disk.length(&name) == Ok(4));
+    drop(disk);
+    hold(&rt, holds(&rt, &rt, "new/a.org", b"* A\n"));
+    remove(&rt, &rt, "new");
 }

@@ -8,6 +8,7 @@ ghost use Rattle.std.specs.Path.{path_buf_bytes, path_join};
 ghost use Rattle.org_folder.specs.Note.{event_of};
 
 use super::{Calls, Opened};
+use crate::absent_names::AbsentNames;
 use crate::record::{Call, Record};
 use crate::start::Start;
 use org_disk::{DiskFault, FileName};
@@ -28,6 +29,8 @@ use std::{fs, io};
 pub struct SystemCalls<R: Files, S: Start> {
     rt: R,
     path: String,
+    // names without a file, as the folder was looked at before the first call; each is believed once
+    absent: AbsentNames,
     // the folder was synced, and this has made no file since
     is_synced: bool,
     pub(crate) log: Record,
@@ -38,13 +41,19 @@ impl<R: Files + AllocGlobal + Drop, S: Start> SystemCalls<R, S>
 where
     R::File: FileExt,
 {
-    pub(crate) fn new(rt: R, alloc: Global, path: &str) -> Result<SystemCalls<R, S>, AllocError>
+    pub(crate) fn new(
+        rt: R,
+        alloc: Global,
+        path: &str,
+        absent: AbsentNames,
+    ) -> Result<SystemCalls<R, S>, AllocError>
         ensures empty { IfOk result (λ calls. calls.log.events ≡ []) }
         ensures path { IfOk result (λ calls. string_bytes calls.path ≡ path.now) }
     {
         Ok(SystemCalls {
             rt,
             path: String::from_str(alloc, path)?,
+            absent,
             is_synced: false,
             log: Record::new(),
             start: PhantomData,
@@ -137,6 +146,10 @@ where
     ghost history = { λ calls. calls.log.events };
 
     fn open(&mut self, name: &FileName) -> Result<Option<Opened<R::File>>, DiskFault> {
+        if self.absent.take(name) {
+            self.note(Call::Absent, name, &[]);
+            return Ok(None);
+        }
         match self.find(name) {
             Ok((file, is_own)) => Ok(Some(Opened::new(name, file, is_own)?)),
             Err(error) if error.kind() == ErrorKind::NotFound => {
@@ -149,6 +162,7 @@ where
 
     fn make(&mut self, name: &FileName) -> Result<Opened<R::File>, DiskFault> {
         self.is_synced = false;
+        self.absent.take(name);
         let file = answered(self.find_or_make(name))?;
         Opened::new(name, file, false)
     }

@@ -3,7 +3,7 @@ use super::crashes::done_in;
 use super::steps::{Step, TO_ANOTHER_FILE, TO_THE_ARCHIVE, files, safe_in};
 use super::{Ended, calls, run};
 use org_disk::Fuse;
-use org_folder::{FolderDisk, Unknown, lock_folder};
+use org_folder::{AbsentNames, FolderDisk, Unknown, lock_folder};
 use org_serve::ServeEnd;
 use std::process::Abort;
 use std::{fs, io};
@@ -24,7 +24,13 @@ fn make_folder(host: &HostRuntime, step: &Step) -> io::Result<()> {
 fn folder_disk(rt: &impl Abort, host: &HostRuntime) -> FolderDisk<HostRuntime, Unknown> {
     let system = host.clone().expect(rt, "memory");
     let folder = lock_folder(host, FOLDER).expect(rt, "not locked");
-    FolderDisk::new(system, host.alloc(), &folder).expect(rt, "memory")
+    FolderDisk::new(
+        system,
+        host.alloc(),
+        &folder,
+        AbsentNames::none(host.alloc()),
+    )
+    .expect(rt, "memory")
 }
 
 // Serves the line of a step over the folder, of whose disk so many calls pass: how many lines were

@@ -55,15 +55,15 @@ pub check_files-requires : goal.check_files-requires
 check_files-requires c =
     rw (c.deref-5.ensures.value, c.in_ok-append.ensures.items) (All-append IsOrgFile _ _ c.in_ok-names.ensures.openable c.in_ok-org_files.ensures)
 
-pub returns-in_err-check_files-clause-cause : goal.returns-in_err-check_files-clause-cause
-returns-in_err-check_files-clause-cause c =
+pub returns-in_err-absent-clause-cause : goal.returns-in_err-absent-clause-cause
+returns-in_err-absent-clause-cause c =
     let new : List (List ℕ) = map string_bytes c.args.arguments.now.new.items in
     let listed : List (List ℕ) = c.in_ok-org_files.field-0.items in
     let names = c.in_ok-names.ensures.names ∙ ap (map string_bytes) c.deref.ensures.value in
     let all : c.deref-5.result.now ≡ new ++ listed = c.deref-5.ensures.value ∙ c.in_ok-append.ensures.items ∙ ap (λ l. l ++ listed) names in
-    let may = subst (λ (names : List (List ℕ)). MayShare names c.in_err-check_files.field-0.0) all c.in_err-check_files.ensures in
-    let at = goal.at.returns-in_err-check_files-clause-cause c in
-    passed_told _ _ c.from_residual-in_err-check_files.result c.from_residual-in_err-check_files.ensures.1
+    let may = subst (λ (names : List (List ℕ)). MayShare names c.in_err-absent.field-0.0) all c.in_err-absent.ensures in
+    let at = goal.at.returns-in_err-absent-clause-cause c in
+    passed_told _ _ c.from_residual-in_err-absent.result c.from_residual-in_err-absent.ensures.1
     (shared new listed (states_in c.args.arguments.now) _ (good at.In_ok-names) (accepted at.In_ok-states) c.in_ok-org_files.ensures may)
 
 pub returns-clause-folder : goal.returns-clause-folder
