@@ -1,8 +1,8 @@
 -- The stages of a commit, and what is left in each.
-use Rattle.std.proofs.Common.{◌≡◌, ◌≢◌, inl, inr, ℕ, ◌+◌, ◌≤◌, ◌++◌, List, [], ◌∷◌, length, drop, true, false, Some, Result, Ok, OnOk, refl, sym, ◌∙◌, ap, subst, arith, length-append}
+use Rattle.std.proofs.Common.{◌≡◌, ◌≢◌, inl, inr, ℕ, ◌+◌, ◌≤◌, ◌++◌, List, [], ◌∷◌, length, drop, false, Some, Result, Ok, OnOk, refl, sym, ◌∙◌, ap, subst, arith}
 use Rattle.org_disk.specs.declared.disk.Disk.{Ghosts}
-use Rattle.std.specs.Prelude.{nat_le, slice_index, ◌==◌}
-use Rattle.std.proofs.lemmas.Bool.{cases_Bool, and_right, and_from, le-leb, ne_eqb}
+use Rattle.std.specs.Prelude.{is_some, nat_le, slice_index, ◌==◌}
+use Rattle.std.proofs.lemmas.Bool.{cases_Bool, and_right, ne_eqb}
 use Rattle.org_splice.specs.Overwritten.{overwritten}
 use Rattle.org_disk.specs.Disk.{FileState, IsImage, IsStable, AreImages}
 use Rattle.org_disk.specs.Names.{journal_name}
@@ -13,8 +13,11 @@ use Rattle.org_disk.proofs.Moments.{passes_as, passes_then}
 use Rattle.org_journal.specs.declared.record.Entry.{Entry}
 use Rattle.org_journal.specs.Gate.{is_open, HasClosedGate, LeavesClosed, LeavesBody, Puts}
 use Rattle.org_journal.specs.Reading.{journal_at}
-use Rattle.org_journal.specs.Recovered.{Image, SameFiles, RecoversTo, all_fit, replayed, contents}
-use Rattle.org_fileset.specs.Replay.{TakesTo, AreApplicable, EachTakes, IsOpenOver, IsAtRest, IsBeforeOrAfter, WritesRecord}
+use Rattle.org_journal.specs.Record.{BeginsWith}
+use Rattle.org_journal.proofs.Fitting.{opens}
+use Rattle.org_journal.proofs.Journal.{begins_again}
+use Rattle.org_journal.specs.Recovered.{Image, SameFiles, RecoversTo, replayed, contents}
+use Rattle.org_fileset.specs.Replay.{TakesTo, AreApplicableTo, EachTakes, IsOpenOver, IsAtRest, IsBeforeOrAfter, WritesRecord}
 use Rattle.org_fileset.specs.Writes.{LeavesAlone, IsUnwritten}
 use Rattle.org_fileset.proofs.Armed.{on_ok_both}
 use Rattle.org_fileset.proofs.Writes.{alone_journal, alone_then}
@@ -34,7 +37,7 @@ at_rest_recovers files rest image left =
     let same : (name : List ℕ) → image name ≡ contents files name = λ name. only_image (rest.stable name) (image name) (left name) in
     recovers_closed (contents files) image (ap is_open (same journal_name) ∙ shut (contents files journal_name) rest.gate.closed) (λ name not. same name)
 
-module _ (entries : List Entry) (files : List ℕ → FileState) (applicable : AreApplicable entries) (fit : all_fit entries (contents files) ≡ true) where
+module _ (entries : List Entry) (files : List ℕ → FileState) (can : AreApplicableTo entries files) where
   abbrev after : Image
   after = replayed entries (contents files)
 
@@ -43,15 +46,18 @@ module _ (entries : List Entry) (files : List ℕ → FileState) (applicable : A
 
   -- of the files as they are the record makes the new ones
   takes : (name text : List ℕ) → text ≡ contents files name → TakesTo entries name text (after name)
-  takes name text same = subst (λ (t : List ℕ). TakesTo entries name t (after name)) (sym same) (takes-replayed entries (contents files) name (after name) fit refl)
+  takes name text same = subst (λ (t : List ℕ). TakesTo entries name t (after name)) (sym same) (takes-replayed entries (contents files) name (after name) can.fits refl)
 
   pub while_arming : IsAtRest files → (image : Image) → LeavesClosed journal_name files image → Stands image
   while_arming rest image left = inl (recovers_closed (contents files) image left.closed (λ name not. only_image (rest.stable name) (image name) (left.others name not)))
 
   -- every file but the journal is as it was: the record fits the files as it did, and makes of them what it made
   module _ (last : List ℕ → FileState) (others : (other : List ℕ) → other ≢ journal_name → last other ≡ files other) where
-    pub still_fits : all_fit entries (contents last) ≡ true
-    still_fits = all_fit-takes entries (contents last) after applicable (λ name not. takes name (contents last name) (ap (λ (f : FileState). f.content) (others name not)))
+    pub still_can : AreApplicableTo entries last
+    still_can = record {
+      applicable = can.applicable;
+      fits = all_fit-takes entries (contents last) after can.applicable (λ name not. takes name (contents last name) (ap (λ (f : FileState). f.content) (others name not)));
+    }
 
     pub still_made : SameFiles (replayed entries (contents last)) after
     still_made name not = replayed-takes entries (contents last) name (after name) (takes name (contents last name) (ap (λ (f : FileState). f.content) (others name not)))
@@ -62,26 +68,21 @@ module _ (entries : List Entry) (files : List ℕ → FileState) (applicable : A
     }
 
   -- the body stands behind the gate
-  module _ (gate : HasClosedGate (files journal_name)) (body : List ℕ) (reads : (more : List ℕ) → journal_at (body ++ more) ≡ Some entries) (enough : 15 ≤ length body) (mid : List ℕ → FileState) (armed : (mid journal_name).content ≡ overwritten 1 body (contents files journal_name))
+  module _ (gate : HasClosedGate (files journal_name)) (body : List ℕ) (begins : BeginsWith body entries) (mid : List ℕ → FileState) (armed : (mid journal_name).content ≡ overwritten 1 body (contents files journal_name))
       (same : (other : List ℕ) → other ≢ journal_name → mid other ≡ files other) where
     behind : drop 1 (mid journal_name).content ≡ body ++ drop (1 + length body) (contents files journal_name)
     behind = ap (λ (l : List ℕ). drop 1 l) armed ∙ drop-overwritten body (contents files journal_name) gate.nonempty
 
     told : (text : List ℕ) → drop 1 text ≡ drop 1 (mid journal_name).content → journal_at (drop 1 text) ≡ Some entries
-    told text is = ap journal_at (is ∙ behind) ∙ reads (drop (1 + length body) (contents files journal_name))
+    told text is = ap journal_at (is ∙ behind) ∙ begins_again body entries begins (drop (1 + length body) (contents files journal_name))
 
     -- the gate is open over the record
     pub opened_over : (last : List ℕ → FileState) → IsStable (last journal_name) → (last journal_name).content ≡ 1 ∷ drop 1 (mid journal_name).content → IsOpenOver entries last
-    opened_over last only is =
-        let long : length (drop 1 (mid journal_name).content) ≡ length body + length (drop (1 + length body) (contents files journal_name)) =
-        ap length behind ∙ length-append body (drop (1 + length body) (contents files journal_name)) in
-        let open_here : is_open (1 ∷ drop 1 (mid journal_name).content) ≡ true =
-        and_from (nat_le 16 (length (1 ∷ drop 1 (mid journal_name).content))) true (le-leb 16 (length (1 ∷ drop 1 (mid journal_name).content)) (omega (arith, long, enough))) refl in
-        record {
-          stable = only;
-          opened = ap is_open is ∙ open_here;
-          found = ap (λ (l : List ℕ). journal_at (drop 1 l)) is ∙ told (1 ∷ drop 1 (mid journal_name).content) refl;
-        }
+    opened_over last only is = record {
+      stable = only;
+      opened = opens (last journal_name).content (mid journal_name).content (ap is_some (told (mid journal_name).content refl)) is;
+      found = ap (λ (l : List ℕ). journal_at (drop 1 l)) is ∙ told (1 ∷ drop 1 (mid journal_name).content) refl;
+    }
 
     -- where all files were on the disk
     module _ (rest : IsAtRest files) where
@@ -93,16 +94,16 @@ module _ (entries : List Entry) (files : List ℕ → FileState) (applicable : A
           let other_is : (name : List ℕ) → name ≢ journal_name → image name ≡ contents files name =
           λ name not. own name (image name) (subst (λ f. IsImage f (image name)) (same name not) (left.others name not)) in
           elim (cases_Bool (is_open (image journal_name))) [
-            | inl opened ↦ inr (recovers_open entries after image applicable opened (told (image journal_name) left.body) (λ name not. takes name (image name) (other_is name not)))
+            | inl opened ↦ inr (recovers_open entries after image can.applicable opened (told (image journal_name) left.body) (λ name not. takes name (image name) (other_is name not)))
             | inr closed ↦ inl (recovers_closed (contents files) image closed other_is)
           ]
 
 -- What a call did that wrote a record behind the closed gate, or failed there; and what one that opened the gate then.
 module _ {D : Type 0} (g : Ghosts D) (old : D) (journal : List ℕ) (name_is : journal ≡ journal_name) (entries : List Entry)
-    (applicable : AreApplicable entries) (fit : all_fit entries (contents (g.files old)) ≡ true) where
+    (can : AreApplicableTo entries (g.files old)) where
   arming : (new : D) → PassesOver g old new (LeavesClosed journal (g.files old)) → IsAtRest (g.files old)
       → PassesOver g old new (IsBeforeOrAfter (contents (g.files old)) (replayed entries (contents (g.files old))))
-  arming new time rest = passes_as time (λ image left. while_arming entries (g.files old) applicable fit rest image (subst (λ (n : List ℕ). LeavesClosed n (g.files old) image) name_is left))
+  arming new time rest = passes_as time (λ image left. while_arming entries (g.files old) can rest image (subst (λ (n : List ℕ). LeavesClosed n (g.files old) image) name_is left))
 
   arming_alone : (new : D) (r : Result (Unit {0}) DiskFault) {content : List ℕ} → PassesOver g old new (LeavesClosed journal (g.files old)) → Puts journal content (g.files old) (g.files new) r
       → LeavesAlone g (IsUnwritten entries) old new
@@ -118,17 +119,17 @@ module _ {D : Type 0} (g : Ghosts D) (old : D) (journal : List ℕ) (name_is : j
     alone = arming_alone new r time puts;
   }
 
-  pub opened_writes : HasClosedGate (g.files old journal_name) → (body : List ℕ) → ((more : List ℕ) → journal_at (body ++ more) ≡ Some entries) → 15 ≤ length body → (mid new : D) (r : Result (Unit {0}) DiskFault)
+  pub opened_writes : HasClosedGate (g.files old journal_name) → (body : List ℕ) → BeginsWith body entries → (mid new : D) (r : Result (Unit {0}) DiskFault)
       → PassesOver g old mid (LeavesClosed journal (g.files old)) → Puts journal (overwritten 1 body (g.files old journal).content) (g.files old) (g.files mid) (Ok tt)
       → PassesOver g mid new (LeavesBody journal (g.files mid)) → Puts journal (1 ∷ drop 1 (g.files mid journal).content) (g.files mid) (g.files new) r
       → WritesRecord g entries old new r
-  opened_writes gate body reads enough mid new r arm_time arms opening opens =
+  opened_writes gate body begins mid new r arm_time arms opening opens =
       let armed = subst (λ (n : List ℕ). Puts n (overwritten 1 body (g.files old n).content) (g.files old) (g.files mid) (Ok tt)) name_is arms in
       let opened = subst (λ (n : List ℕ). Puts n (1 ∷ drop 1 (g.files mid n).content) (g.files mid) (g.files new) r) name_is opens in
       record {
-        opened = on_ok_both r opened.stable opened.is (opened_over entries (g.files old) applicable fit gate body reads enough (g.files mid) armed.is armed.others (g.files new));
+        opened = on_ok_both r opened.stable opened.is (opened_over entries (g.files old) can gate body begins (g.files mid) armed.is armed.others (g.files new));
         any_moment = λ rest. passes_then (arming mid arm_time rest) opening (λ image left.
-            while_opening entries (g.files old) applicable fit gate body reads enough (g.files mid) armed.is armed.others rest image (subst (λ (n : List ℕ). LeavesBody n (g.files mid) image) name_is left));
+            while_opening entries (g.files old) can gate body begins (g.files mid) armed.is armed.others rest image (subst (λ (n : List ℕ). LeavesBody n (g.files mid) image) name_is left));
         others = λ name not. opened.others name not ∙ armed.others name not;
         alone = alone_then g (IsUnwritten entries) old mid new (arming_alone mid (Ok tt) arm_time arms)
             (alone_journal g journal (IsUnwritten entries) (LeavesBody journal (g.files mid)) mid new name_is (λ name is. is.apart) opens.others opening (λ image left. left.others));

@@ -20,7 +20,7 @@ use Rattle.org_journal.specs.Gate.{front_size, is_open, HasClosedGate, LeavesClo
 use Rattle.org_journal.specs.Recovered.{Image, SameFiles, IsRecoverable, recovered, all_fit, contents}
 use Rattle.org_fileset.specs.Looking.{IsLookedAt, IsFoundIn}
 use Rattle.org_fileset.specs.Recovery.{EachRecovers, RecoversAsBefore, IsReopened, ReopensOver, is_closed, closed_journal}
-use Rattle.org_fileset.specs.Replay.{AreApplicable, IsOpenOver, IsAtRest, ReplaysOver}
+use Rattle.org_fileset.specs.Replay.{AreApplicableTo, IsOpenOver, IsAtRest, ReplaysOver}
 use Rattle.org_fileset.specs.Writes.{LeavesAlone, IsUnconcerned, IsUnwritten}
 use Rattle.org_fileset.proofs.Armed.{closed_after, on_ok_both}
 use Rattle.org_fileset.proofs.Writes.{alone_fewer, alone_journal, alone_looks, alone_then}
@@ -57,16 +57,14 @@ found_by (Err fault) image finds told = tt
 pub armed_as : {found : Found} {record_entries entries : List Entry} → found ≡ Armed record_entries → entries ≡ record_entries → found ≡ Armed entries
 armed_as is same = is ∙ ap (λ (l : List Entry). let x : Found = Armed l in x) (sym same)
 
--- a record that was found stands behind an open gate, and fits its files
-pub open_over : (files : List ℕ → FileState) (found : Found) (entries : List Entry) → IsStable (files journal_name) → found ≡ Armed entries → Finds (contents files) (Ok found)
-    → IsOpenOver entries files × (all_fit entries (contents files) ≡ true)
-open_over files found entries stable is finds =
-    let armed = subst (λ (x : Found). Finds (contents files) (Ok x)) is finds in
-    (record { stable = stable; opened = armed.0; found = armed.1 }, armed.2)
-
--- as one that could be written
-pub armed_applicable : (found : Found) (entries : List Entry) → found ≡ Armed entries → IsWritable found → AreApplicable entries
-armed_applicable found entries is writable = formed_applicable entries (subst IsWritable is writable)
+-- a record that was found stands behind an open gate, and can be applied to its files
+pub open_over : (files : List ℕ → FileState) (found : Found) (entries : List Entry) → IsStable (files journal_name) → found ≡ Armed entries → IsWritable found → Finds (contents files) (Ok found)
+    → IsOpenOver entries files × AreApplicableTo entries files
+open_over files found entries stable is writable finds =
+    let armed = subst (λ (x : Found). Finds (contents files) (Ok x)) is finds in (
+      record { stable = stable; opened = armed.0; found = armed.1 },
+      record { applicable = formed_applicable entries (subst IsWritable is writable); fits = armed.2 },
+    )
 
 module _ {D : Type 0} (g : Ghosts D) where
   -- a sync of the journal, whatever it answers
@@ -143,10 +141,12 @@ module _ {D : Type 0} (g : Ghosts D) (old : D)
 
   module _ (own : (name : List ℕ) → IsImage (g.files old name) (g.files old name).content) where
     -- the record of an open journal is applied
-    pub replayed_reopens : (entries : List Entry) (new : D) (r : Result (Unit {0}) DiskFault) → AreApplicable entries → IsOpenOver entries (g.files old) → all_fit entries (contents (g.files old)) ≡ true
+    pub replayed_reopens : (entries : List Entry) (new : D) (r : Result (Unit {0}) DiskFault) → IsOpenOver entries (g.files old) → AreApplicableTo entries (g.files old)
         → ReplaysOver g entries old new r → ReopensOver g old new r
-    replayed_reopens entries new r applicable over fits replays =
+    replayed_reopens entries new r over to replays =
         let now = g.files old in
+        let applicable = to.applicable in
+        let fits : all_fit entries (contents now) ≡ true = to.fits in
         let opened : is_open (contents now journal_name) ≡ true = over.opened in
         let told = over.found in
         let can = λ (fit : IsRecoverable now). recoverable_replayable now own entries applicable over fits fit in

@@ -14,7 +14,7 @@ use Rattle.org_fileset.specs.declared.open.OpenFault.{OpenFault}
 use Rattle.org_fileset.specs.declared.open.OpenFault.TheVariants.{TooManyFiles, BadJournal, TooLarge, Device, OutOfMemory}
 use Rattle.org_fileset.specs.declared.open.OpenRefused.{OpenRefused}
 use Rattle.org_fileset.specs.Names.{with_archives, AreSorted, AreFew, AreTooMany, first_large}
-use Rattle.org_fileset.specs.Recovery.{Reopens, closed_journal}
+use Rattle.org_fileset.specs.Recovery.{Reopens, IsFoundBad, closed_journal}
 
 -- the disk that is in what was opened, or handed back
 abbrev pub disk_in : {S D : Type 0} → Result S (OpenRefused D) → (S → D) → D
@@ -62,7 +62,7 @@ pub record IsRecovered (before now : Image) : Type 0 where
 -- No file of these names is past the limit after a record was brought to its end; or there is this
 -- fault. The sizes are asked for once it was.
 abbrev pub IsAnswer : Image → Image → List (List ℕ) → Result (Unit {0}) OpenFault → Type 0
-IsAnswer before now names (Err BadJournal) = (recovered before ≡ None) × (now ≡ before)
+IsAnswer before now names (Err BadJournal) = IsFoundBad before now
 IsAnswer before now names (Ok done) = HaveSizes now names (Ok done)
 IsAnswer before now names (Err (TooLarge name)) =
     HaveSizes now names (Err (TooLarge name)) × IsRecovered before now
@@ -75,8 +75,7 @@ IsAnswer before now names (Err OutOfMemory) = Unit {0}
 -- lies in them then.
 abbrev pub IsReason : List (List ℕ) → Type 0 → Image → Image → OpenFault → Type 0
 IsReason given honest before now TooManyFiles = AreTooMany given
-IsReason given honest before now BadJournal =
-    AreFew given × (honest → (recovered before ≡ None) × (now ≡ before))
+IsReason given honest before now BadJournal = AreFew given × (honest → IsFoundBad before now)
 IsReason given honest before now (TooLarge name) = AreFew given
     × (honest → (names : List (List ℕ)) × AreSorted (with_archives given) names
     × (first_large now names ≡ Some name) × IsRecovered before now)

@@ -31,6 +31,10 @@ is_closed journal = nat_le front_size (length journal) && not (is_open journal)
 abbrev pub closed_journal : List ℕ → List ℕ
 closed_journal journal = if is_closed journal then journal else 0 ∷ drop 1 journal
 
+-- the journal is bad, as it reads, and each content is as it was
+abbrev pub IsFoundBad : Image → Image → Type 0
+IsFoundBad before now = (recovered before ≡ None) × (now ≡ before)
+
 -- An opening is done: the files are what the disk recovered to, and the gate is closed; a
 -- recoverable disk is at rest.
 pub record IsReopened (old new : List ℕ → FileState) : Type 0 where

@@ -1,6 +1,6 @@
 -- Files to which a record is being applied: whatever a crash leaves of them, the record makes the
 -- same texts of it.
-use Rattle.std.specs.Prelude.{◌≡◌, ◌≢◌, ◌⊎◌, ℕ, ◌≤◌, List, [], ◌∷◌, drop, Some, Result, OnOk, MatchBool, IsTrue, IsFalse}
+use Rattle.std.specs.Prelude.{◌≡◌, ◌≢◌, ◌⊎◌, ℕ, ◌^◌, ◌<◌, ◌≤◌, List, [], ◌∷◌, length, drop, Some, Result, OnOk, MatchBool, IsTrue, IsFalse}
 use Rattle.org_disk.specs.declared.disk.Disk.{Ghosts}
 use Rattle.std.specs.List.{AllByRecursion}
 use Rattle.std.specs.Str.{bytes_eq}
@@ -8,14 +8,14 @@ use Rattle.org_disk.specs.Disk.{FileState, IsImage, IsStable, Passes}
 use Rattle.org_disk.specs.Accounts.{PassesOver, LeavesOver}
 use Rattle.org_disk.specs.Names.{journal_name, is_file_name}
 use Rattle.org_disk.specs.declared.disk.DiskFault.{DiskFault}
-use Rattle.org_splice.specs.Patches.{AreWellFormed, PatchedTo}
+use Rattle.org_splice.specs.Patches.{AreWellFormed, Fit, PatchedTo}
 use Rattle.org_splice.specs.Texts.{pairs_of}
 use Rattle.org_journal.specs.declared.record.Entry.{Entry}
 use Rattle.org_journal.specs.declared.record.Version.TheVariants.{Two}
 use Rattle.org_journal.specs.Record.{is_named, names_differ, greatest_length}
 use Rattle.org_journal.specs.Gate.{is_open, HasClosedGate}
 use Rattle.org_journal.specs.Reading.{journal_at}
-use Rattle.org_journal.specs.Recovered.{Image, SameFiles, RecoversTo, IsRecoverable, contents, replayed}
+use Rattle.org_journal.specs.Recovered.{Image, SameFiles, RecoversTo, IsRecoverable, all_fit, contents, replayed}
 use Rattle.org_fileset.specs.Writes.{LeavesAlone, IsUnwritten}
 
 -- whatever a crash leaves of the file takes the patches to this text
@@ -55,6 +55,17 @@ pub record AreApplicable (entries : List Entry) : Type 0 where
   pub each : AllByRecursion IsApplicable entries
   pub apart : IsTrue (names_differ entries)
 
+-- entries that can be applied to these files, which they fit
+pub record AreApplicableTo (entries : List Entry) (files : List ℕ → FileState) : Type 0 where
+  pub applicable : AreApplicable entries
+  pub fits : IsTrue (all_fit entries (contents files))
+
+-- The entry's patches can be applied to a file of these bytes, which they fit.
+pub record CanPatch (entry : Entry) (bytes : List ℕ) : Type 0 where
+  pub formed : AreWellFormed (pairs_of entry.patches) entry.length
+  pub small : entry.length < 2 ^ 63
+  pub fits : Fit (pairs_of entry.patches) entry.length (length bytes)
+
 -- whatever a crash leaves of the files, the record makes these texts of it
 pub record EachTakes (entries : List Entry) (texts : Image) (files : List ℕ → FileState)
     : Type 0 where
@@ -80,6 +91,11 @@ pub record Replays (entries : List Entry) (texts : Image) (before now : ℕ)
 pub record IsOpenOver (entries : List Entry) (files : List ℕ → FileState) : Type 0 where
   pub stable : IsStable (files journal_name)
   pub opened : IsTrue (is_open (files journal_name).content)
+  pub found : journal_at (drop 1 (files journal_name).content) ≡ Some entries
+
+-- the journal's gate is closed, and behind it stands this record
+pub record IsClosedOver (entries : List Entry) (files : List ℕ → FileState) : Type 0 where
+  pub gate : HasClosedGate (files journal_name)
   pub found : journal_at (drop 1 (files journal_name).content) ≡ Some entries
 
 -- The files that the record doesn't name are on the disk, and it makes one and the same texts of
@@ -153,14 +169,27 @@ pub record CommitsOver {D A E : Type 0} (g : Ghosts D) (after : Image) (Alone : 
   pub recoverable : IsAtRest (g.files old) → IsRecoverable (g.files new)
   pub alone : LeavesAlone g Alone old new
 
--- `AppliesPatches` and `Replays` of a disk before calls and after them
-abbrev pub AppliesPatchesOver : {D : Type 0} → Ghosts D → List (ℕ × List ℕ) → ℕ → List ℕ → List ℕ
-    → D → D → Type 0
-AppliesPatchesOver g patches final name to old new =
-    AppliesPatches patches final name to (g.instant old) (g.instant new) (g.left_since old)
-    (g.left_since new) (g.files old) (g.files new)
+-- What a commit of entries does, where the disk is honest after it: the files become what the
+-- entries make of them, and the record stays behind the closed gate.
+pub record CommitsEntriesOver {D : Type 0} (g : Ghosts D) (entries : List Entry) (old new : D)
+    (result : Result (Unit {0}) DiskFault) : Type 0 where
+  pub commits : CommitsOver g (replayed entries (contents (g.files old))) (IsUnwritten entries)
+      old new result
+  pub closed : OnOk result (IsClosedOver entries (g.files new))
 
-abbrev pub TakesOver : {D : Type 0} → Ghosts D → List Entry → Image → D → D → Type 0
-TakesOver g entries texts old new =
-    Replays entries texts (g.instant old) (g.instant new) (g.left_since old) (g.left_since new)
-    (g.files old) (g.files new)
+-- Calls over a disk that apply an entry to its file, all of it or a part: at each moment, and now,
+-- the entry makes the same text of whatever a crash leaves of the file, if it did so at the start.
+abbrev pub AppliesPatchesOver : {D : Type 0} → Ghosts D → Entry → D → D → Type 0
+AppliesPatchesOver g entry old new =
+    (to : List ℕ)
+    → EachPatchedTo (pairs_of entry.patches) entry.length to (g.files old entry.name)
+    → AppliesPatches (pairs_of entry.patches) entry.length entry.name to (g.instant old)
+    (g.instant new) (g.left_since old) (g.left_since new) (g.files old) (g.files new)
+
+-- The same of a record and its files, if the journal is on the disk.
+abbrev pub TakesOver : {D : Type 0} → Ghosts D → List Entry → D → D → Type 0
+TakesOver g entries old new =
+    IsStable (g.files old journal_name)
+    → (texts : Image) → EachTakes entries texts (g.files old)
+    → Replays entries texts (g.instant old) (g.instant new) (g.left_since old)
+    (g.left_since new) (g.files old) (g.files new)

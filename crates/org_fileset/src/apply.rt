@@ -2,15 +2,14 @@
 //!
 //! Each step may be stopped and done again: a record makes the same text of whatever a crash left
 //! of its file. Nothing here looks at the journal.
-ghost use Rattle.std.specs.Prelude.{◌≡◌, ◌≢◌, ◌<◌, ◌^◌, List, ℕ, length, IsTrue, IsFalse, OnOk, IsErr};
+ghost use Rattle.std.specs.Prelude.{◌≡◌, ◌≢◌, List, ℕ, IsFalse, OnOk, IsErr};
 ghost use Rattle.org_disk.specs.Disk.{IsStable};
 ghost use Rattle.org_disk.specs.Accounts.{Accounts};
-ghost use Rattle.org_disk.specs.Names.{journal_name};
-ghost use Rattle.org_splice.specs.Patches.{AreWellFormed, Fit, patched};
+ghost use Rattle.org_splice.specs.Patches.{patched};
 ghost use Rattle.org_splice.specs.Texts.{pairs_of};
 ghost use Rattle.org_journal.specs.Record.{is_named};
-ghost use Rattle.org_journal.specs.Recovered.{Image, contents, all_fit, replayed};
-ghost use Rattle.org_fileset.specs.Replay.{AreApplicable, EachPatchedTo, EachTakes, AppliesPatchesOver, TakesOver};
+ghost use Rattle.org_journal.specs.Recovered.{contents, replayed};
+ghost use Rattle.org_fileset.specs.Replay.{AreApplicable, AreApplicableTo, CanPatch, AppliesPatchesOver, TakesOver};
 ghost use Rattle.org_fileset.specs.Writes.{LeavesAlone};
 
 use org_disk::{Disk, DiskFault};
@@ -24,16 +23,8 @@ use org_journal::Entry;
 ///
 /// `DiskFault`: a call of the disk failed.
 pub fn apply_entry<D: Disk>(disk: &mut D, entry: &Entry) -> Result<(), DiskFault>
-    requires formed { D.honest disk.old →
-        AreWellFormed (pairs_of entry.now.patches) entry.now.length }
-    requires small { D.honest disk.old → entry.now.length < 2 ^ 63 }
-    requires fits { D.honest disk.old → Fit (pairs_of entry.now.patches) entry.now.length
-        (length (D.files disk.old entry.now.name).content) }
-    ensures applies { D.honest disk.new → (to : List ℕ)
-        → EachPatchedTo (pairs_of entry.now.patches) entry.now.length to
-        (D.files disk.old entry.now.name)
-        → AppliesPatchesOver D.Disk
-        (pairs_of entry.now.patches) entry.now.length entry.now.name to disk.old disk.new }
+    requires { D.honest disk.old → CanPatch entry.now (D.files disk.old entry.now.name).content }
+    ensures applies { D.honest disk.new → AppliesPatchesOver D.Disk entry.now disk.old disk.new }
     ensures content { OnOk result (D.honest disk.new → (D.files disk.new entry.now.name).content
         ≡ patched (pairs_of entry.now.patches) entry.now.length
         (D.files disk.old entry.now.name).content) }
@@ -59,11 +50,8 @@ pub fn apply_entry<D: Disk>(disk: &mut D, entry: &Entry) -> Result<(), DiskFault
 ///
 /// `DiskFault`: a call of the disk failed.
 pub fn apply_all<D: Disk>(disk: &mut D, entries: &[Entry]) -> Result<(), DiskFault>
-    requires applicable { D.honest disk.old → AreApplicable entries.now }
-    requires fits { D.honest disk.old → IsTrue (all_fit entries.now (contents (D.files disk.old))) }
-    ensures replays { D.honest disk.new → IsStable (D.files disk.old journal_name)
-        → (texts : Image) → EachTakes entries.now texts (D.files disk.old)
-        → TakesOver D.Disk entries.now texts disk.old disk.new }
+    requires { D.honest disk.old → AreApplicableTo entries.now (D.files disk.old) }
+    ensures replays { D.honest disk.new → TakesOver D.Disk entries.now disk.old disk.new }
     ensures contents { OnOk result (D.honest disk.new → (name : List ℕ)
         → contents (D.files disk.new) name ≡ replayed entries.now (contents (D.files disk.old))
         name) }
@@ -85,9 +73,7 @@ pub fn apply_all<D: Disk>(disk: &mut D, entries: &[Entry]) -> Result<(), DiskFau
 /// `DiskFault`: a call of the disk failed.
 pub fn sync_all<D: Disk>(disk: &mut D, entries: &[Entry]) -> Result<(), DiskFault>
     requires { D.honest disk.old → AreApplicable entries.now }
-    ensures replays { D.honest disk.new → IsStable (D.files disk.old journal_name)
-        → (texts : Image) → EachTakes entries.now texts (D.files disk.old)
-        → TakesOver D.Disk entries.now texts disk.old disk.new }
+    ensures replays { D.honest disk.new → TakesOver D.Disk entries.now disk.old disk.new }
     ensures contents { OnOk result (D.honest disk.new → (name : List ℕ)
         → contents (D.files disk.new) name ≡ contents (D.files disk.old) name) }
     ensures stable { OnOk result (D.honest disk.new → (name : List ℕ)

@@ -3,15 +3,13 @@
 //! The order is that of FORMATS: record, sync, gate, sync, files, syncs, gate, sync. What a commit
 //! has to do it does for any entries that fit their files; that they are changes of a set is
 //! `set`'s matter.
-ghost use Rattle.std.specs.Prelude.{◌≡◌, ◌≤◌, ◌++◌, List, ℕ, Some, drop, length, IsTrue, OnOk, IsErr};
+ghost use Rattle.std.specs.Prelude.{◌≡◌, List, IsErr};
 ghost use Rattle.org_disk.specs.Accounts.{Accounts};
 ghost use Rattle.org_disk.specs.Names.{journal_name};
 ghost use Rattle.org_journal.specs.Gate.{HasClosedGate};
-ghost use Rattle.org_journal.specs.Reading.{journal_at};
-ghost use Rattle.org_journal.specs.Recovered.{all_fit, replayed, contents};
+ghost use Rattle.org_journal.specs.Record.{BeginsWith};
 ghost use Rattle.org_journal.specs.declared.record.Entry.{Entry};
-ghost use Rattle.org_fileset.specs.Replay.{AreApplicable, CommitsOver, IsOpenOver, ReplaysOver, WritesRecord};
-ghost use Rattle.org_fileset.specs.Writes.{IsUnwritten};
+ghost use Rattle.org_fileset.specs.Replay.{AreApplicableTo, CommitsEntriesOver, IsOpenOver, ReplaysOver, WritesRecord};
 
 use crate::apply::{apply_all, sync_all};
 use org_disk::{Disk, DiskFault, FileName};
@@ -26,9 +24,8 @@ use org_journal::{Entry, arm, close_gate, open_gate};
 /// `DiskFault`: a call of the disk failed.
 pub fn replay<D: Disk>(disk: &mut D, journal: &FileName, entries: &[Entry]) -> Result<(), DiskFault>
     requires journal { journal.now ≡ journal_name }
-    requires applicable { D.honest disk.old → AreApplicable entries.now }
+    requires applicable { D.honest disk.old → AreApplicableTo entries.now (D.files disk.old) }
     requires opened { D.honest disk.old → IsOpenOver entries.now (D.files disk.old) }
-    requires fits { D.honest disk.old → IsTrue (all_fit entries.now (contents (D.files disk.old))) }
     ensures replays { D.honest disk.new → ReplaysOver D.Disk entries.now disk.old disk.new result }
     ensures accounts { Accounts D.Disk disk.old disk.new (IsErr result) }
 {
@@ -41,12 +38,9 @@ pub fn replay<D: Disk>(disk: &mut D, journal: &FileName, entries: &[Entry]) -> R
 /// the journal's second byte on.
 fn write_record<D: Disk>(disk: &mut D, journal: &FileName, body: &[u8]) -> Result<(), DiskFault>
     requires journal { journal.now ≡ journal_name }
-    requires long { 15 ≤ length body.now }
     requires gate { D.honest disk.old → HasClosedGate (D.files disk.old journal_name) }
-    ensures writes { (entries : List Entry)
-        → ((more : List ℕ) → journal_at (body.now ++ more) ≡ Some entries)
-        → AreApplicable entries → D.honest disk.new
-        → IsTrue (all_fit entries (contents (D.files disk.old)))
+    ensures writes { D.honest disk.new → (entries : List Entry) → BeginsWith body.now entries
+        → AreApplicableTo entries (D.files disk.old)
         → WritesRecord D.Disk entries disk.old disk.new result }
     ensures accounts { Accounts D.Disk disk.old disk.new (IsErr result) }
 {
@@ -69,17 +63,11 @@ pub fn commit_entries<D: Disk>(
     body: &[u8],
 ) -> Result<(), DiskFault>
     requires journal { journal.now ≡ journal_name }
-    requires applicable { D.honest disk.old → AreApplicable entries.now }
-    requires body { (more : List ℕ) → journal_at (body.now ++ more) ≡ Some entries.now }
-    requires long { 15 ≤ length body.now }
+    requires applicable { D.honest disk.old → AreApplicableTo entries.now (D.files disk.old) }
+    requires body { BeginsWith body.now entries.now }
     requires gate { D.honest disk.old → HasClosedGate (D.files disk.old journal_name) }
-    requires fits { D.honest disk.old → IsTrue (all_fit entries.now (contents (D.files disk.old))) }
-    ensures commits { D.honest disk.new → CommitsOver D.Disk
-        (replayed entries.now (contents (D.files disk.old))) (IsUnwritten entries.now)
-        disk.old disk.new result }
-    ensures record { D.honest disk.new → OnOk result
-        (journal_at (drop 1 (D.files disk.new journal_name).content) ≡ Some entries.now) }
-    ensures gate { D.honest disk.new → OnOk result (HasClosedGate (D.files disk.new journal_name)) }
+    ensures commits { D.honest disk.new
+        → CommitsEntriesOver D.Disk entries.now disk.old disk.new result }
     ensures accounts { Accounts D.Disk disk.old disk.new (IsErr result) }
 {
     write_record(disk, journal, body)?;

@@ -1,15 +1,15 @@
 //! What an opening does first: it finishes what a crash cut short, and leaves the gate closed.
 //!
 //! It may be stopped at any call and begun anew. A bad journal is left as it is.
-ghost use Rattle.std.specs.Prelude.{◌≡◌, None, Ok, IfOk, IsErr, IsErrOf, IsFalse};
+ghost use Rattle.std.specs.Prelude.{◌≡◌, Ok, IfOk, IsErr, IsErrOf, IsFalse};
 ghost use Rattle.org_disk.specs.Accounts.{Accounts};
 ghost use Rattle.org_disk.specs.Disk.{IsStable};
 ghost use Rattle.org_disk.specs.Names.{journal_name};
 ghost use Rattle.org_journal.specs.Finding.{Finds, IsWritable};
-ghost use Rattle.org_journal.specs.Recovered.{recovered, contents};
+ghost use Rattle.org_journal.specs.Recovered.{contents};
 ghost use Rattle.org_journal.specs.Gate.{is_open};
 ghost use Rattle.org_fileset.specs.Looking.{IsLookedAt, IsFoundIn};
-ghost use Rattle.org_fileset.specs.Recovery.{Reopens};
+ghost use Rattle.org_fileset.specs.Recovery.{IsFoundBad, Reopens};
 
 use crate::commit::replay;
 use org_disk::{Disk, DiskFault, FileName};
@@ -25,8 +25,7 @@ fn look<D: Disk>(alloc: Global, disk: &mut D, journal: &FileName) -> Result<Foun
         → IsFoundIn (D.files disk.old) (D.files disk.new) found) }
     ensures writable { IfOk result (λ found. IsWritable found) }
     ensures bad { IsErrOf result FindFault.BadJournal → D.honest disk.new
-        → (recovered (contents (D.files disk.old)) ≡ None)
-        × (contents (D.files disk.new) ≡ contents (D.files disk.old)) }
+        → IsFoundBad (contents (D.files disk.old)) (contents (D.files disk.new)) }
     ensures accounts { Accounts D.Disk disk.old disk.new (IsErrOf result FindFault.Device) }
 {
     disk.sync(journal)?;
@@ -83,8 +82,7 @@ pub fn recover<D: Disk>(alloc: Global, disk: &mut D, journal: &FileName) -> Resu
     requires { journal.now ≡ journal_name }
     ensures reopens { Reopens D.Disk disk.old disk.new result }
     ensures bad { IsErrOf result FindFault.BadJournal → D.honest disk.new
-        → (recovered (contents (D.files disk.old)) ≡ None)
-        × (contents (D.files disk.new) ≡ contents (D.files disk.old)) }
+        → IsFoundBad (contents (D.files disk.old)) (contents (D.files disk.new)) }
     ensures accounts { Accounts D.Disk disk.old disk.new (IsErrOf result FindFault.Device) }
 {
     let found = look(alloc, disk, journal)?;

@@ -1,5 +1,5 @@
 -- The accounts of a call of this crate, of those of the calls that it made.
-use Rattle.std.proofs.Common.{◌≡◌, ℕ, true, false, true≢false, refl, sym}
+use Rattle.std.proofs.Common.{◌≡◌, true, false, true≢false, refl, sym}
 use Rattle.std.specs.Prelude.{Result, Ok, Err, IsErrOf, IsErrAnd}
 use Rattle.std.proofs.lemmas.Result.{err_from_is_err_and}
 use Rattle.org_journal.specs.declared.fault.FindFault.TheVariants.{BadJournal, Device, OutOfMemory}

@@ -11,7 +11,7 @@ use Rattle.org_splice.specs.Texts.{pairs_of}
 use Rattle.org_journal.specs.declared.record.Entry.{Entry}
 use Rattle.org_splice.specs.declared.patch.Patch.{Patch}
 use Rattle.org_journal.specs.declared.record.Version.{Version}
-use Rattle.org_journal.specs.Record.{IsEntry, BeginsWith}
+use Rattle.org_journal.specs.Record.{IsEntry, IsWellFormed}
 use Rattle.org_journal.specs.Reading.{◌>>=◌, number_at, bytes_at, counted_at, version_at, record_at, header_at, journal_at}
 use Rattle.org_disk.specs.Disk.{FileState}
 use Rattle.org_disk.specs.Names.{journal_name}
@@ -20,7 +20,7 @@ use Rattle.org_journal.specs.declared.fault.FindFault.{FindFault}
 use Rattle.org_journal.specs.declared.fault.FindFault.TheVariants.{BadJournal, Device, OutOfMemory}
 use Rattle.org_journal.specs.Gate.{front_size, is_open}
 use Rattle.org_journal.specs.Recovered.{Image, begins_within, contents, fits, all_fit, recovered}
-use Rattle.org_journal.specs.Finding.{Finds, FindsRecord, FindsSize, HaveWellFormedPatches, HoldsRecord, record_size}
+use Rattle.org_journal.specs.Finding.{Finds, FindsRecord, FindsSize, HaveWellFormedPatches, HoldsRecordOfSize, record_size}
 
 -- the test of the patches that are left, from this place on, is that of all
 pub record FitSoFar (left : List Patch) (place final size : ℕ) (all : List Patch) : Type 0 where
@@ -88,8 +88,9 @@ each_patches : (version : Version) (entries : List Entry) → AllByRecursion (Is
 each_patches version [] each = tt
 each_patches version (entry ∷ entries) each = (each.0.patches, each_patches version entries each.1)
 
-pub begins_patches : (bytes : List ℕ) (entries : List Entry) → BeginsWith bytes entries → HaveWellFormedPatches entries
-begins_patches bytes entries is = each_patches is.version entries is.well_formed.each
+-- a well-formed record's are
+pub formed_patches : (version : Version) (entries : List Entry) → IsWellFormed version entries → HaveWellFormedPatches entries
+formed_patches version entries formed = each_patches version entries formed.each
 
 -- ---- the front of a journal
 
@@ -131,10 +132,10 @@ journal_taken bytes n is within =
     let size : big_number 8 (drop 7 bytes) ≡ big_number 8 (drop 7 front) = ap (big_number 8) behind ∙ big_from-append 8 (drop 7 front) (drop n bytes) (omega (arith, long, is, length-drop 7 front)) in
     sym (journal_front front (drop n bytes) (omega (arith, long, is)) (omega (arith, long, is, size))) ∙ ap (λ (x : List ℕ). journal_at x) whole
 
-pub journal_of_body : (journal body : List ℕ) (size : ℕ) → size ≡ record_size journal → HoldsRecord journal → body ≡ take (15 + size) (drop 1 journal) → journal_at (drop 1 journal) ≡ journal_at body
-journal_of_body journal body size is within read =
-    let same : 15 + size ≡ 15 + big_number 8 (drop 7 (drop 1 journal)) = ap (λ (n : ℕ). 15 + n) (is ∙ ap (big_number 8) (sym (drop-drop 7 1 journal))) in
-    sym (journal_taken (drop 1 journal) (15 + size) same (omega (arith, is, within, length-drop 1 journal))) ∙ ap (λ (x : List ℕ). journal_at x) (sym read)
+pub journal_of_body : (journal body : List ℕ) (size : ℕ) → HoldsRecordOfSize journal size → body ≡ take (15 + size) (drop 1 journal) → journal_at (drop 1 journal) ≡ journal_at body
+journal_of_body journal body size held read =
+    let same : 15 + size ≡ 15 + big_number 8 (drop 7 (drop 1 journal)) = ap (λ (n : ℕ). 15 + n) (held.size_is ∙ ap (big_number 8) (sym (drop-drop 7 1 journal))) in
+    sym (journal_taken (drop 1 journal) (15 + size) same (omega (arith, held.size_is, held.within, length-drop 1 journal))) ∙ ap (λ (x : List ℕ). journal_at x) (sym read)
 
 -- ---- what was found
 
@@ -188,11 +189,8 @@ bad_size image OutOfMemory found = absurd found
 
 -- what the header told of an armed journal holds of it later, the files being the same
 module _ (files mid : List ℕ → FileState) (journal : List ℕ) (size : ℕ) (sized : FindsSize (files journal).content (Ok (Some size))) (still : mid ≡ files) where
-  pub size_told : size ≡ record_size (mid journal).content
-  size_told = subst (λ (f : List ℕ → FileState). size ≡ record_size (f journal).content) (sym still) sized.1
-
-  pub record_held : HoldsRecord (mid journal).content
-  record_held = subst (λ (f : List ℕ → FileState). HoldsRecord (f journal).content) (sym still) sized.2
+  pub record_held : HoldsRecordOfSize (mid journal).content size
+  record_held = subst (λ (f : List ℕ → FileState). HoldsRecordOfSize (f journal).content size) (sym still) (record { size_is = sized.1; within = sized.2 })
 
   -- the record behind it is bad
   pub bad_record : (e : FindFault) → journal ≡ journal_name → FindsRecord (mid journal).content (Err e) → Finds (contents files) (Err e)

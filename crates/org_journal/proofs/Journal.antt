@@ -238,9 +238,19 @@ sized o1 o2 o3 o4 bytes count items len size e1 e2 e3 e4 long is_size written =
     ∙ ap (λ (x : List ℕ). take (length o4) (bytes ++ x)) (drop_all (length bytes) o4 (omega (arith, same)))
     ∙ ap (take (length o4)) (append-nil bytes) ∙ take_all (length o4) bytes (omega (arith, same)) ∙ made
 
-pub written_again : (bytes : List ℕ) (entries : List Entry) → IsWellFormed Two entries → bytes ≡ journal_bytes Two entries → (rest : List ℕ) → journal_at (bytes ++ rest) ≡ Some entries
-written_again bytes entries is written rest =
-    journal_again (bytes ++ rest) entries (record { version = Two; rest = rest; whole = ap (λ (x : List ℕ). x ++ rest) written; well_formed = is })
+-- bytes that are a record's begin with them
+pub written_begins : (bytes : List ℕ) (entries : List Entry) → IsWellFormed Two entries → bytes ≡ journal_bytes Two entries → BeginsWith bytes entries
+written_begins bytes entries is written =
+    record { version = Two; rest = []; whole = written ∙ sym (append-nil (journal_bytes Two entries)); well_formed = is }
+
+-- the record is read again, whatever follows
+pub begins_again : (bytes : List ℕ) (entries : List Entry) → BeginsWith bytes entries → (rest : List ℕ) → journal_at (bytes ++ rest) ≡ Some entries
+begins_again bytes entries is rest = journal_again (bytes ++ rest) entries (record {
+  version = is.version;
+  rest = is.rest ++ rest;
+  whole = ap (λ (x : List ℕ). x ++ rest) is.whole ∙ append_assoc (journal_bytes is.version entries) is.rest rest;
+  well_formed = is.well_formed;
+})
 
 -- ---- what was read in version 1 can be written in version 2
 

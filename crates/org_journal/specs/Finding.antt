@@ -24,6 +24,11 @@ record_size journal = big_number 8 (drop 8 journal)
 abbrev pub HoldsRecord : List ℕ → Type 0
 HoldsRecord journal = front_size + record_size journal ≤ length journal
 
+-- a record of this size, which the header gives, lies whole within the journal
+pub record HoldsRecordOfSize (journal : List ℕ) (size : ℕ) : Type 0 where
+  pub size_is : size ≡ record_size journal
+  pub within : HoldsRecord journal
+
 -- what was found of a disk with these contents
 abbrev pub Finds : Image → Result Found FindFault → Type 0
 Finds image (Ok Closed) = IsFalse (is_open (image journal_name))

@@ -2,17 +2,15 @@
 //!
 //! It reads and never writes. An open gate over anything but a whole record that fits its files is
 //! `BadJournal`.
-ghost use Rattle.std.specs.Prelude.{◌≡◌, ◌≤◌, ◌<◌, ◌+◌, ◌^◌, ℕ, List, length, take, drop, Some, Ok, Err, IfOk, IfSome, IsErr, IsErrOf, IsTrue, IsFalse};
-ghost use Rattle.std.specs.List.{AllByRecursion};
+ghost use Rattle.std.specs.Prelude.{◌≡◌, ◌≤◌, ◌<◌, ◌+◌, ◌^◌, ℕ, List, length, take, drop, Some, Ok, Err, IfOk, IfSome, IsErr, IsErrOf};
 ghost use Rattle.org_disk.specs.Accounts.{Accounts, Looks};
 ghost use Rattle.org_disk.specs.Names.{journal_name};
 ghost use Rattle.org_splice.specs.Patches.{AreWellFormed};
 ghost use Rattle.org_splice.specs.Texts.{pairs_of};
 ghost use Rattle.org_journal.specs.Record.{IsWellFormed};
-ghost use Rattle.org_journal.specs.Reading.{journal_at};
 ghost use Rattle.org_journal.specs.Recovered.{contents, fits, all_fit};
 ghost use Rattle.org_journal.specs.declared.record.Version.TheVariants.{Two};
-ghost use Rattle.org_journal.specs.Finding.{Finds, IsWritable, FindsSize, FindsRecord, HoldsRecord, HaveWellFormedPatches, record_size};
+ghost use Rattle.org_journal.specs.Finding.{Finds, IsWritable, FindsSize, FindsRecord, HoldsRecordOfSize, HaveWellFormedPatches};
 ghost use Rattle.org_journal.specs.Gate.{front_size};
 
 use crate::decoding::decode;
@@ -104,10 +102,9 @@ fn record_of<D: Disk>(
     size: u64,
 ) -> Result<Record, FindFault>
     requires small { front_size + size < 2 ^ 64 }
-    requires size { D.honest disk.old → size ≡ record_size (D.files disk.old journal.now).content }
-    requires within { D.honest disk.old → HoldsRecord (D.files disk.old journal.now).content }
+    requires within { D.honest disk.old → HoldsRecordOfSize
+        (D.files disk.old journal.now).content size }
     ensures found { D.honest disk.new → FindsRecord (D.files disk.old journal.now).content result }
-    ensures patches { IfOk result (λ entries. HaveWellFormedPatches entries) }
     ensures writable { IfOk result (λ entries. IsWellFormed Two entries) }
     ensures looks { Looks D.Disk disk.old disk.new }
     ensures accounts { Accounts D.Disk disk.old disk.new

@@ -22,29 +22,20 @@ loop-entry-init g c = record {
   alone = λ honest. alone_none g.D.Disk (λ name. IsFalse (is_named name c.args.entries.now)) c.args.disk.now;
 }
 
-pub apply_entry-requires-clause-formed : goal.apply_entry-requires-clause-formed
-apply_entry-requires-clause-formed g c h =
-    let honest = c.loop-entry.invariant.accounts.was_honest h in
-    let is = slice_get_read c.args.entries.now (length c.args.entries.now) c.loop-entry.entry-index c.entry-item.result refl c.loop-entry-test.true c.entry-item.is in
-    (applicable_at c.args.entries.now c.loop-entry.entry-index c.entry-item.result (c.requires.applicable honest).each is).patches
-
-pub apply_entry-requires-clause-small : goal.apply_entry-requires-clause-small
-apply_entry-requires-clause-small g c h =
-    let honest = c.loop-entry.invariant.accounts.was_honest h in
-    let is = slice_get_read c.args.entries.now (length c.args.entries.now) c.loop-entry.entry-index c.entry-item.result refl c.loop-entry-test.true c.entry-item.is in
-    let small = (applicable_at c.args.entries.now c.loop-entry.entry-index c.entry-item.result (c.requires.applicable honest).each is).small in
-    omega (arith, small)
-
-pub apply_entry-requires-clause-fits : goal.apply_entry-requires-clause-fits
-apply_entry-requires-clause-fits g c h =
+pub apply_entry-requires : goal.apply_entry-requires
+apply_entry-requires g c h =
     let sofar = c.loop-entry.invariant in
-    let honest = sofar.accounts.was_honest h in
+    let can = c.requires (sofar.accounts.was_honest h) in
     let i = c.loop-entry.entry-index in
     let entry = c.entry-item.result in
     let is = slice_get_read c.args.entries.now (length c.args.entries.now) i entry refl c.loop-entry-test.true c.entry-item.is in
-    let old = g.D.Disk.files c.args.disk.now in
-    let applies = replayed-entry c.args.entries.now (contents old) i entry (c.requires.applicable honest) (c.requires.fits honest) is in
-    subst (λ (f : FileState). Fit (pairs_of entry.patches) entry.length (length f.content)) (sym (sofar.untouched h i entry (omega arith) is)) applies.fit
+    let own = applicable_at c.args.entries.now i entry can.applicable.each is in
+    let applies = replayed-entry c.args.entries.now (contents (g.D.Disk.files c.args.disk.now)) i entry can.applicable can.fits is in
+    record {
+      formed = own.patches;
+      small = omega (arith, own.small);
+      fits = subst (λ (f : FileState). Fit (pairs_of entry.patches) entry.length (length f.content)) (sym (sofar.untouched h i entry (omega arith) is)) applies.fit;
+    }
 
 pub returns-in_err-apply_entry-clause-replays : goal.returns-in_err-apply_entry-clause-replays
 returns-in_err-apply_entry-clause-replays g c ended stable texts takes =
@@ -55,8 +46,8 @@ returns-in_err-apply_entry-clause-replays g c ended stable texts takes =
     let entry = c.entry-item.result in
     let is = slice_get_read c.args.entries.now (length c.args.entries.now) i entry refl c.loop-entry-test.true c.entry-item.is in
     let now = sofar.replays h stable texts takes in
-    replays_entry i entry (c.requires.applicable honest) is stable now
-    (c.apply_entry.ensures.applies ended (texts entry.name) (entry_takes c.args.entries.now texts (g.D.Disk.files c.loop-entry.disk) i entry (c.requires.applicable honest) is now.takes))
+    replays_entry i entry (c.requires honest).applicable is stable now
+    (c.apply_entry.ensures.applies ended (texts entry.name) (entry_takes c.args.entries.now texts (g.D.Disk.files c.loop-entry.disk) i entry (c.requires honest).applicable is now.takes))
 
 pub returns-in_err-apply_entry-clause-alone : goal.returns-in_err-apply_entry-clause-alone
 returns-in_err-apply_entry-clause-alone g c ended =
@@ -79,15 +70,15 @@ loop-entry-preserved g c =
       accounts = accounts_then sofar.accounts (accounts_ok c.in_ok-apply_entry.ensures.accounts);
       replays = λ ended stable texts takes.
           let now = sofar.replays (back ended) stable texts takes in
-          replays_entry i entry (c.requires.applicable (sofar.accounts.was_honest (back ended))) is stable now
-          (c.apply_entry.ensures.applies ended (texts entry.name) (entry_takes c.args.entries.now texts mid i entry (c.requires.applicable (sofar.accounts.was_honest (back ended))) is now.takes));
+          replays_entry i entry (c.requires (sofar.accounts.was_honest (back ended))).applicable is stable now
+          (c.apply_entry.ensures.applies ended (texts entry.name) (entry_takes c.args.entries.now texts mid i entry (c.requires (sofar.accounts.was_honest (back ended))).applicable is now.takes));
       have = λ ended.
-          let applies = replayed-entry c.args.entries.now (contents old) i entry (c.requires.applicable (sofar.accounts.was_honest (back ended))) (c.requires.fits (sofar.accounts.was_honest (back ended))) is in
+          let applies = replayed-entry c.args.entries.now (contents old) i entry (c.requires (sofar.accounts.was_honest (back ended))).applicable (c.requires (sofar.accounts.was_honest (back ended))).fits is in
           texts_more c.args.entries.now (replayed c.args.entries.now (contents old)) i entry mid (g.D.Disk.files c.apply_entry.new.disk) is
           (c.in_ok-apply_entry.ensures.content ended ∙ ap (λ (f : FileState). patched (pairs_of entry.patches) entry.length f.content) (sofar.untouched (back ended) i entry (omega arith) is) ∙ applies.makes)
           (c.apply_entry.ensures.alone ended).same (sofar.have (back ended));
       untouched = λ ended.
-          untouched_more c.args.entries.now i entry old mid (g.D.Disk.files c.apply_entry.new.disk) (c.requires.applicable (sofar.accounts.was_honest (back ended))) is (c.apply_entry.ensures.alone ended).same (sofar.untouched (back ended));
+          untouched_more c.args.entries.now i entry old mid (g.D.Disk.files c.apply_entry.new.disk) (c.requires (sofar.accounts.was_honest (back ended))).applicable is (c.apply_entry.ensures.alone ended).same (sofar.untouched (back ended));
       alone = λ ended.
           alone_entry g.D.Disk c.args.entries.now i entry c.args.disk.now c.loop-entry.disk c.apply_entry.new.disk is (sofar.alone (back ended))
           (c.apply_entry.ensures.alone ended);
@@ -99,4 +90,4 @@ returns-clause-contents g c ended name =
     let honest = sofar.accounts.was_honest ended in
     let old = g.D.Disk.files c.args.disk.now in
     all_texts c.args.entries.now (replayed c.args.entries.now (contents old)) c.loop-entry.entry-index old (g.D.Disk.files c.loop-entry.disk) name c.loop-entry-test.false (sofar.have ended)
-    (sofar.alone ended).same (λ none. replayed-other c.args.entries.now (contents old) name (c.requires.fits honest) none)
+    (sofar.alone ended).same (λ none. replayed-other c.args.entries.now (contents old) name (c.requires honest).fits none)

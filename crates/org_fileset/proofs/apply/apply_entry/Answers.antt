@@ -26,7 +26,7 @@ write_at-requires-clause-within g c h =
     let is = pair_at c.as_slice-patch-items.result.now c.args.entry.now.patches c.loop-patch.patch-index c.patch-item.result c.as_slice.result.now
     c.as_slice-patch-items.ensures c.loop-patch-test.true c.patch-item.is c.as_slice.ensures in
     next_within patches c.args.entry.now.length c.loop-patch.patch-index c.patch-item.result.from c.as_slice.result.now (g.D.Disk.files c.args.disk.now c.args.entry.now.name).content
-    (g.D.Disk.files c.loop-patch.disk c.args.entry.now.name).content (c.requires.formed honest) (c.requires.fits honest) is (sofar.content h)
+    (g.D.Disk.files c.loop-patch.disk c.args.entry.now.name).content (c.requires honest).formed (c.requires honest).fits is (sofar.content h)
 
 pub write_at-requires-clause-fits : goal.write_at-requires-clause-fits
 write_at-requires-clause-fits g c h =
@@ -37,8 +37,8 @@ write_at-requires-clause-fits g c h =
     c.as_slice-patch-items.ensures c.loop-patch-test.true c.patch-item.is c.as_slice.ensures in
     let small : c.patch-item.result.from + length c.as_slice.result.now ≤ c.args.entry.now.length =
     next_small patches c.args.entry.now.length c.loop-patch.patch-index c.patch-item.result.from c.as_slice.result.now (g.D.Disk.files c.args.disk.now c.args.entry.now.name).content
-    (c.requires.formed honest) (c.requires.fits honest) is in
-    omega (arith, small, c.requires.small honest)
+    (c.requires honest).formed (c.requires honest).fits is in
+    omega (arith, small, (c.requires honest).small)
 
 pub returns-in_err-write_at-clause-applies : goal.returns-in_err-write_at-clause-applies
 returns-in_err-write_at-clause-applies g c ended to takes =
@@ -53,10 +53,10 @@ returns-in_err-write_at-clause-applies g c ended to takes =
     let is = pair_at c.as_slice-patch-items.result.now c.args.entry.now.patches c.loop-patch.patch-index c.patch-item.result bytes
     c.as_slice-patch-items.ensures c.loop-patch-test.true c.patch-item.is c.as_slice.ensures in
     let le = next_within patches c.args.entry.now.length c.loop-patch.patch-index from bytes (g.D.Disk.files c.args.disk.now name).content
-    (mid name).content (c.requires.formed honest) (c.requires.fits honest) is (sofar.content h) in
+    (mid name).content (c.requires honest).formed (c.requires honest).fits is (sofar.content h) in
     let now = sofar.applies h to takes in
     applies_call (write from bytes) c.write_at.result now
-    (takes_write (mid name) c.loop-patch.patch-index from bytes (c.requires.formed honest) is le (g.met.D.Disk.content_is_image c.loop-patch.disk name h) now.takes)
+    (takes_write (mid name) c.loop-patch.patch-index from bytes (c.requires honest).formed is le (g.met.D.Disk.content_is_image c.loop-patch.disk name h) now.takes)
     (c.write_at.ensures.effect ended) (c.write_at.ensures.time ended)
 
 pub loop-patch-preserved : goal.loop-patch-preserved
@@ -81,10 +81,10 @@ loop-patch-preserved g c =
           (alone_call g.D.Disk (write from bytes) name c.loop-patch.disk c.write_at.new.self c.write_at.result (c.write_at.ensures.effect ended) (c.write_at.ensures.time ended));
       applies = λ ended to takes.
           let le = next_within patches c.args.entry.now.length c.loop-patch.patch-index from bytes (g.D.Disk.files c.args.disk.now name).content
-          (mid name).content (c.requires.formed (sofar.accounts.was_honest (back ended))) (c.requires.fits (sofar.accounts.was_honest (back ended))) is (sofar.content (back ended)) in
+          (mid name).content (c.requires (sofar.accounts.was_honest (back ended))).formed (c.requires (sofar.accounts.was_honest (back ended))).fits is (sofar.content (back ended)) in
           let now = sofar.applies (back ended) to takes in
           applies_call (write from bytes) c.write_at.result now
-          (takes_write (mid name) c.loop-patch.patch-index from bytes (c.requires.formed (sofar.accounts.was_honest (back ended))) is le (g.met.D.Disk.content_is_image c.loop-patch.disk name (back ended)) now.takes)
+          (takes_write (mid name) c.loop-patch.patch-index from bytes (c.requires (sofar.accounts.was_honest (back ended))).formed is le (g.met.D.Disk.content_is_image c.loop-patch.disk name (back ended)) now.takes)
           (c.write_at.ensures.effect ended) (c.write_at.ensures.time ended);
     }
 
@@ -107,10 +107,10 @@ returns-in_err-cut-clause-applies g c ended to takes =
     let enough : final ≤ length (mid name).content =
     let long : final ≤ length (g.D.Disk.files c.loop-patch.disk name).content =
     long_enough c.as_slice-patch-items.result.now c.args.entry.now.patches c.loop-patch.patch-index final (g.D.Disk.files c.args.disk.now name).content
-    (g.D.Disk.files c.loop-patch.disk name).content (c.requires.formed honest) (c.requires.fits honest) c.as_slice-patch-items.ensures c.loop-patch-test.false (sofar.content h) in
+    (g.D.Disk.files c.loop-patch.disk name).content (c.requires honest).formed (c.requires honest).fits c.as_slice-patch-items.ensures c.loop-patch-test.false (sofar.content h) in
     subst (λ (f : List ℕ → FileState). final ≤ length (f name).content) (sym (c.length.ensures.looks h1).same) long in
     applies_call (cut final) c.cut.result read
-    (takes_cut (mid name) (c.requires.formed honest) enough (g.met.D.Disk.content_is_image c.length.new.self name h1) read.takes)
+    (takes_cut (mid name) (c.requires honest).formed enough (g.met.D.Disk.content_is_image c.length.new.self name h1) read.takes)
     (c.cut.ensures.effect ended) (c.cut.ensures.time ended)
 
 pub returns-in_ok-cut-clause-applies : goal.returns-in_ok-cut-clause-applies
@@ -126,10 +126,10 @@ returns-in_ok-cut-clause-applies g c ended to takes =
     let enough : final ≤ length (mid name).content =
     let long : final ≤ length (g.D.Disk.files c.loop-patch.disk name).content =
     long_enough c.as_slice-patch-items.result.now c.args.entry.now.patches c.loop-patch.patch-index final (g.D.Disk.files c.args.disk.now name).content
-    (g.D.Disk.files c.loop-patch.disk name).content (c.requires.formed honest) (c.requires.fits honest) c.as_slice-patch-items.ensures c.loop-patch-test.false (sofar.content h) in
+    (g.D.Disk.files c.loop-patch.disk name).content (c.requires honest).formed (c.requires honest).fits c.as_slice-patch-items.ensures c.loop-patch-test.false (sofar.content h) in
     subst (λ (f : List ℕ → FileState). final ≤ length (f name).content) (sym (c.length.ensures.looks h1).same) long in
     applies_call (cut final) c.cut.result read
-    (takes_cut (mid name) (c.requires.formed honest) enough (g.met.D.Disk.content_is_image c.length.new.self name h1) read.takes)
+    (takes_cut (mid name) (c.requires honest).formed enough (g.met.D.Disk.content_is_image c.length.new.self name h1) read.takes)
     (c.cut.ensures.effect ended) (c.cut.ensures.time ended)
 
 pub returns-else-length-entry-clause-applies : goal.returns-else-length-entry-clause-applies

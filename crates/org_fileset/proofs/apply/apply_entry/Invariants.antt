@@ -1,8 +1,8 @@
-use Rattle.std.proofs.Common.{◌≡◌, ◌≢◌, List, ℕ, take}
+use Rattle.std.proofs.Common.{◌≡◌, ◌≢◌, take}
 use Rattle.org_disk.specs.Accounts.{Accounts}
 use Rattle.org_splice.specs.Patches.{patched_each}
 use Rattle.org_splice.specs.Texts.{pairs_of}
-use Rattle.org_fileset.specs.Replay.{EachPatchedTo, AppliesPatches}
+use Rattle.org_fileset.specs.Replay.{AppliesPatchesOver}
 use Rattle.org_fileset.specs.Writes.{LeavesAlone}
 use Rattle.org_fileset.proofs.apply.apply_entry.Given as goal
 
@@ -15,6 +15,5 @@ invariant-loop-patch g l =
       accounts : Accounts disk l.fn.disk l.disk ⊥;
       content : disk.honest l.disk → (disk.files l.disk l.entry.name).content ≡ patched_each (take l.patch-index patches) (disk.files l.fn.disk l.entry.name).content;
       alone : disk.honest l.disk → LeavesAlone disk (λ other. other ≢ l.entry.name) l.fn.disk l.disk;
-      applies : disk.honest l.disk → (to : List ℕ) → EachPatchedTo patches l.entry.length to (disk.files l.fn.disk l.entry.name)
-          → AppliesPatches patches l.entry.length l.entry.name to (disk.instant l.fn.disk) (disk.instant l.disk) (disk.left_since l.fn.disk) (disk.left_since l.disk) (disk.files l.fn.disk) (disk.files l.disk);
+      applies : disk.honest l.disk → AppliesPatchesOver disk l.entry l.fn.disk l.disk;
     }

@@ -1,11 +1,9 @@
 use Rattle.std.proofs.Common.{◌≡◌, List, ℕ}
-use Rattle.org_journal.specs.Recovered.{Image, contents}
+use Rattle.org_journal.specs.Recovered.{contents}
 use Rattle.org_journal.specs.Record.{is_named}
 use Rattle.std.specs.Prelude.{IsFalse}
-use Rattle.org_disk.specs.Disk.{IsStable}
 use Rattle.org_disk.specs.Accounts.{Accounts}
-use Rattle.org_disk.specs.Names.{journal_name}
-use Rattle.org_fileset.specs.Replay.{EachTakes, Replays}
+use Rattle.org_fileset.specs.Replay.{TakesOver}
 use Rattle.org_fileset.specs.Writes.{LeavesAlone}
 use Rattle.org_fileset.proofs.Replaying.{AreStable}
 use Rattle.org_fileset.proofs.apply.sync_all.Given as goal
@@ -16,8 +14,7 @@ invariant-loop-entry g l =
     let disk = g.D.Disk in
     record {
       accounts : Accounts disk l.fn.disk l.disk ⊥;
-      replays : disk.honest l.disk → IsStable (disk.files l.fn.disk journal_name) → (texts : Image) → EachTakes l.entries texts (disk.files l.fn.disk)
-          → Replays l.entries texts (disk.instant l.fn.disk) (disk.instant l.disk) (disk.left_since l.fn.disk) (disk.left_since l.disk) (disk.files l.fn.disk) (disk.files l.disk);
+      replays : disk.honest l.disk → TakesOver disk l.entries l.fn.disk l.disk;
       contents : disk.honest l.disk → (name : List ℕ) → contents (disk.files l.disk) name ≡ contents (disk.files l.fn.disk) name;
       alone : disk.honest l.disk → LeavesAlone disk (λ name. IsFalse (is_named name l.entries)) l.fn.disk l.disk;
       stable : disk.honest l.disk → AreStable l.entries l.entry-index (disk.files l.disk);

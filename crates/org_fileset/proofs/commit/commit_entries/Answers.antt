@@ -11,71 +11,68 @@ use Rattle.org_fileset.specs.Writes.{IsUnwritten}
 use Rattle.org_fileset.proofs.Writes.{alone_then}
 use Rattle.org_fileset.proofs.Starting.{since_start}
 use Rattle.org_fileset.proofs.Armed.{on_ok_never}
-use Rattle.org_fileset.proofs.Commits.{at_rest_recovers, still_fits, still_made, still_takes}
+use Rattle.org_fileset.proofs.Commits.{at_rest_recovers, still_can, still_made, still_takes}
 use Rattle.org_fileset.proofs.commit.commit_entries.Goals as goal
 
 pub returns-in_err-write_record-clause-commits : goal.returns-in_err-write_record-clause-commits
 returns-in_err-write_record-clause-commits g c ended =
     let honest = c.write_record.ensures.accounts.was_honest ended in
     let files = g.D.Disk.files c.args.disk.now in
-    let written = c.write_record.ensures.writes c.args.entries.now c.requires.body (c.requires.applicable honest) ended (c.requires.fits honest) in
+    let written = c.write_record.ensures.writes ended c.args.entries.now c.requires.body (c.requires.applicable honest) in
     record {
-      done = on_ok_never _ c.from_residual.result c.from_residual.ensures.0;
-      any_moment = λ rest. since_start (written.any_moment rest) files (g.met.D.Disk.only_now c.args.disk.now) honest (λ image left. inl (at_rest_recovers files rest image left));
-      recoverable = λ rest. inl (λ name not. subst IsStable (sym (written.others name not)) (rest.stable name));
-      alone = written.alone;
+      commits = record {
+        done = on_ok_never _ c.from_residual.result c.from_residual.ensures.0;
+        any_moment = λ rest. since_start (written.any_moment rest) files (g.met.D.Disk.only_now c.args.disk.now) honest (λ image left. inl (at_rest_recovers files rest image left));
+        recoverable = λ rest. inl (λ name not. subst IsStable (sym (written.others name not)) (rest.stable name));
+        alone = written.alone;
+      };
+      closed = on_ok_never _ c.from_residual.result c.from_residual.ensures.0;
     }
 
 pub replay-requires-clause-opened : goal.replay-requires-clause-opened
 replay-requires-clause-opened g c ended =
     let honest = c.write_record.ensures.accounts.was_honest ended in
-    (c.in_ok-write_record.ensures.writes c.args.entries.now c.requires.body (c.requires.applicable honest) ended (c.requires.fits honest)).opened
+    (c.in_ok-write_record.ensures.writes ended c.args.entries.now c.requires.body (c.requires.applicable honest)).opened
 
-pub replay-requires-clause-fits : goal.replay-requires-clause-fits
-replay-requires-clause-fits g c ended =
-    let honest = c.write_record.ensures.accounts.was_honest ended in
-    let entries = c.args.entries.now in
+pub replay-requires-clause-applicable : goal.replay-requires-clause-applicable
+replay-requires-clause-applicable g c ended =
+    let can = c.requires.applicable (c.write_record.ensures.accounts.was_honest ended) in
     let files = g.D.Disk.files in
-    let written = c.write_record.ensures.writes entries c.requires.body (c.requires.applicable honest) ended (c.requires.fits honest) in
-    still_fits entries (files c.args.disk.now) (c.requires.applicable honest) (c.requires.fits honest) (files c.write_record.new.disk) written.others
-
-pub returns-clause-gate : goal.returns-clause-gate
-returns-clause-gate g c ended = on_ok_weaker c.replay.result (λ done. done.gate) (c.replay.ensures.replays ended).done
-
--- the record stays behind the gate
-pub returns-clause-record : goal.returns-clause-record
-returns-clause-record g c ended =
-    let mid = c.replay.ensures.accounts.was_honest ended in
-    let honest = c.write_record.ensures.accounts.was_honest mid in
-    let opened = (c.in_ok-write_record.ensures.writes c.args.entries.now c.requires.body (c.requires.applicable honest) mid (c.requires.fits honest)).opened in
-    on_ok_weaker c.replay.result (λ done. ap (λ (l : List ℕ). journal_at (drop 1 l)) done.journal ∙ opened.found) (c.replay.ensures.replays ended).done
+    let written = c.write_record.ensures.writes ended c.args.entries.now c.requires.body can in
+    still_can c.args.entries.now (files c.args.disk.now) can (files c.write_record.new.disk) written.others
 
 pub returns-clause-commits : goal.returns-clause-commits
 returns-clause-commits g c ended =
     let mid = c.replay.ensures.accounts.was_honest ended in
     let honest = c.write_record.ensures.accounts.was_honest mid in
     let entries = c.args.entries.now in
-    let applicable = c.requires.applicable honest in
-    let fit = c.requires.fits honest in
+    let can = c.requires.applicable honest in
     let d = g.D.Disk in
     let files = d.files c.args.disk.now in
     let last = d.files c.write_record.new.disk in
-    let written = c.write_record.ensures.writes entries c.requires.body applicable mid fit in
-    let can : IsAtRest files → IsReplayable entries last = λ rest. record {
+    let written = c.in_ok-write_record.ensures.writes mid entries c.requires.body can in
+    let replayable : IsAtRest files → IsReplayable entries last = λ rest. record {
       others = λ name not none. subst IsStable (sym (written.others name not)) (rest.stable name);
       texts = replayed entries (contents files);
-      takes = still_takes entries files applicable fit last written.others rest;
+      takes = still_takes entries files can last written.others rest;
     } in
     let replays = c.replay.ensures.replays ended in
     record {
-      done = on_ok_weaker c.replay.result (λ done. record {
-        made = λ name not. done.made name not ∙ still_made entries files applicable fit last written.others name not;
-        rest = λ rest. done.rest (can rest);
+      commits = record {
+        done = on_ok_weaker c.replay.result (λ done. record {
+          made = λ name not. done.made name not ∙ still_made entries files can last written.others name not;
+          rest = λ rest. done.rest (replayable rest);
+        }) replays.done;
+        any_moment = λ rest. since_start (passes_then (written.any_moment rest) (replays.any_moment (replayable rest)) (λ image stands. inr stands)) files
+            (g.met.D.Disk.only_now c.args.disk.now) honest (λ image left. inl (at_rest_recovers files rest image left));
+        recoverable = λ rest. replays.recoverable (replayable rest);
+        alone = alone_then d (IsUnwritten entries) c.args.disk.now c.write_record.new.disk c.replay.new.disk written.alone replays.alone;
+      };
+      -- the record stays behind the gate
+      closed = on_ok_weaker c.replay.result (λ done. record {
+        gate = done.gate;
+        found = ap (λ (l : List ℕ). journal_at (drop 1 l)) done.journal ∙ written.opened.found;
       }) replays.done;
-      any_moment = λ rest. since_start (passes_then (written.any_moment rest) (replays.any_moment (can rest)) (λ image stands. inr stands)) files
-          (g.met.D.Disk.only_now c.args.disk.now) honest (λ image left. inl (at_rest_recovers files rest image left));
-      recoverable = λ rest. replays.recoverable (can rest);
-      alone = alone_then d (IsUnwritten entries) c.args.disk.now c.write_record.new.disk c.replay.new.disk written.alone replays.alone;
     }
 
 pub returns-in_err-write_record-clause-accounts : goal.returns-in_err-write_record-clause-accounts

@@ -2,29 +2,21 @@ use Rattle.std.proofs.Common.{Ok, subst}
 use Rattle.org_journal.specs.declared.finding.Found.{Found}
 use Rattle.org_journal.specs.Finding.{Finds}
 use Rattle.org_journal.specs.Recovered.{contents}
-use Rattle.org_fileset.proofs.Reopening.{armed_as, armed_applicable, open_over, replayed_reopens}
+use Rattle.org_fileset.proofs.Reopening.{armed_as, open_over, replayed_reopens}
 use Rattle.org_fileset.proofs.recover.finish.Goals as goal
 
 pub replay-requires-clause-journal : goal.replay-requires-clause-journal
 replay-requires-clause-journal g c = c.requires.journal
 
-pub replay-requires-clause-applicable : goal.replay-requires-clause-applicable
-replay-requires-clause-applicable g c honest =
-    let entries = c.as_slice.result.now in
-    let is = armed_as c.in-Armed.is c.as_slice.ensures in
-    armed_applicable c.args.found.now entries is c.requires.writable
-
 pub replay-requires-clause-opened : goal.replay-requires-clause-opened
 replay-requires-clause-opened g c honest =
-    let entries = c.as_slice.result.now in
     let is = armed_as c.in-Armed.is c.as_slice.ensures in
-    (open_over (g.D.Disk.files c.args.disk.now) c.args.found.now entries (c.requires.stable honest) is (c.requires.found honest)).0
+    (open_over (g.D.Disk.files c.args.disk.now) c.args.found.now c.as_slice.result.now (c.requires.stable honest) is c.requires.writable (c.requires.found honest)).0
 
-pub replay-requires-clause-fits : goal.replay-requires-clause-fits
-replay-requires-clause-fits g c honest =
-    let entries = c.as_slice.result.now in
+pub replay-requires-clause-applicable : goal.replay-requires-clause-applicable
+replay-requires-clause-applicable g c honest =
     let is = armed_as c.in-Armed.is c.as_slice.ensures in
-    (open_over (g.D.Disk.files c.args.disk.now) c.args.found.now entries (c.requires.stable honest) is (c.requires.found honest)).1
+    (open_over (g.D.Disk.files c.args.disk.now) c.args.found.now c.as_slice.result.now (c.requires.stable honest) is c.requires.writable (c.requires.found honest)).1
 
 pub give_gate-requires-clause-journal : goal.give_gate-requires-clause-journal
 give_gate-requires-clause-journal g c = c.requires.journal
@@ -42,9 +34,9 @@ returns-in-Armed-clause-reopens g c ended =
     let honest = c.replay.ensures.accounts.was_honest ended in
     let entries = c.as_slice.result.now in
     let is = armed_as c.in-Armed.is c.as_slice.ensures in
-    let over = open_over (d.files old) c.args.found.now entries (c.requires.stable honest) is (c.requires.found honest) in
+    let over = open_over (d.files old) c.args.found.now entries (c.requires.stable honest) is c.requires.writable (c.requires.found honest) in
     replayed_reopens d old (λ image left. g.met.D.Disk.only_now old image honest left) (λ name. g.met.D.Disk.content_is_image old name honest) entries c.replay.new.disk c.replay.result
-    (armed_applicable c.args.found.now entries is c.requires.writable) over.0 over.1 (c.replay.ensures.replays ended)
+    over.0 over.1 (c.replay.ensures.replays ended)
 
 pub returns-in-Closed-clause-reopens : goal.returns-in-Closed-clause-reopens
 returns-in-Closed-clause-reopens g c = c.give_gate.ensures.reopens

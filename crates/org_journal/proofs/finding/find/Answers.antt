@@ -3,9 +3,10 @@ use Rattle.std.specs.Prelude.{None, Ok, Err}
 use Rattle.std.proofs.lemmas.Result.{err_from_is_err_and}
 use Rattle.org_journal.specs.Recovered.{contents}
 use Rattle.org_journal.specs.Finding.{FindsSize}
+use Rattle.org_journal.specs.declared.record.Version.TheVariants.{Two}
 use Rattle.org_disk.proofs.Accounting.{accounts_none, accounts_ok, looks_then}
 use Rattle.org_journal.proofs.Accounted.{accounts_after, accounts_passed, accounts_answered, accounts_bad, accounts_told}
-use Rattle.org_journal.proofs.Fitting.{bad_record, bad_size, found_armed, found_bad, record_held, size_told}
+use Rattle.org_journal.proofs.Fitting.{bad_record, bad_size, found_armed, found_bad, formed_patches, record_held}
 use Rattle.org_splice.proofs.Failing.{no_value}
 use Rattle.org_journal.proofs.finding.find.Goals as goal
 
@@ -103,16 +104,12 @@ returns-in_default-clause-found g c ended =
 pub record_of-requires-clause-small : goal.record_of-requires-clause-small
 record_of-requires-clause-small g c = rw c.in-Some.is at c.in_ok-size.ensures.small
 
-pub record_of-requires-clause-size : goal.record_of-requires-clause-size
-record_of-requires-clause-size g c start =
-    size_told (g.D.Disk.files c.args.disk.now) (g.D.Disk.files c.size_of.new.disk) c.args.journal.now c.in-Some.size (rw c.in-Some.is at (c.in_ok-size.ensures.found start)) (c.size_of.ensures.looks start).same
-
 pub record_of-requires-clause-within : goal.record_of-requires-clause-within
 record_of-requires-clause-within g c start =
     record_held (g.D.Disk.files c.args.disk.now) (g.D.Disk.files c.size_of.new.disk) c.args.journal.now c.in-Some.size (rw c.in-Some.is at (c.in_ok-size.ensures.found start)) (c.size_of.ensures.looks start).same
 
 pub all_fit-requires : goal.all_fit-requires
-all_fit-requires g c = rw c.as_slice.ensures c.in_ok-record.ensures.patches
+all_fit-requires g c = rw c.as_slice.ensures (formed_patches Two c.in_ok-record.record c.in_ok-record.ensures.writable)
 
 pub returns-in_err-record-clause-found : goal.returns-in_err-record-clause-found
 returns-in_err-record-clause-found g c ended =

@@ -1,22 +1,19 @@
 use Rattle.std.proofs.Common.{◌∙◌}
 use Rattle.org_disk.proofs.Accounting.{accounts_fine}
 use Rattle.org_journal.proofs.Accounted.{accounts_answered, accounts_bad, accounts_passed, accounts_quiet, memory_is_no_call, ok_is_no_fault}
-use Rattle.org_journal.proofs.Fitting.{begins_patches, journal_of_body}
+use Rattle.org_journal.proofs.Fitting.{journal_of_body}
 use Rattle.org_splice.proofs.Failing.{no_value}
 use Rattle.org_journal.proofs.finding.record_of.Goals as goal
 
 pub returns-in-Ok-clause-found : goal.returns-in-Ok-clause-found
 returns-in-Ok-clause-found g c ended =
     let before = c.body_of.ensures.accounts.was_honest ended in
-    journal_of_body (g.D.Disk.files c.args.disk.now c.args.journal.now).content c.deref.result.now c.args.size (c.requires.size before) (c.requires.within before) (c.deref.ensures.value ∙ c.in_ok-body.ensures.bytes ended) ∙ c.in-Ok.ensures.exact
-
-pub returns-in-Ok-clause-patches : goal.returns-in-Ok-clause-patches
-returns-in-Ok-clause-patches g c = begins_patches c.deref.result.now c.in-Ok.record c.in-Ok.ensures.found
+    journal_of_body (g.D.Disk.files c.args.disk.now c.args.journal.now).content c.deref.result.now c.args.size (c.requires.within before) (c.deref.ensures.value ∙ c.in_ok-body.ensures.bytes ended) ∙ c.in-Ok.ensures.exact
 
 pub returns-in-Err-Malformed-clause-found : goal.returns-in-Err-Malformed-clause-found
 returns-in-Err-Malformed-clause-found g c ended =
     let before = c.body_of.ensures.accounts.was_honest ended in
-    journal_of_body (g.D.Disk.files c.args.disk.now c.args.journal.now).content c.deref.result.now c.args.size (c.requires.size before) (c.requires.within before) (c.deref.ensures.value ∙ c.in_ok-body.ensures.bytes ended) ∙ (rw c.in-Err-Malformed.field-0-is at c.in-Err-Malformed.ensures.exact)
+    journal_of_body (g.D.Disk.files c.args.disk.now c.args.journal.now).content c.deref.result.now c.args.size (c.requires.within before) (c.deref.ensures.value ∙ c.in_ok-body.ensures.bytes ended) ∙ (rw c.in-Err-Malformed.field-0-is at c.in-Err-Malformed.ensures.exact)
 
 pub returns-in_err-body-clause-accounts : goal.returns-in_err-body-clause-accounts
 returns-in_err-body-clause-accounts g c = accounts_passed c.from_residual.ensures.1 c.in_err-body.ensures.accounts
@@ -31,10 +28,9 @@ pub body_of-requires-clause-small : goal.body_of-requires-clause-small
 body_of-requires-clause-small g c = c.requires.small
 
 pub body_of-requires-clause-within : goal.body_of-requires-clause-within
-body_of-requires-clause-within g c start = rw (c.requires.size start) (c.requires.within start)
-
-pub returns-in_err-body-clause-patches : goal.returns-in_err-body-clause-patches
-returns-in_err-body-clause-patches g c = no_value _ _ c.from_residual.ensures.0
+body_of-requires-clause-within g c start =
+    let held = c.requires.within start in
+    rw held.size_is held.within
 
 pub returns-in_err-body-clause-writable : goal.returns-in_err-body-clause-writable
 returns-in_err-body-clause-writable g c = no_value _ _ c.from_residual.ensures.0
@@ -48,9 +44,6 @@ returns-in-Ok-clause-writable g c = c.in-Ok.ensures.writable
 pub returns-in-Ok-clause-looks : goal.returns-in-Ok-clause-looks
 returns-in-Ok-clause-looks g c = c.body_of.ensures.looks
 
-pub returns-in-Err-Malformed-clause-patches : goal.returns-in-Err-Malformed-clause-patches
-returns-in-Err-Malformed-clause-patches g c = tt
-
 pub returns-in-Err-Malformed-clause-writable : goal.returns-in-Err-Malformed-clause-writable
 returns-in-Err-Malformed-clause-writable g c = tt
 
@@ -59,9 +52,6 @@ returns-in-Err-Malformed-clause-looks g c = c.body_of.ensures.looks
 
 pub returns-clause-found : goal.returns-clause-found
 returns-clause-found g c ended = tt
-
-pub returns-clause-patches : goal.returns-clause-patches
-returns-clause-patches g c = tt
 
 pub returns-clause-writable : goal.returns-clause-writable
 returns-clause-writable g c = tt

@@ -1,15 +1,15 @@
 use Rattle.std.proofs.Common.{List, Option, Some, Ok, Err, true≢false, refl, sym, ◌∙◌, ap, subst}
-use Rattle.std.specs.Prelude.{IsTrue}
 use Rattle.std.specs.Map.{keys_of}
 use Rattle.std.proofs.lemmas.Result.{err_from_is_err_and}
 use Rattle.org_disk.specs.Names.{journal_name}
 use Rattle.org_disk.specs.declared.disk.DiskFault.{DiskFault}
 use Rattle.org_journal.specs.declared.record.Entry.{Entry}
 use Rattle.org_journal.specs.declared.record.Version.TheVariants.{Two}
-use Rattle.org_journal.specs.Record.{IsWellFormed}
-use Rattle.org_journal.specs.Recovered.{contents, all_fit, replayed}
+use Rattle.org_journal.specs.Record.{BeginsWith, IsWellFormed, journal_bytes}
+use Rattle.org_journal.specs.Recovered.{contents, replayed}
+use Rattle.org_journal.proofs.Journal.{written_begins}
 use Rattle.org_fileset.specs.Entries.{changed}
-use Rattle.org_fileset.specs.Replay.{AreApplicable, CommitsOver}
+use Rattle.org_fileset.specs.Replay.{AreApplicableTo, CommitsOver}
 use Rattle.org_fileset.specs.Writes.{IsOther, IsUnwritten}
 use Rattle.org_fileset.specs.declared.fault.SetFault.TheVariants.{Device}
 use Rattle.org_fileset.proofs.Accounted.{accounts_other}
@@ -64,13 +64,13 @@ returns-in-Ok g c = record {
       let entries = c.in_ok-entries_of.field-0.items in
       let files = contents (d.files disk) in
       let made : CommitsOver {A = Unit {0}} {E = DiskFault} d (replayed entries files) (IsUnwritten entries) disk after (Ok tt) =
-      subst (λ (l : List Entry). CommitsOver {A = Unit {0}} {E = DiskFault} d (replayed l files) (IsUnwritten l) disk after (Ok tt)) (c.as_slice.ensures ∙ c.new-record.ensures) (c.in-Ok.ensures.commits ended) in
+      subst (λ (l : List Entry). CommitsOver {A = Unit {0}} {E = DiskFault} d (replayed l files) (IsUnwritten l) disk after (Ok tt)) (c.as_slice.ensures ∙ c.new-record.ensures) (c.in-Ok.ensures.commits ended).commits in
       commits_changes d (g.C.Changes.pairs c.args.changes.now) entries disk after (Ok tt) (Ok tt) c.requires.some c.in_ok-entries_of.ensures.entries
       (all_edits files (g.C.Changes.pairs c.args.changes.now) (edits honest)) made made.done);
   record_stands =
       λ ended. let journal = contents (g.D.Disk.files c.commit_entries.new.disk) journal_name in
       has_record (g.C.Changes.pairs c.args.changes.now) c.in_ok-entries_of.field-0.items journal c.in_ok-entries_of.ensures.entries
-      (c.in-Ok.ensures.record ended ∙ ap (λ (l : List Entry). let o : Option (List Entry) = Some l in o) (c.as_slice.ensures ∙ c.new-record.ensures));
+      ((c.in-Ok.ensures.commits ended).closed.found ∙ ap (λ (l : List Entry). let o : Option (List Entry) = Some l in o) (c.as_slice.ensures ∙ c.new-record.ensures));
   memory = λ e. absurd (ok_apart e);
   set =
       let whole = rw (← c.self.view_is) at c.requires.whole in
@@ -90,7 +90,7 @@ returns g c = record {
       let entries = c.in_ok-entries_of.field-0.items in
       let files = contents (d.files disk) in
       let made : CommitsOver {A = Unit {0}} {E = DiskFault} d (replayed entries files) (IsUnwritten entries) disk after c.commit_entries.result =
-      subst (λ (l : List Entry). CommitsOver {A = Unit {0}} {E = DiskFault} d (replayed l files) (IsUnwritten l) disk after c.commit_entries.result) (c.as_slice.ensures ∙ c.new-record.ensures) (c.commit_entries.ensures.commits ended) in
+      subst (λ (l : List Entry). CommitsOver {A = Unit {0}} {E = DiskFault} d (replayed l files) (IsUnwritten l) disk after c.commit_entries.result) (c.as_slice.ensures ∙ c.new-record.ensures) (c.commit_entries.ensures.commits ended).commits in
       commits_changes d (g.C.Changes.pairs c.args.changes.now) entries disk after c.commit_entries.result (Err Device) c.requires.some c.in_ok-entries_of.ensures.entries
       (all_edits files (g.C.Changes.pairs c.args.changes.now) (edits honest)) made tt);
   record_stands = λ honest. tt;
@@ -111,16 +111,26 @@ encode-requires g c =
 pub commit_entries-requires-clause-applicable : goal.commit_entries-requires-clause-applicable
 commit_entries-requires-clause-applicable g c honest =
     let named = rw (← c.self.view_is) at c.requires.can.named in
-    subst AreApplicable (sym (c.as_slice.ensures ∙ c.new-record.ensures))
-    (changes_applicable (g.C.Changes.pairs c.args.changes.now) c.in_ok-entries_of.field-0.items c.in_ok-entries_of.ensures.entries c.in_ok-entries_of.ensures.distinct
-    (committable c.self.inside.names.items (g.C.Changes.pairs c.args.changes.now) c.self.invariant.each named c.requires.can.small))
-
-pub commit_entries-requires-clause-fits : goal.commit_entries-requires-clause-fits
-commit_entries-requires-clause-fits g c honest =
     let edits = (rw (← c.self.view_is) at c.requires.can.edits) (rw (← c.self.view_is) at c.requires.whole) in
-    let files = contents (g.D.Disk.files c.self.inside.disk) in
-    subst (λ (l : List Entry). IsTrue (all_fit l files)) (sym (c.as_slice.ensures ∙ c.new-record.ensures))
-    (changes_fit (g.C.Changes.pairs c.args.changes.now) c.in_ok-entries_of.field-0.items files c.in_ok-entries_of.ensures.entries (all_edits files (g.C.Changes.pairs c.args.changes.now) (edits honest)))
+    let changes = g.C.Changes.pairs c.args.changes.now in
+    let files = g.D.Disk.files c.self.inside.disk in
+    let entries = c.in_ok-entries_of.field-0.items in
+    let are = c.in_ok-entries_of.ensures.entries in
+    subst (λ (l : List Entry). AreApplicableTo l files) (sym (c.as_slice.ensures ∙ c.new-record.ensures)) (record {
+      applicable = changes_applicable changes entries are c.in_ok-entries_of.ensures.distinct (committable c.self.inside.names.items changes c.self.invariant.each named c.requires.can.small);
+      fits = changes_fit changes entries (contents files) are (all_edits (contents files) changes (edits honest));
+    })
+
+pub commit_entries-requires-clause-body : goal.commit_entries-requires-clause-body
+commit_entries-requires-clause-body g c =
+    let named = rw (← c.self.view_is) at c.requires.can.named in
+    let changes = g.C.Changes.pairs c.args.changes.now in
+    let entries = c.in_ok-entries_of.field-0.items in
+    let record_is = c.as_slice.ensures ∙ c.new-record.ensures in
+    let formed = changes_formed c.self.inside.names.items changes entries c.in_ok-entries_of.ensures.entries c.in_ok-entries_of.ensures.distinct
+    c.requires.some c.self.invariant.each c.self.invariant.few named c.requires.can.small in
+    subst (λ (l : List Entry). BeginsWith c.deref.result.now l) (sym record_is)
+    (written_begins c.deref.result.now entries formed (c.deref.ensures.value ∙ c.in_ok-body.ensures.bytes ∙ ap (λ (l : List Entry). journal_bytes Two l) c.new-record.ensures))
 
 pub commit_entries-requires-clause-journal : goal.commit_entries-requires-clause-journal
 commit_entries-requires-clause-journal g c = c.self.invariant.journal_is
@@ -133,7 +143,7 @@ commit_entries-requires-clause-gate g c =
 pub invariant_of-self : goal.invariant_of-self
 invariant_of-self g c =
     let s = c.self.invariant in
-    record { journal_is = s.journal_is; each = s.each; few = s.few; gate = λ fine honest. c.in-Ok.ensures.gate honest }
+    record { journal_is = s.journal_is; each = s.each; few = s.few; gate = λ fine honest. (c.in-Ok.ensures.commits honest).closed.gate }
 
 pub invariant_of-self-in-Err : goal.invariant_of-self-in-Err
 invariant_of-self-in-Err g c =

@@ -4,7 +4,7 @@ use Rattle.byteorder.specs.Endian.{big_bytes}
 use Rattle.org_journal.specs.declared.record.Entry.{Entry}
 use Rattle.org_journal.specs.declared.record.Version.TheVariants.{Two}
 use Rattle.org_journal.specs.Record.{entry_bytes}
-use Rattle.org_journal.proofs.Journal.{sized, written_again}
+use Rattle.org_journal.proofs.Journal.{begins_again, sized, written_begins}
 use Rattle.org_journal.proofs.encoding.Record.encode.Goals as goal
 
 pub returns-clause-bytes : goal.returns-clause-bytes
@@ -21,4 +21,4 @@ returns-clause-bytes c =
     (c.set_size.ensures ∙ ap (λ (x : List ℕ). take 7 x ++ (big_bytes 8 (c.len.result - 15) ++ drop 15 x)) c.deref_mut.ensures.value)
 
 pub returns-clause-read : goal.returns-clause-read
-returns-clause-read c = written_again _ c.args.self.now c.requires (returns-clause-bytes c)
+returns-clause-read c = begins_again _ c.args.self.now (written_begins _ c.args.self.now c.requires (returns-clause-bytes c))
