@@ -3,7 +3,7 @@ use Rattle.std.proofs.Common.{◌≡◌, Bool, true, false, ◌&&◌, eqb, List,
 use Rattle.std.specs.Prelude.{slice_index}
 use Rattle.std.specs.Char.{is_ascii_digit}
 use Rattle.std.specs.declared.cmp.Ordering.{Ordering}
-use Rattle.std.proofs.lemmas.Bool.{cases_Bool}
+use Rattle.std.proofs.lemmas.Bool.{cases_Bool, eqb-true}
 use Rattle.org_outline.specs.States.{Keywords}
 use Rattle.org_outline.specs.Tree.{Node}
 use Rattle.org_outline.specs.Paths.{title_of}
@@ -27,10 +27,12 @@ no_key Year (b ∷ t) plain = rw (no_third (eqb (length (take 4 (b ∷ t))) 4) (
 no_key Month (b ∷ t) plain = rw (no_third (eqb (length (take 7 (b ∷ t))) 7) (is_key_from 0 (take 7 (b ∷ t))) (may_follow Month (drop 7 (b ∷ t))) (not_key b (take 6 t) plain)) refl
 no_key Day (b ∷ t) plain = rw (no_third (eqb (length (take 10 (b ∷ t))) 10) (is_key_from 0 (take 10 (b ∷ t))) (may_follow Day (drop 10 (b ∷ t))) (not_key b (take 9 t) plain)) refl
 
-pub not_dated : (states : Keywords) (level : ℕ) (kind : DateKind) (key : List ℕ) (wanted : Ordering) (node : Node) → is_ascii_digit (slice_index (title_of states node.rest) 0) ≡ false → is_dated states level kind key wanted node ≡ false
+pub not_dated : (states : Keywords) (level : ℕ) (kind : DateKind) (key : List ℕ) (wanted : Ordering) (node : Node) → (node.level ≡ level → is_ascii_digit (slice_index (title_of states node.rest) 0) ≡ false)
+    → is_dated states level kind key wanted node ≡ false
 not_dated states level kind key wanted node plain =
-    let none : key_of kind (title_of states node.rest) ≡ None = no_key kind (title_of states node.rest) plain in
     elim (cases_Bool (eqb node.level level)) [
-      | inl e ↦ rw (e, none) refl
+      | inl e ↦
+          let none : key_of kind (title_of states node.rest) ≡ None = no_key kind (title_of states node.rest) (plain (eqb-true node.level level e)) in
+          rw (e, none) refl
       | inr e ↦ rw e refl
     ]

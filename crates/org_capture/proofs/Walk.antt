@@ -1,11 +1,11 @@
 -- The nodes below a heading, one after the other: those of the next level are its children.
-use Rattle.std.proofs.Common.{◌≡◌, ℕ, zero, suc, ◌+◌, ◌-◌, ◌<◌, ◌≤◌, Bool, true, false, cond, ltb, max, List, find, Option, Some, None, refl, sym, ap, ◌∙◌, subst, arith, inl, inr}
+use Rattle.std.proofs.Common.{◌≡◌, ℕ, zero, suc, ◌+◌, ◌-◌, ◌<◌, ◌≤◌, Bool, true, false, cond, ltb, List, find, Option, Some, None, refl, sym, ap, ◌∙◌, subst, arith, inl, inr}
 use Rattle.std.specs.Option.{ForSome}
 use Rattle.std.proofs.lemmas.Bool.{cases_Bool}
 use Rattle.std.proofs.lemmas.Bool.Decides.{nat_tests}
 use Rattle.org_outline.specs.Tree.{Forest, Empty, Tree, Node, Document, AllRoots, IsForest, IsValid, total, node_at, node_count}
 use Rattle.org_outline.specs.Moves.{IsNode, level_below}
-use Rattle.org_outline.specs.Numbers.{roots_from, children_of, size_of}
+use Rattle.org_outline.specs.Numbers.{roots_from, children_of}
 use Rattle.org_outline.proofs.Trees.{AllRoots-mono}
 use Rattle.org_outline.proofs.Placing.{roots-positive}
 use Rattle.org_outline.proofs.Sections.{valid_node}
@@ -64,19 +64,6 @@ children_stand d i inside = λ j q is lt.
     let K : Node → Forest = λ n. n.children in
     let fits : j < total (nth i d.forest).children = omega (arith, lt, ap (λ n. total n.children) here) in
     node-is d q ∙ nth-below i j q d.forest low fits (omega (arith, is)) ∙ ap (λ n. nth j (K n)) (sym here)
-
-pub below_deep : (d : Document) (p i : ℕ) → IsValid d → p < node_count d → p < i → i < p + size_of d p → (node_at d p).node.level < (node_at d i).node.level
-below_deep d p i valid inside low high =
-    let node : Node = (node_at d p).node in
-    let proper : IsNode node = valid_node d p valid inside in
-    stand_deep d node.level (suc p) i node.children (children_stand d p inside) proper.children proper.deep (omega (arith, low)) (omega (arith, high))
-
--- of the nodes below the one before, all lie deeper than a level that it has
-pub passed_deep : (d : Document) (p index level size r i : ℕ) → IsValid d → p ≡ index - 1 → 0 < index → index < node_count d → level ≤ (node_at d p).node.level → size ≡ size_of d p → r ≡ max (size - 1) 1
-    → index < i → i < index + r → level < (node_at d i).node.level
-passed_deep d p index level size r i valid is pos inside le size_is r_is low high =
-    let within : i < p + size_of d p = omega (arith, is, pos, size_is, r_is, low, high) in
-    omega (arith, le, below_deep d p i valid (omega (arith, is, inside)) (omega (arith, is, low)) within)
 
 -- ---- a pass over trees that stand in a document
 
@@ -153,27 +140,28 @@ walk_hit d up test end index w lt e =
     let found : first_from test (suc (end - (index + 1))) index ≡ Some index = rw e refl in
     sym found ∙ ap (λ c. first_from test c index) (sym (more end index lt)) ∙ w.rest
 
--- `n` nodes are passed, of which the first fails the test, and the others lie deeper
-pub walk_on : (d : Document) (up : Option ℕ) (test : ℕ → Bool) (end index n : ℕ) → OfLevel d test (level_below up d) → Walk d up test end index → test index ≡ false
-    → ((i : ℕ) → index < i → i < index + n → level_below up d < (node_at d i).node.level) → Walk d up test end (index + n)
-walk_on d up test end index n of w e deep =
-    let fail : (i : ℕ) → index ≤ i → i < index + n → test i ≡ false = λ i low high.
+-- nodes that fail the test are passed
+pub walk_over : (d : Document) (up : Option ℕ) (test : ℕ → Bool) (end index next : ℕ) → Walk d up test end index → index ≤ next → next ≤ end → ((i : ℕ) → index ≤ i → i < next → test i ≡ false)
+    → Walk d up test end next
+walk_over d up test end index next w le fits fail =
+    let n : ℕ = next - index in
+    let there : index + n ≡ next = omega (arith, le) in
+    let all : n + (end - next) ≡ end - index = omega (arith, le, fits) in
+    record {
+      rest = ap (first_from test (end - next)) (sym there)
+          ∙ sym (passes test n (end - next) index (λ i low high. fail i low (omega (arith, high, there))))
+          ∙ ap (λ c. first_from test c index) all ∙ w.rest;
+    }
+
+-- a node that fails the test, and others behind it
+pub walk_on : (d : Document) (up : Option ℕ) (test : ℕ → Bool) (end index next : ℕ) → Walk d up test end index → index < next → next ≤ end → test index ≡ false
+    → ((i : ℕ) → index + 1 ≤ i → i < next → test i ≡ false) → Walk d up test end next
+walk_on d up test end index next w lt fits here fail =
+    walk_over d up test end index next w (omega (arith, lt)) fits (λ i low high.
     elim (cases_Bool (ltb index i)) [
-      | inl g ↦ let later : index < i = grind (arith, nat_tests) in fails d test (level_below up d) i of (deep i later high)
-      | inr g ↦ let here : index ≡ i = (let no : i ≤ index = grind (arith, nat_tests) in omega (arith, low, no)) in ap test (sym here) ∙ e
-    ] in
-    elim (cases_Bool (ltb end (index + n))) [
-      | inl g ↦
-          let past : end < index + n = grind (arith, nat_tests) in
-          let all : end - index + 0 ≡ end - index = omega arith in
-          let none : end - (index + n) ≡ 0 = omega (arith, past) in
-          let passed = passes test (end - index) 0 index (λ i low high. fail i low (omega (arith, high, past))) in
-          record { rest = ap (λ c. first_from test c (index + n)) none ∙ sym passed ∙ ap (λ c. first_from test c index) all ∙ w.rest }
-      | inr g ↦
-          let fits : index + n ≤ end = grind (arith, nat_tests) in
-          let all : n + (end - (index + n)) ≡ end - index = omega (arith, fits) in
-          record { rest = sym (passes test n (end - (index + n)) index fail) ∙ ap (λ c. first_from test c index) all ∙ w.rest }
-    ]
+      | inl g ↦ let later : index < i = grind (arith, nat_tests) in fail i (omega (arith, later)) high
+      | inr g ↦ let same : index ≡ i = (let no : i ≤ index = grind (arith, nat_tests) in omega (arith, low, no)) in ap test (sym same) ∙ here
+    ])
 
 pub walk_end : (d : Document) (up : Option ℕ) (test : ℕ → Bool) (end index : ℕ) → Walk d up test end index → end ≤ index → None ≡ find test (children_of d up)
 walk_end d up test end index w le =

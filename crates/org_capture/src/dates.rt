@@ -160,10 +160,6 @@ fn is_dated(
     if outline.level(node) != level {
         return false;
     }
-    // Each key begins with a digit.
-    if !outline.can_begin_with_digit(node) {
-        return false;
-    }
     match key_of(kind, outline.parts(node).title) {
         None => false,
         Some(found) => found.cmp(&key) == wanted,
@@ -175,6 +171,7 @@ fn is_dated(
 fn span_below(outline: &Outline<'_>, parent: &Option<Node>) -> (usize, usize)
     requires { ForSome parent.now (λ node. node < node_count (tree outline.now.text)) }
     ensures span { result ≡ span_below (tree outline.now.text) parent.now }
+    ensures ordered { result.0 ≤ result.1 }
     ensures within { result.1 ≤ node_count (tree outline.now.text) }
 {
     let count = outline.count();
@@ -185,25 +182,6 @@ fn span_below(outline: &Outline<'_>, parent: &Option<Node>) -> (usize, usize)
             (node.number() + 1, node.number() + size)
         }
     }
-}
-
-/// How many headings behind this one stands the next that can be of this level: those below the
-/// heading before are passed at once.
-fn step(outline: &Outline<'_>, index: usize, level: usize) -> usize
-    requires { index < node_count (tree outline.now.text) }
-    ensures rises { 1 ≤ result }
-    ensures within { index + result ≤ node_count (tree outline.now.text) }
-    ensures deeper { (i : ℕ) → index < i → i < index + result
-        → level < (node_at (tree outline.now.text) i).node.level }
-{
-    if outline.level(outline.node(index)) <= level || index == 0 {
-        return 1;
-    }
-    let before = outline.node(index - 1);
-    if outline.level(before) < level {
-        return 1;
-    }
-    (outline.size(before) - 1).max(1)
 }
 
 /// The first date heading of this kind one level below a heading, or at level 1, whose key compares
@@ -223,14 +201,14 @@ pub(crate) fn first_dated(
     let level = level_below(outline, *parent);
     let (first, end) = span_below(outline, parent);
     prove!(end <= outline.count());
-    // Of the headings below, those of this level are the children.
-    let mut index = first;
+    // Of the headings below, those of this level are the children; each key begins with a digit.
+    let mut index = outline.next_with_digit(first, end, level);
     while index < end {
         let node = outline.node(index);
         if is_dated(outline, node, level, kind, key, wanted) {
             return Some(node);
         }
-        index += step(outline, index, level);
+        index = outline.next_with_digit(index + 1, end, level);
     }
     None
 }

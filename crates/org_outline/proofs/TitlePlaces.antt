@@ -6,7 +6,7 @@ use Rattle.std.specs.Char.{is_ascii_alphanumeric, is_ascii_digit}
 use Rattle.std.specs.List.{prefix_len, suffix_len, starts_with}
 use Rattle.std.specs.Str.{bytes_eq}
 use Rattle.std.proofs.lemmas.Bool.{cases_Bool, cases_lt, eqb-true}
-use Rattle.std.proofs.lemmas.Bool.Decides.{Decides-eqb}
+use Rattle.std.proofs.lemmas.Bool.Decides.{Decides-eqb, nat_tests}
 use Rattle.std.proofs.lemmas.List.{take-append-drop, length-drop}
 use Rattle.std.proofs.lemmas.List.Folds.{length-prefix_len}
 use Rattle.std.proofs.lemmas.Slice.Eq.{bytes_eq-Decides, starts_is}
@@ -14,7 +14,7 @@ use Rattle.org_splice.specs.Blanks.{is_blank, is_trailing, is_solid, front, behi
 use Rattle.org_splice.proofs.Ends.{both, kept_end}
 use Rattle.org_outline.specs.States.{Keywords, has_word}
 use Rattle.org_outline.specs.Parts.{tags_of, keyword_of, priority_of, after_keyword, after_priority, without_blanks}
-use Rattle.org_outline.specs.Beginnings.{first_place, second_place, beginning_of, may_begin, may_begin_date, beginnings_of}
+use Rattle.org_outline.specs.Beginnings.{first_place, second_place, beginning_of, may_begin, may_begin_date, beginnings_of, may_have, sought_of}
 use Rattle.org_outline.specs.Paths.{title_of, can_begin}
 
 -- ---- the bytes behind those that pass
@@ -223,7 +223,7 @@ begins_nowhere : (title rest : List ℕ) → 0 < length title → Somewhere titl
 begins_nowhere title rest some (inl found) first second = begins_so title (first_place rest) some found first
 begins_nowhere title rest some (inr found) first second = begins_so title (second_place rest) some found second
 
-pub cannot_begin : (states : Keywords) (rest title : List ℕ) → 0 < length title
+cannot_begin : (states : Keywords) (rest title : List ℕ) → 0 < length title
     → (may_begin (beginning_of title) (beginnings_of rest).first || may_begin (beginning_of title) (beginnings_of rest).second) ≡ false
     → bytes_eq (title_of states rest) title ≡ false
 cannot_begin states rest title some fails =
@@ -235,6 +235,12 @@ cannot_begin states rest title some fails =
           absurd (begins_nowhere title rest some (subst (λ (t : List ℕ). Somewhere t rest) is found) both_fail.0 both_fail.1)
       | inr e ↦ e
     ]
+
+pub cannot_have : (states : Keywords) (rest title : List ℕ) → may_have (sought_of title) (beginnings_of rest) ≡ false → bytes_eq (title_of states rest) title ≡ false
+cannot_have states rest title fails =
+    let n = neither (eqb (length title) 0) (may_begin (beginning_of title) (beginnings_of rest).first || may_begin (beginning_of title) (beginnings_of rest).second) fails in
+    let some : 0 < length title = grind (arith, nat_tests, n.0) in
+    cannot_begin states rest title some n.1
 
 no_digit_at : (title place : List ℕ) → Begins title place → 0 < length title → may_begin_date (beginning_of place) ≡ false → is_ascii_digit (slice_index title 0) ≡ false
 no_digit_at [] place found some fails = absurd (omega (arith, some))

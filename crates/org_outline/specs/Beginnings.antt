@@ -1,10 +1,11 @@
 -- How a heading line lets its title begin (Org Syntax, "Headings"): two bytes at each place where the
 -- title, or a priority before it, can stand.
-use Rattle.std.specs.Prelude.{ℕ, Bool, not, ◌||◌, ◌&&◌, ◌==◌, List, slice_index}
+use Rattle.std.specs.Prelude.{ℕ, Bool, not, ◌||◌, ◌&&◌, ◌==◌, List, length, slice_index}
 use Rattle.std.specs.Char.{is_ascii_digit}
 use Rattle.org_splice.specs.Blanks.{is_blank, is_solid, behind}
 use Rattle.org_outline.specs.declared.beginnings.Beginning.{Beginning}
 use Rattle.org_outline.specs.declared.beginnings.Beginnings.{Beginnings}
+use Rattle.org_outline.specs.declared.beginnings.Sought.{Sought}
 
 -- behind the gap
 abbrev pub first_place : List ℕ → List ℕ
@@ -32,6 +33,16 @@ abbrev pub may_begin : Beginning → Beginning → Bool
 may_begin title place =
     place.byte == 91
     || place.byte == title.byte && (title.next == 0 || place.next == title.next)
+
+-- what is asked of a heading line for a title: an empty one begins nowhere
+abbrev pub sought_of : List ℕ → Sought
+sought_of title = record { empty = length title == 0; beginning = beginning_of title }
+
+-- whether a heading line with these beginnings may have the title
+abbrev pub may_have : Sought → Beginnings → Bool
+may_have title line =
+    title.empty
+    || (may_begin title.beginning line.first || may_begin title.beginning line.second)
 
 -- whether a title that begins with a digit may
 abbrev pub may_begin_date : Beginning → Bool

@@ -1,11 +1,11 @@
 -- What is kept of a text's headings: where each begins, its level, and how its title
 -- can begin.
-use Rattle.std.specs.Prelude.{◌≡◌, ℕ, suc, nat_lt, Bool, ◌==◌, Option, Some, None, if◌then◌else◌, [], ◌∷◌, ◌+◌, List, map, find, length, nat_le, slice_range, ◌-◌, ◌<◌, ◌≤◌, ◌^◌, take, drop}
+use Rattle.std.specs.Prelude.{◌≡◌, ℕ, suc, nat_lt, Bool, ◌==◌, ◌&&◌, ◌||◌, Option, Some, None, if◌then◌else◌, [], ◌∷◌, ◌+◌, List, map, find, length, nat_le, slice_range, ◌-◌, ◌<◌, ◌≤◌, ◌^◌, take, drop}
 use Rattle.std.specs.Option.{option_map_or}
 use Rattle.org_outline.specs.declared.heads.Heading.{Heading}
 use Rattle.org_splice.specs.declared.Span.{Span}
 use Rattle.org_splice.specs.Lines.{terminated, print_lines}
-use Rattle.org_outline.specs.Beginnings.{beginnings_of}
+use Rattle.org_outline.specs.Beginnings.{beginnings_of, may_begin_date}
 use Rattle.org_outline.specs.Text.{level_of, heading_line, line_at}
 use Rattle.org_outline.specs.Tree.{Placed, own_lines, print_node, nodes_of}
 
@@ -29,6 +29,12 @@ pub record IsSection (t : List ℕ) (p : Placed) (s : Span) : Type 0 where
   pub start : s.start ≡ p.at + length (heading_line p.node.level p.node.rest) + 1
   pub end : s.end ≡ p.at + length (print_lines (own_lines p.node))
   pub bytes : slice_range t s.start s.end ≡ print_lines p.node.section
+
+-- whether a heading has this level, and a title that can begin with a digit
+abbrev pub can_be_dated : ℕ → Heading → Bool
+can_be_dated level h =
+    h.level == level
+    && (may_begin_date h.beginnings.first || may_begin_date h.beginnings.second)
 
 -- where the first of these headings begins that is not deeper than n, and the end where there is
 -- none

@@ -5,7 +5,7 @@
 //! reads few lines.
 ghost use Rattle.std.specs.Prelude.{◌≡◌, ◌≤◌, ◌||◌, length};
 ghost use Rattle.std.specs.List.{prefix_len};
-ghost use Rattle.org_outline.specs.Beginnings.{beginning_of, beginnings_of, is_of_word, may_begin, may_begin_date};
+ghost use Rattle.org_outline.specs.Beginnings.{beginning_of, beginnings_of, is_of_word, may_begin, may_begin_date, may_have, sought_of};
 ghost use Rattle.org_outline.specs.Text.{line_at};
 
 use org_splice::blanks::{behind_blanks, is_blank};
@@ -26,6 +26,14 @@ pub(crate) struct Beginnings {
     pub(crate) second: Beginning,
 }
 
+/// A title that is looked for.
+#[derive(Clone, Copy)]
+pub(crate) struct Sought {
+    /// Any heading line may have none.
+    empty: bool,
+    beginning: Beginning,
+}
+
 /// How many bytes of its line a text begins with that are no blanks: a word, which is short.
 fn word_len(text: &[u8]) -> usize
     ensures count { result ≡ prefix_len is_of_word text.now }
@@ -41,7 +49,7 @@ fn word_len(text: &[u8]) -> usize
 
 impl Beginning {
     /// The first two of these bytes.
-    pub(crate) fn of(bytes: &[u8]) -> Beginning
+    fn of(bytes: &[u8]) -> Beginning
         ensures { result ≡ beginning_of bytes.now }
     {
         let (byte, next) = match bytes {
@@ -81,6 +89,18 @@ impl Beginning {
     }
 }
 
+impl Sought {
+    /// What a heading line is asked of a title.
+    pub(crate) fn of(title: &[u8]) -> Sought
+        ensures { result ≡ sought_of title.now }
+    {
+        Sought {
+            empty: title.is_empty(),
+            beginning: Beginning::of(title),
+        }
+    }
+}
+
 impl Beginnings {
     /// The beginnings of a heading line, by what stands behind its stars and all that follows it.
     pub(crate) fn of_line(tail: &[u8]) -> Beginnings
@@ -94,11 +114,12 @@ impl Beginnings {
         }
     }
 
-    /// Whether the line may have a title that begins so.
-    pub(crate) fn allow(self, title: Beginning) -> bool
-        ensures { result ≡ (may_begin title self.first || may_begin title self.second) }
+    /// Whether the line may have a title.
+    pub(crate) fn allow(self, title: Sought) -> bool
+        ensures { result ≡ may_have title self }
     {
-        title.may_begin(self.first) || title.may_begin(self.second)
+        title.empty
+            || (title.beginning.may_begin(self.first) || title.beginning.may_begin(self.second))
     }
 
     /// Whether it may have a title that begins with a digit.
