@@ -9,10 +9,10 @@ use Rattle.org_commands.specs.declared.command.RunFault.{RunFault}
 use Rattle.org_commands.specs.declared.command.RunFault.TheVariants.{Refused}
 use Rattle.org_commands.specs.declared.tally.Tally.{Tally}
 use Rattle.org_commands.specs.Files.{OpenFiles}
-use Rattle.org_commands.specs.Keeping.{Plans, Reads}
+use Rattle.org_commands.specs.Keeping.{Plans}
 use Rattle.org_commands.specs.Outcome.{Outcome, Refuses}
 use Rattle.org_commands.specs.Planning.{PlansAs, PlansOrStaysAs}
-use Rattle.org_commands.specs.Reading.{OnlyReads}
+use Rattle.org_commands.specs.Reading.{OnlyReads, ReadsFiles}
 use Rattle.org_commands.specs.Session.{BetweenSessions, Session}
 use Rattle.org_commands.specs.Step.{Steps}
 use Rattle.org_commands.proofs.Faults.{no_value}
@@ -56,22 +56,20 @@ module _ {D : Type 0} (g : Ghosts D) (states : Keywords) (to_do : Session → Ou
       }
 
   -- they can't be read
-  pub plans_no_read : {A : Type 0} {read : Result A RunFault} (new : OpenFiles D) (answer : Result Plan RunFault) → IsErrAnd answer (λ y. y ≡ fault) → read ≡ Err fault
-      → BetweenSessions g states old new (λ s t. Reads s read t) → OnlyReads {A = A} g old new (Err fault) → PlansAs g states old to_do answer new
-  plans_no_read new answer handed was reads disk =
+  pub plans_no_read : {A : Type 0} (new : OpenFiles D) (answer : Result Plan RunFault) → IsErrAnd answer (λ y. y ≡ fault) → ReadsFiles {A = A} g old new (Err fault) → PlansAs g states old to_do answer new
+  plans_no_read {A} new answer handed read =
       let given = handed_on answer fault handed in
       record {
         plan = no_value _ answer fault given;
-        plans = λ tally honest. plans_unread g states old new tally (to_do (session_in g states old tally)) answer handed unbroken was (reads tally honest);
-        disk = only_reads_fault given disk;
+        plans = λ tally honest. plans_unread g states old new tally (to_do (session_in g states old tally)) {A = A} {read = Err fault} answer handed unbroken refl (read.reads states tally honest);
+        disk = only_reads_fault given read.disk;
       }
 
-  pub stays_no_read : {A : Type 0} {read : Result A RunFault} (new : OpenFiles D) (answer : Result (Option Plan) RunFault) → IsErrAnd answer (λ y. y ≡ fault) → read ≡ Err fault
-      → BetweenSessions g states old new (λ s t. Reads s read t) → OnlyReads {A = A} g old new (Err fault) → PlansOrStaysAs g states old to_do answer new
-  stays_no_read new answer handed was reads disk =
+  pub stays_no_read : {A : Type 0} (new : OpenFiles D) (answer : Result (Option Plan) RunFault) → IsErrAnd answer (λ y. y ≡ fault) → ReadsFiles {A = A} g old new (Err fault) → PlansOrStaysAs g states old to_do answer new
+  stays_no_read {A} new answer handed read =
       let given = handed_on answer fault handed in
       record {
         plan = no_value _ answer fault given;
-        plans = λ tally honest. stays_unread g states old new tally (to_do (session_in g states old tally)) answer handed unbroken was (reads tally honest);
-        disk = only_reads_fault given disk;
+        plans = λ tally honest. stays_unread g states old new tally (to_do (session_in g states old tally)) {A = A} {read = Err fault} answer handed unbroken refl (read.reads states tally honest);
+        disk = only_reads_fault given read.disk;
       }

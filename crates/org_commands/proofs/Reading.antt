@@ -10,11 +10,15 @@ use Rattle.org_fileset.specs.declared.fault.SetFault.TheVariants as set
 use Rattle.org_texts.specs.Texts.{TextSet}
 use Rattle.org_commands.specs.declared.command.Refusal.{Refusal}
 use Rattle.org_commands.specs.declared.command.RunFault.{RunFault}
-use Rattle.org_commands.specs.declared.command.RunFault.TheVariants.{Device, Broken, Refused}
+use Rattle.org_commands.specs.declared.command.RunFault.TheVariants.{Device, Broken, OutOfMemory, Refused}
 use Rattle.org_commands.specs.Files.{OpenFiles, StaysInMemory}
-use Rattle.org_commands.specs.Keeping.{fault_of_set}
-use Rattle.org_commands.specs.Reading.{OnlyReads}
+use Rattle.org_commands.specs.Keeping.{Reads, fault_of_set}
+use Rattle.org_commands.specs.Reading.{OnlyReads, ReadsFiles}
+use Rattle.org_commands.specs.Session.{Session, StoreView, view_over}
+use Rattle.org_commands.proofs.Acting.{view_same}
 use Rattle.org_commands.proofs.Faults.{IsOwn, fine_is_no_fault, other_fault, refused_own}
+use Rattle.org_commands.proofs.Held.{keeps_same, keeps_then}
+use Rattle.org_commands.proofs.Sessions.{reads_fault}
 
 -- the accounts of a call, where another answer fails just where its own does
 accounts_as : {D : Type 0} {g : Ghosts D} {old new : D} {Failed Fails : Type 0} → (Fails → Failed) → (Failed → Fails)
@@ -135,4 +139,45 @@ module _ {D : Type 0} {g : Ghosts D} {A B : Type 0} where
     works = second.works;
     breaks = second.breaks;
     accounts = accounts_then (accounts_fine (λ fell. absurd (cc)) first.accounts) second.accounts;
+  }
+
+-- ---- calls that keep what is held
+
+module _ {D : Type 0} {g : Ghosts D} {A : Type 0} where
+  -- its edits are taken back
+  pub reads_files_undone : {old mid new : OpenFiles D} {x : A} → StaysInMemory mid new → new.held.before ≡ mid.held.before → ReadsFiles g old mid (Ok x) → ReadsFiles g old new (Ok x)
+  reads_files_undone {old = old} {mid = mid} {new = new} memory before call = record {
+    keeps = keeps_same old.held mid.held new.held call.keeps before;
+    reads = λ states tally honest. ap (λ (k : StoreView D). k.session) (view_same g.files states mid new tally memory before) ∙ call.reads states tally (subst g.honest memory.disk honest);
+    disk = only_reads_undone memory before call.disk;
+  }
+
+  module _ {B : Type 0} {old new : OpenFiles D} where
+    -- its fault, handed on
+    pub reads_files_fault : {fault : RunFault} {answer : Result B RunFault} → answer ≡ Err fault → ReadsFiles {A = A} g old new (Err fault) → ReadsFiles g old new answer
+    reads_files_fault {fault = fault} {answer = answer} is call = record {
+      keeps = call.keeps;
+      reads = λ states tally honest. reads_fault {A = A} (view_over g.files states old tally).session (view_over g.files states new tally).session (Err fault) answer fault refl is (call.reads states tally honest);
+      disk = only_reads_fault is call.disk;
+    }
+
+    -- an answer that is Ok, or that there is no memory, behind a call that didn't fail
+    pub reads_files_ok : {x : A} {y : B} → ReadsFiles g old new (Ok x) → ReadsFiles g old new (Ok y)
+    reads_files_ok call = record { keeps = call.keeps; reads = call.reads; disk = only_reads_ok call.disk }
+
+    pub reads_files_memory : {x : A} {answer : Result B RunFault} → answer ≡ Err OutOfMemory → ReadsFiles g old new (Ok x) → ReadsFiles g old new answer
+    reads_files_memory {answer = answer} is call = record {
+      keeps = call.keeps;
+      reads = λ states tally honest.
+          subst (λ (r : Result B RunFault). Reads (view_over g.files states old tally).session r (view_over g.files states new tally).session) (sym is) (call.reads states tally honest);
+      disk = only_reads_own answer OutOfMemory is (λ no. cc, λ no. cc) call.disk;
+    }
+
+  -- a call that didn't fail, and one after it
+  pub reads_files_then : {B : Type 0} {old mid new : OpenFiles D} {x : A} {answer : Result B RunFault} → ReadsFiles g old mid (Ok x) → ReadsFiles g mid new answer → ReadsFiles g old new answer
+  reads_files_then {old = old} {mid = mid} {new = new} {answer = answer} first second = record {
+    keeps = keeps_then old.held mid.held new.held first.keeps second.keeps;
+    reads = λ states tally honest.
+        subst (λ (s : Session). Reads s answer (view_over g.files states new tally).session) (first.reads states tally (second.disk.accounts.was_honest honest)) (second.reads states tally honest);
+    disk = only_reads_then first.disk second.disk;
   }

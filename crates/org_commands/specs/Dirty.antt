@@ -20,9 +20,9 @@ abbrev pub Dirties : List (List ℕ) → List (List ℕ) → List (List ℕ) →
 Dirties old names new =
     (name : List ℕ) → is_listed new name ≡ true → is_listed (old ++ names) name ≡ true
 
--- Which files are dirty behind a call of a store that is to do this and got this answer: none where all
--- was settled; behind a command that was accepted at most those of before, and those that it gives
--- new texts; else those of before.
+-- Which files are dirty behind a call of a store that is to do this and got this answer: none where
+-- all was settled; behind a command that was accepted at most those of before, and those that it
+-- gives new texts; else those of before.
 abbrev pub DirtyAfter : {D : Type 0} → StoreView D → Outcome → Result Reply RunFault → StoreView D
     → Type 0
 DirtyAfter old outcome (Ok (Done n)) new =
@@ -42,8 +42,8 @@ abbrev pub DirtyAfterSettled : List (List ℕ) → Result (Unit {0}) RunFault �
 DirtyAfterSettled old (Ok _) new = new ≡ []
 DirtyAfterSettled old (Err fault) new = new ≡ old
 
--- Which texts are dirty once a command that edited them was counted: none where it fills the group, else
--- all dirty ones as they are; where it isn't counted, those of before the command.
+-- Which texts are dirty once a command that edited them was counted: none where it fills the group,
+-- else all dirty ones as they are; where it isn't counted, those of before the command.
 abbrev pub DirtyAfterCounted : {A : Type 0} → Bool → Holding → Result A RunFault → Holding → Type 0
 DirtyAfterCounted full old (Ok _) new = new.before.dirty ≡ (if full then [] else old.now.dirty)
 DirtyAfterCounted full old (Err fault) new = new.before.dirty ≡ old.before.dirty

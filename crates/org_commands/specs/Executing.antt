@@ -1,5 +1,5 @@
 -- What runs commands, as callers see it, and what a command makes of it.
-use Rattle.std.specs.Prelude.{◌≡◌, [], Result, IsErrOf}
+use Rattle.std.specs.Prelude.{◌≡◌, ◌↔◌, ◌+◌, ◌<◌, ◌^◌, false, [], Result, IsErrOf, IsTrue}
 use Rattle.org_disk.specs.declared.disk.Disk.{Ghosts}
 use Rattle.org_disk.specs.Accounts.{Accounts}
 use Rattle.org_journal.specs.Recovered.{contents}
@@ -8,7 +8,7 @@ use Rattle.org_commands.specs.declared.command.Reply.{Reply}
 use Rattle.org_commands.specs.declared.command.RunFault.{RunFault}
 use Rattle.org_commands.specs.declared.command.RunFault.TheVariants.{Device}
 use Rattle.org_commands.specs.declared.executor.Executor.{Executor}
-use Rattle.org_commands.specs.Files.{texts_now}
+use Rattle.org_commands.specs.Files.{AreSmallToWrite, texts_now}
 use Rattle.org_commands.specs.Keeping.{ExecutesTo, Keeps, KeepsCounts}
 use Rattle.org_commands.specs.Left.{IsLeft, IsLeftAlone}
 use Rattle.org_commands.specs.Outcome.{Accepts, Outcome, outcome}
@@ -52,20 +52,24 @@ pub record AnswersQuestion {D : Type 0} (g : Ghosts D) (old : Executor D) (quest
   pub unedited : IsUnedited new
   pub accounts : Accounts g old.files.disk new.files.disk (IsErrOf answer Device)
 
+-- One more command can be counted: the files work, what it edited can be committed, and there is a
+-- number for it.
+pub record CanCount {D : Type 0} (executor : Executor D) : Type 0 where
+  pub unbroken : executor.files.broken ≡ false
+  pub small : AreSmallToWrite executor.files.held.now
+  pub countable : executor.tally.accepted + 1 < 2 ^ 64
+
 -- What counting one more command does, which made the texts what they are: they are kept, or all
 -- that is dirty is settled.
-abbrev pub KeepsOrSettles : {D : Type 0} → Ghosts D → Executor D → Result (Unit {0}) RunFault
-    → Executor D → Type 0
-KeepsOrSettles g old answer new = g.honest new.files.disk
-    → Keeps (view_of g old).session (texts_now g old.files) answer (view_of g new).session
-    × LeavesDisk g (view_of g old) (view_of g new)
-    (IsLeft (view_of g old).session (contents (g.files old.files.disk))
-    (Accepts old.files.held.now.dirty (texts_now g old.files)) answer new.tally.accepted)
-    (IsLeftAlone (view_of g old).session []
-    (Accepts old.files.held.now.dirty (texts_now g old.files)) answer new.tally.accepted)
-    (IsErrOf answer Device)
-
--- .. and to the counts
-abbrev pub Tallies : {D : Type 0} → Ghosts D → Executor D → Result (Unit {0}) RunFault
-    → Executor D → Type 0
-Tallies g old answer new = KeepsCounts (view_of g old).session answer (view_of g new).session
+pub record KeepsOrSettles {D : Type 0} (g : Ghosts D) (old : Executor D)
+    (answer : Result (Unit {0}) RunFault) (new : Executor D) : Type 0 where
+  pub did : g.honest new.files.disk
+      → Keeps (view_of g old).session (texts_now g old.files) answer (view_of g new).session
+  pub disk : g.honest new.files.disk → LeavesDisk g (view_of g old) (view_of g new)
+      (IsLeft (view_of g old).session (contents (g.files old.files.disk))
+      (Accepts old.files.held.now.dirty (texts_now g old.files)) answer new.tally.accepted)
+      (IsLeftAlone (view_of g old).session []
+      (Accepts old.files.held.now.dirty (texts_now g old.files)) answer new.tally.accepted)
+      (IsErrOf answer Device)
+  pub counts : KeepsCounts (view_of g old).session answer (view_of g new).session
+  pub breaks : IsErrOf answer Device ↔ IsTrue new.files.broken

@@ -1,5 +1,5 @@
 -- What contracts see of a store's files: those of a disk, with what is held of their texts.
-use Rattle.std.specs.Prelude.{◌≡◌, ◌≢◌, ◌≤◌, ◌↔◌, ℕ, Bool, true, false, nat_lt, List, [], ◌∷◌, length, Option, None, Some, IsSome, Result, Ok, Err, OnOk, IsErrOf, IsTrue}
+use Rattle.std.specs.Prelude.{◌≡◌, ◌≢◌, ◌≤◌, ◌↔◌, ℕ, Bool, true, false, nat_lt, List, [], ◌∷◌, ◌++◌, length, Option, None, Some, IsSome, Result, Ok, Err, MatchResult, OnOk, IsErrOf, IsTrue}
 use Rattle.org_disk.specs.declared.disk.Disk.{Ghosts}
 use Rattle.std.specs.List.{AllByRecursion, list_any}
 use Rattle.std.specs.Map.{lookup}
@@ -10,7 +10,7 @@ use Rattle.org_splice.specs.Texts.{terminated_text}
 use Rattle.org_disk.specs.Accounts.{LeavesOver}
 use Rattle.org_journal.specs.Recovered.{Image, IsRecoverable, SameFiles, contents}
 use Rattle.org_fileset.specs.declared.fault.SetFault.{SetFault}
-use Rattle.org_fileset.specs.declared.fault.SetFault.TheVariants.{Broken, Device}
+use Rattle.org_fileset.specs.declared.fault.SetFault.TheVariants as set_fault
 use Rattle.org_fileset.specs.declared.open.OpenRefused.{OpenRefused}
 use Rattle.org_fileset.specs.Names.{limit}
 use Rattle.org_fileset.specs.Opening.{IsOpenedFor, disk_in}
@@ -67,10 +67,11 @@ pub record AreTextsOf (names : List (List ℕ)) (live : Type 0) (files : Image) 
 -- no text that is dirty is past the limit
 abbrev pub AreSmallToWrite : TextSet → Type 0
 AreSmallToWrite set =
-    (name : List ℕ) → is_dirty set name ≡ true → length (text_or_none (text_of set name)).bytes ≤ limit
+    (name : List ℕ) → is_dirty set name ≡ true
+    → length (text_or_none (text_of set name)).bytes ≤ limit
 
--- What always holds: no name is the journal's, the texts are the files', and what waited before the
--- command that runs can be committed.
+-- What always holds: no name is the journal's, the texts are the files', and what was dirty before
+-- the command that runs can be committed.
 pub record IsSound (names : List (List ℕ)) (live : Type 0) (files : Image) (held : Holding)
     : Type 0 where
   pub apart : AllByRecursion (λ name. name ≢ journal_name) names
@@ -90,6 +91,11 @@ pub record AreReady (names : List (List ℕ)) (holding : Holding) : Type 0 where
       → text_of holding.now name ≡ text_of holding.before name
   pub dirty : (name : List ℕ) → is_name names name ≡ false → is_dirty holding.now name ≡ true
       → is_dirty holding.before name ≡ true
+
+-- these files are made ready, and others that were stay so
+abbrev pub MakesReady : List (List ℕ) → Holding → Holding → Type 0
+MakesReady made old new =
+    (names : List (List ℕ)) → AreReady names old → AreReady (made ++ names) new
 
 -- the text of this name is held, with its headings
 pub record IsReady (name : List ℕ) (holding : Holding) : Type 0 where
@@ -145,12 +151,19 @@ PutsPlan plan old (Err fault) new = ⊥
 -- call of the disk that fails breaks them, and nothing else does.
 pub record KeepsFiles {D A : Type 0} (old new : OpenFiles D) (result : Result A SetFault)
     : Type 0 where
+  -- once it is done, no text is edited or dirty; else all are held as they were
+  pub held : MatchResult result
+      (λ _. (new.held.now ≡ new.held.before) × (new.held.now.dirty ≡ []))
+      (λ _. new.held ≡ old.held)
+  pub memory : IsErrOf result set_fault.OutOfMemory → new ≡ old
+  -- where none was dirty, no call of the disk is made
+  pub idle : old.held.now.dirty ≡ [] → new.disk ≡ old.disk
   pub names : new.names ≡ old.names
-  pub works : IsErrOf result Broken → ⊥
-  pub breaks : IsErrOf result Device ↔ IsTrue new.broken
+  pub works : IsErrOf result set_fault.Broken → ⊥
+  pub breaks : IsErrOf result set_fault.Device ↔ IsTrue new.broken
 
 -- What a commit does that is to give files of these names these texts, where the disk is honest
--- after it. It writes those that wait, and the journal.
+-- after it. It writes the dirty ones, and the journal.
 pub record CommitsTexts {D A E : Type 0} (g : Ghosts D)
     (names dirty after : List (List ℕ)) (old new : D) (result : Result A E) : Type 0 where
   pub texts : OnOk result (texts_of (contents (g.files new)) names ≡ after)
@@ -169,14 +182,11 @@ abbrev pub texts_now : {D : Type 0} → Ghosts D → OpenFiles D → List (List 
 texts_now g files = texts_of (held_over files.held.now (contents (g.files files.disk))) files.names
 
 -- What a commit of files does to their disk: it is to have the texts that are held.
-abbrev pub CommitsHeld : {D A E : Type 0} → Ghosts D → OpenFiles D → OpenFiles D → Result A E
-    → Type 0
-CommitsHeld g old new result = g.honest new.disk
-    → CommitsTexts g old.names old.held.now.dirty (texts_now g old) old.disk new.disk result
-
--- Where it is done, the texts as they were before the next command are those that were held.
-abbrev pub HoldsCommitted : {D A E : Type 0} → Ghosts D → OpenFiles D → OpenFiles D → Result A E
-    → Type 0
-HoldsCommitted g old new result = OnOk result (g.honest new.disk
-    → texts_of (held_over new.held.before (contents (g.files new.disk))) old.names
-    ≡ texts_now g old)
+pub record CommitsHeld {D A E : Type 0} (g : Ghosts D) (old new : OpenFiles D)
+    (result : Result A E) : Type 0 where
+  pub commits : g.honest new.disk
+      → CommitsTexts g old.names old.held.now.dirty (texts_now g old) old.disk new.disk result
+  -- where it is done, the texts as they were before the next command are those that were held
+  pub texts : OnOk result (g.honest new.disk
+      → texts_of (held_over new.held.before (contents (g.files new.disk))) old.names
+      ≡ texts_now g old)

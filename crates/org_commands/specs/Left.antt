@@ -36,9 +36,9 @@ IsLeft old others outcome answer accepted image =
     × PutsOnDisk old outcome accepted texts
     × Holds old others texts image))
 
--- The file of this name isn't written by a call with this outcome, where these files wait, and so
--- many commands are accepted when it ends. Only a settling writes: the journal, the files that
--- wait, and those that the command is to give new texts; where there are none of these files,
+-- The file of this name isn't written by a call with this outcome, where these files are dirty,
+-- and so many commands are accepted when it ends. Only a settling writes: the journal, the dirty
+-- files, and those that the command is to give new texts; where there are none of these files,
 -- nothing.
 abbrev pub IsSpared : Session → List (List ℕ) → Outcome → ℕ → List ℕ → Type 0
 IsSpared old dirty (Accepts names files) accepted name =

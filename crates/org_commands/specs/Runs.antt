@@ -40,8 +40,8 @@ pub record LeavesDisk {D : Type 0} (g : Ghosts D) (old new : StoreView D) (Left 
 
 -- A call that has nothing to do leaves the store as it is, whatever its disk does: a broken store
 -- stays so, and so does one with nothing pending that is asked to settle, and no more (`Asks`).
-pub record StaysWhereNeedless {D A : Type 0} (Asks : Type 0) (old : StoreView D) (answer : Result A RunFault)
-    (new : StoreView D) : Type 0 where
+pub record StaysWhereNeedless {D A : Type 0} (Asks : Type 0) (old : StoreView D)
+    (answer : Result A RunFault) (new : StoreView D) : Type 0 where
   -- the store was broken before
   pub untouched : IsErrOf answer Broken → new ≡ old
   -- no accepted command is pending

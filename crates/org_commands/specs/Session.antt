@@ -27,8 +27,8 @@ pub record Session : Type 0 where
   -- a call of the disk failed: the store does nothing any more
   pub broken : Bool
 
--- A store over a disk of the type D, as callers see it: with the names of the files that wait for a
--- commit, in the order in which commands touched them.
+-- A store over a disk of the type D, as callers see it: with the names of its dirty files, in the
+-- order in which commands touched them.
 pub record StoreView (D : Type 0) : Type 0 where
   pub disk : D
   pub session : Session

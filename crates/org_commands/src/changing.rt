@@ -2,9 +2,9 @@
 //!
 //! A planner edits nothing. From the first edit to the count a command can be taken back, which
 //! takes no memory.
-ghost use Rattle.std.specs.Prelude.{◌≡◌, ◌<◌, ◌+◌, ◌^◌, ◌↔◌, ℕ, List, [], IsErrOf, IsTrue, false};
+ghost use Rattle.std.specs.Prelude.{◌≡◌, ℕ, List, [], IsErrOf, false};
 ghost use Rattle.org_disk.specs.Accounts.{Accounts};
-ghost use Rattle.org_commands.specs.Executing.{Executes, ExecutesAs, IsUnedited, KeepsOrSettles, DirtiesAtMost, Tallies};
+ghost use Rattle.org_commands.specs.Executing.{CanCount, Executes, ExecutesAs, IsUnedited, KeepsOrSettles, DirtiesAtMost};
 ghost use Rattle.org_commands.specs.Files.{AreReadyForCommand, AreSmallToWrite, IsPlanFor, files_of, new_texts, texts_now};
 ghost use Rattle.org_commands.specs.Kinds.{changing};
 ghost use Rattle.org_commands.specs.Outcome.{changed, counted, outcome};
@@ -51,15 +51,11 @@ impl<D: Disk> Executor<D> {
     // Counts one more command, which made the texts what they are. Where it fills the group, all is
     // settled; else the texts are kept in memory.
     fn keep_or_settle(&mut self) -> Result<(), RunFault>
-        requires unbroken { self.old.files.broken ≡ false }
-        requires small { AreSmallToWrite self.old.files.held.now }
-        requires countable { self.old.tally.accepted + 1 < 2 ^ 64 }
-        ensures did { KeepsOrSettles D.Disk self.old result self.new }
-        ensures counts { Tallies D.Disk self.old result self.new }
-        ensures dirty_files { DirtyAfterCounted (fills_tally self.old.tally) self.old.files.held result
-            self.new.files.held }
+        requires { CanCount self.old }
+        ensures keeps { KeepsOrSettles D.Disk self.old result self.new }
+        ensures dirty_files { DirtyAfterCounted (fills_tally self.old.tally) self.old.files.held
+            result self.new.files.held }
         ensures unedited { IsUnedited self.new }
-        ensures breaks { IsErrOf result RunFault.Device ↔ IsTrue self.new.files.broken }
         ensures accounts { Accounts D.Disk self.old.files.disk self.new.files.disk
             (IsErrOf result RunFault.Device) }
     {
@@ -74,16 +70,17 @@ impl<D: Disk> Executor<D> {
                 self.tally.acknowledged = self.tally.accepted;
                 Ok(())
             }
-            Err(SetFault::Device) => {
+            Err(fault) => {
                 self.files.undo();
-                self.tally.accepted += 1;
-                Err(RunFault::Device)
+                match fault {
+                    // A crash may leave the command, so it counts as accepted.
+                    SetFault::Device => {
+                        self.tally.accepted += 1;
+                        Err(RunFault::Device)
+                    }
+                    _ => Err(RunFault::from(fault)),
+                }
             }
-            Err(SetFault::OutOfMemory) => {
-                self.files.undo();
-                Err(RunFault::OutOfMemory)
-            }
-            Err(SetFault::Broken) => unreachable!(),
         }
     }
 
@@ -97,8 +94,8 @@ impl<D: Disk> Executor<D> {
             → Dirties self.old.files.held.before.dirty names self.old.files.held.now.dirty
             → ExecutesAs D.Disk self.old
             (λ s. counted s names (texts_now D.Disk self.old.files)) result self.new }
-        ensures dirty_files { DirtyAfterCounted (fills_tally self.old.tally) self.old.files.held result
-            self.new.files.held }
+        ensures dirty_files { DirtyAfterCounted (fills_tally self.old.tally) self.old.files.held
+            result self.new.files.held }
         ensures unedited { IsUnedited self.new }
         ensures accounts { Accounts D.Disk self.old.files.disk self.new.files.disk
             (IsErrOf result RunFault.Device) }
@@ -133,8 +130,8 @@ impl<D: Disk> Executor<D> {
     fn accept_unchanged(&mut self) -> Result<Reply, RunFault>
         requires unbroken { self.old.files.broken ≡ false }
         ensures executes { ExecutesAs D.Disk self.old (λ s. changed s []) result self.new }
-        ensures dirty_files { DirtyAfterAccepted (fills_tally self.old.tally) [] self.old.files.held result
-            self.new.files.held }
+        ensures dirty_files { DirtyAfterAccepted (fills_tally self.old.tally) [] self.old.files.held
+            result self.new.files.held }
         ensures unedited { IsUnedited self.new }
         ensures accounts { Accounts D.Disk self.old.files.disk self.new.files.disk
             (IsErrOf result RunFault.Device) }

@@ -2,7 +2,7 @@
 //!
 //! Each file is read once, when a command first names it, and edited in memory from then on. What
 //! the disk has is what was read, and what was committed since: nobody else writes it.
-ghost use Rattle.std.specs.Prelude.{◌≡◌, ◌⊎◌, ◌↔◌, ◌+◌, ◌<◌, ◌≤◌, ◌∷◌, [], List, ℕ, None, Some, nat_lt, length, slice_get, true, false, IfOk, IfSome, MatchResult, OnOk, OnErr, IsErrOf, IsSome, IsTrue};
+ghost use Rattle.std.specs.Prelude.{◌≡◌, ◌⊎◌, ◌+◌, ◌<◌, ◌≤◌, ◌∷◌, [], List, ℕ, None, Some, nat_lt, length, slice_get, true, false, IfOk, IfSome, MatchResult, OnOk, OnErr, IsErrOf, IsSome, IsTrue};
 ghost use Rattle.std.specs.List.{All};
 ghost use Rattle.std.specs.Map.{lookup};
 ghost use Rattle.std.specs.Option.{ForSome, option_map};
@@ -11,19 +11,16 @@ ghost use Rattle.org_disk.specs.Accounts.{Accounts};
 ghost use Rattle.org_disk.specs.Names.{IsOrgFile};
 ghost use Rattle.org_fileset.specs.Opening.{Opens};
 ghost use Rattle.org_fileset.specs.Names.{limit};
-ghost use Rattle.org_outline.specs.States.{Keywords};
 ghost use Rattle.org_splice.specs.Edits.{applied};
 ghost use Rattle.org_splice.specs.Lines.{terminated};
 ghost use Rattle.org_splice.specs.declared.searched.Searched.TheVariants.{Nowhere};
 ghost use Rattle.org_texts.specs.Plan.{IsPlan, planned};
 ghost use Rattle.org_texts.specs.Texts.{TextSet, bytes_or, text_of};
 ghost use Rattle.org_commands.specs.Clocks.{RunsIn};
-ghost use Rattle.org_commands.specs.Files.{AreOpened, AreReady, AreSmallToWrite, CommitsHeld, HoldsCommitted, IsPlanFor, IsReady, KeepsFiles, KeepsHeld, PutsPlan, StaysInMemory, disk_of, files_of, has_large, texts_in};
+ghost use Rattle.org_commands.specs.Files.{AreOpened, AreReady, AreSmallToWrite, CommitsHeld, IsPlanFor, IsReady, KeepsFiles, MakesReady, PutsPlan, StaysInMemory, disk_of, files_of, has_large, texts_in};
 ghost use Rattle.org_commands.specs.InOrder.{is_name};
-ghost use Rattle.org_commands.specs.Keeping.{Reads};
 ghost use Rattle.org_commands.specs.Noted.{AreKnown, AreSearched, FollowsEdits, IsKnown, Lowers, LowersNote, StaysKnown};
-ghost use Rattle.org_commands.specs.Reading.{OnlyReads};
-ghost use Rattle.org_commands.specs.Session.{BetweenSessions};
+ghost use Rattle.org_commands.specs.Reading.{ReadsFiles};
 
 use crate::command::{Refusal, RunFault};
 use crate::searches::Searches;
@@ -175,14 +172,10 @@ impl<D: Disk> Files<D> {
         requires name { is_name self.old.names name.now ≡ true }
         requires unbroken { self.old.broken ≡ false }
         ensures held { OnOk result (IsSome (text_of self.new.held.now name.now)) }
-        ensures reads { (states : Keywords) → BetweenSessions D.Disk states self.old self.new
-            (λ old new. Reads old result new) }
+        ensures files { ReadsFiles D.Disk self.old self.new result }
         ensures unedited { self.old.held.now ≡ self.old.held.before
             → self.new.held.now ≡ self.new.held.before }
-        ensures ready { (names : List (List ℕ)) → AreReady names self.old.held
-            → AreReady names self.new.held }
-        ensures keeps { KeepsHeld self.old.held self.new.held }
-        ensures disk { OnlyReads D.Disk self.old self.new result }
+        ensures ready { MakesReady [] self.old.held self.new.held }
     {
         if self.texts.get(name).is_some() {
             return Ok(());
@@ -197,8 +190,7 @@ impl<D: Disk> Files<D> {
     fn make_ready(&mut self, name: &FileName) -> Result<(), AllocError>
         requires { IsSome (text_of self.old.held.now name.now) }
         ensures memory { StaysInMemory self.old self.new }
-        ensures ready { OnOk result ((names : List (List ℕ)) → AreReady names self.old.held
-            → AreReady (name.now ∷ names) self.new.held) }
+        ensures ready { OnOk result (MakesReady (name.now ∷ []) self.old.held self.new.held) }
         ensures before { self.new.held.before ≡ self.old.held.before }
     {
         self.texts.make_ready(name)
@@ -210,12 +202,8 @@ impl<D: Disk> Files<D> {
     pub(crate) fn ready(&mut self, name: &FileName) -> Result<(), RunFault>
         requires name { is_name self.old.names name.now ≡ true }
         requires unbroken { self.old.broken ≡ false }
-        ensures ready { OnOk result ((names : List (List ℕ)) → AreReady names self.old.held
-            → AreReady (name.now ∷ names) self.new.held) }
-        ensures keeps { KeepsHeld self.old.held self.new.held }
-        ensures reads { (states : Keywords) → BetweenSessions D.Disk states self.old self.new
-            (λ old new. Reads old result new) }
-        ensures disk { OnlyReads D.Disk self.old self.new result }
+        ensures ready { OnOk result (MakesReady (name.now ∷ []) self.old.held self.new.held) }
+        ensures files { ReadsFiles D.Disk self.old self.new result }
     {
         self.load(name)?;
         self.make_ready(name)?;
@@ -299,12 +287,7 @@ impl<D: Disk> Files<D> {
         requires small { (self.old.held.now ≡ self.old.held.before)
             ⊎ AreSmallToWrite self.old.held.now }
         ensures commits { CommitsHeld D.Disk self.old self.new result }
-        ensures texts { HoldsCommitted D.Disk self.old self.new result }
-        ensures held { MatchResult result (λ _. (self.new.held.now ≡ self.new.held.before)
-            × (self.new.held.now.dirty ≡ [])) (λ _. self.new.held ≡ self.old.held) }
-        ensures idle { (IsErrOf result SetFault.OutOfMemory → self.new ≡ self.old)
-            × (self.old.held.now.dirty ≡ [] → self.new.disk ≡ self.old.disk) }
-        ensures set { KeepsFiles self.old self.new result }
+        ensures keeps { KeepsFiles self.old self.new result }
         ensures accounts { Accounts D.Disk self.old.disk self.new.disk
             (IsErrOf result SetFault.Device) }
     {

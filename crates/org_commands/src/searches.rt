@@ -1,7 +1,7 @@
 //! What is known of a file's text behind searches.
 //!
-//! The clock that runs, and the line that names a place for archived subtrees, are each searched for
-//! where they aren't known to be missing.
+//! The clock that runs, and the line that names a place for archived subtrees, are each searched
+//! for where they aren't known to be missing.
 ghost use Rattle.std.specs.Prelude.{List, ℕ};
 ghost use Rattle.org_commands.specs.Noted.{AreSearched, FollowsEdit, StaysKnown};
 

@@ -66,7 +66,7 @@ crash_after_call Never = Never
 crash_after_call (In k outcome) = if k == 1 then Came outcome else In (k - 1) outcome
 crash_after_call (Came outcome) = Came outcome
 
--- the crash that waits once one was asked for within the call k
+-- the crash that is to come once one was asked for within the call k
 abbrev pub crash_asked : Crash → ℕ → Outcome → Crash
 crash_asked (Came past) k outcome = Came past
 crash_asked crash k outcome = if k == 0 then Never else In k outcome

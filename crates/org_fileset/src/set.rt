@@ -1,7 +1,7 @@
 //! The files of a store as one: read one by one, changed all or none.
 //!
-//! Between two calls the journal's gate is closed, but after a failure of the disk: from then on the
-//! set is broken, and makes no call. It holds no text; what files held is the caller's to keep.
+//! Between two calls the journal's gate is closed, but after a failure of the disk: from then on
+//! the set is broken, and makes no call. It holds no text; what files held is the caller's to keep.
 ghost use Rattle.std.specs.Prelude.{◌≡◌, ◌≢◌, [], true, false, IsFalse, IfOk, IsErrOf, IsOk};
 ghost use Rattle.std.specs.List.{All};
 ghost use Rattle.org_disk.specs.Accounts.{Accounts, Looks};
@@ -147,8 +147,8 @@ impl<D: Disk> FileSet<D> {
     ///
     /// - `Broken`: a call of the disk has failed before. No call is made.
     /// - `OutOfMemory`: before the first call of the disk. Nothing was changed.
-    /// - `Device`: a call of the disk failed. The set is broken from then on, and the disk, where it
-    ///   was at rest before, can be opened anew.
+    /// - `Device`: a call of the disk failed. The set is broken from then on, and the disk, where
+    ///   it was at rest before, can be opened anew.
     pub fn commit<C: Changes<FileName>>(&mut self, changes: &C) -> Result<(), SetFault>
         requires { CanCommit D.Disk self.old (C.pairs changes.now) }
         ensures commits { CommitsSet D.Disk self.old (C.pairs changes.now) result self.new }

@@ -165,8 +165,8 @@ where
         }
     }
 
-    // Keeps the name of a file that isn't there for the next call on it. Without memory for it, that
-    // call looks again.
+    // Keeps the name of a file that isn't there for the next call on it. Without memory for it,
+    // that call looks again.
     fn keep_absent(&mut self, name: &FileName)
         requires { HasBeenRight C.Calls self.old.calls
             → file_of C.Calls self.old.calls name.now ≡ stable [] }

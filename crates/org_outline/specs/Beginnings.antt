@@ -1,5 +1,5 @@
--- How a heading line lets its title begin (Org Syntax, "Headings"): two bytes at each place where the
--- title, or a priority before it, can stand.
+-- How a heading line lets its title begin (Org Syntax, "Headings"): two bytes at each place where
+-- the title, or a priority before it, can stand.
 use Rattle.std.specs.Prelude.{ℕ, Bool, not, ◌||◌, ◌&&◌, ◌==◌, List, length, slice_index}
 use Rattle.std.specs.Char.{is_ascii_digit}
 use Rattle.org_splice.specs.Blanks.{is_blank, is_solid, behind}

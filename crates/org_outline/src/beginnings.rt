@@ -81,7 +81,8 @@ impl Beginning {
             || (place.byte == self.byte && (self.next == 0 || place.next == self.next))
     }
 
-    /// Whether a title that begins with a digit may stand at this place, or behind a priority there.
+    /// Whether a title that begins with a digit may stand at this place, or behind a priority
+    /// there.
     fn may_begin_date(self) -> bool
         ensures { result ≡ may_begin_date self }
     {

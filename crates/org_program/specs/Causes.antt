@@ -20,8 +20,8 @@ use Rattle.org_serve.specs.declared.end.ServeEnd.TheVariants.{End, Unsettled, De
 use Rattle.org_program.specs.declared.fault.Fault.{Fault}
 use Rattle.org_program.specs.declared.fault.Fault.TheVariants.{Usage, BadName, BadStates, Locked, SameFile, Open, Ended}
 
--- what the program reports of how serving ended: nothing only where the input was served to its end,
--- and all is settled
+-- what the program reports of how serving ended: nothing only where the input was served to its
+-- end, and all is settled
 abbrev pub reported : Result ServeEnd OpenFault → Result (Unit {0}) Fault
 reported (Ok End) = Ok tt
 reported (Ok Unsettled) = Err (Ended Unsettled)
@@ -61,8 +61,8 @@ IsCauseOfNames new (BadName name) = first_bad new ≡ Some (string_bytes name)
 IsCauseOfNames new (Open refused.OutOfMemory) = Unit {0}
 IsCauseOfNames new fault = ⊥
 
--- A name that may be reported to share a file in a store with these names, which are few: behind the
--- first one, in byte order, of theirs, their archive files' and the journal's.
+-- A name that may be reported to share a file in a store with these names, which are few: behind
+-- the first one, in byte order, of theirs, their archive files' and the journal's.
 pub record MayBeShared (names : List (List ℕ)) (name : List ℕ) : Type 0 where
   pub few : AreFew names
   pub files : List (List ℕ)
@@ -76,8 +76,8 @@ MayShare names apart.Device = AreFew names
 MayShare names apart.OutOfMemory = Unit {0}
 
 -- Why new names and states aren't a store's, or its folder can't be had beside them. What comes
--- first in this order is reported: the first bad name, bad states, a folder on which another store is
--- open, the rest of the folder. Want of memory may take the place of each.
+-- first in this order is reported: the first bad name, bad states, a folder on which another store
+-- is open, the rest of the folder. Want of memory may take the place of each.
 abbrev pub IsCause : List (List ℕ) → Keywords → Fault → Type 0
 IsCause new states (BadName name) = first_bad new ≡ Some (string_bytes name)
 IsCause new states BadStates = (first_bad new ≡ None) × IsFalse (are_states states)

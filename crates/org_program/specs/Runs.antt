@@ -44,8 +44,8 @@ pub record ServesFolder {R S A B F : Type 0} {g : Ghosts (SystemCalls R S A B) F
   pub is_set_up : IsSetUp arguments setup
   pub runs : RunsSynced (seen_of world) setup turns disk now end io
 
--- .. and what is reported of how that ended: success exactly where the input was served to its end, and
--- all is settled
+-- .. and what is reported of how that ended: success exactly where the input was served to its end,
+-- and all is settled
 pub record RunsFolder {R S A B F : Type 0} {g : Ghosts (SystemCalls R S A B) F}
     (world : World) (arguments : Arguments) (now : CallsDisk (SystemCalls R S A B) F g)
     (ended : Result (Unit {0}) Fault) (io : Exchange)

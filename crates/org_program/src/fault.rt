@@ -15,7 +15,7 @@ use org_store::OpenFault;
 use std::alloc::{AllocError, AllocFailed};
 use thiserror::Error;
 
-/// Why a run of the program didn't end well. It prints as the line that the program tells on
+/// Why a run of the program didn't end well. It prints as the line that the program writes to
 /// standard error, without its newline.
 #[derive(Debug, Drop, Error)]
 pub enum Fault {

@@ -1,5 +1,5 @@
 -- How calls of a store that may break it follow one another.
-use Rattle.std.proofs.Common.{◌≡◌, ℕ, true, false, true≢false, refl, sym, ap, ◌∙◌, arith, inl, inr, ◌⊎◌, ⊎_elim, Bool, subst}
+use Rattle.std.proofs.Common.{◌≡◌, true, false, true≢false, refl, sym, ap, ◌∙◌, arith, inl, inr, ◌⊎◌, ⊎_elim, Bool, subst}
 use Rattle.org_disk.specs.declared.disk.Disk.{Ghosts}
 use Rattle.std.specs.Prelude.{IsTrue, IsFalse, IsErrOf, Result, Ok, Err}
 use Rattle.org_disk.specs.Accounts.{Accounts}
@@ -131,7 +131,7 @@ accounts_settled answer old new sound only_so so call = record {
   equal = λ fine. call.equal (λ failed. fine (sound, so (inr failed)));
 }
 
--- ends that are told apart
+-- ends that are reported apart
 pub device_unwritten : {P : Type 0} → Device ≡ Write → P
 device_unwritten is = absurd (cc is)
 

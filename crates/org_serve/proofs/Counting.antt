@@ -59,22 +59,22 @@ pub ended_read : {turns : ℕ} (io : Exchange) {mid : ℕ} → mid ≡ io.before
 ended_read {turns} io before cause within same = record {
   read_cause = λ is. subst (λ n. IsCounted n io.after.failed_reads ⊎ (HasRisenBy turns io.before.reads io.after.reads × HasRead turns io.before.left io.after.left)) before cause;
   within_turns = within;
-  read_told = λ not. absurd (not refl);
+  read_reported = λ not. absurd (not refl);
   write_cause = λ is. absurd (read_apart (served_so is));
-  write_told = λ not. same;
+  write_reported = λ not. same;
 }
 
 -- no read failed
 pub ended_otherwise : {turns : ℕ} (io : Exchange) {mid : ℕ} (end : ServeEnd) → end ≢ Read → io.after.reads ≤ io.before.reads + turns → io.after.failed_reads ≡ io.before.failed_reads
     → mid ≡ io.before.failed_writes → (end ≡ Write → IsCounted mid io.after.failed_writes) → (end ≢ Write → io.after.failed_writes ≡ mid) → EndsForCause turns (Ok end) io
-ended_otherwise io end none within same before failed told = record {
+ended_otherwise io end none within same before failed reported = record {
   read_cause = λ is. absurd (none (served_so is));
   within_turns = within;
-  read_told = λ not. same;
+  read_reported = λ not. same;
   write_cause = λ is. subst (λ n. IsCounted n io.after.failed_writes) before (failed (served_so is));
-  write_told = λ not. told (λ is. not (ap Ok is)) ∙ before;
+  write_reported = λ not. reported (λ is. not (ap Ok is)) ∙ before;
 }
 
 -- nothing was served
 pub ended_unserved : {turns : ℕ} (seen : Pipes) {fault : OpenFault} → EndsForCause turns (Err fault) (record { before = seen; after = seen })
-ended_unserved seen = record { read_cause = λ is. absurd (wasnt_served is); within_turns = omega arith; read_told = λ not. refl; write_cause = λ is. absurd (wasnt_served is); write_told = λ not. refl }
+ended_unserved seen = record { read_cause = λ is. absurd (wasnt_served is); within_turns = omega arith; read_reported = λ not. refl; write_cause = λ is. absurd (wasnt_served is); write_reported = λ not. refl }

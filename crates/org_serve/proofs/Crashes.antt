@@ -5,7 +5,7 @@ use Rattle.std.specs.Io.KnownBytes.{Appends}
 use Rattle.org_commands.specs.declared.command.Command.{Command}
 use Rattle.org_commands.specs.declared.command.RunFault.{RunFault}
 use Rattle.org_commands.specs.Session.{StoreView}
-use Rattle.org_store.specs.Calls.{Call, Machine, StepsBy, model}
+use Rattle.org_store.specs.Calls.{Call, Machine, StepsBy}
 use Rattle.org_store.specs.Calls.Call.{Grouped, Ran, Settled}
 use Rattle.org_store.proofs.Runs.{Course, course_none, course_run, course_settle}
 use Rattle.org_serve.specs.Pipes.{AddsSome, AppendsSome, Exchange, Output, output_of}
@@ -13,9 +13,9 @@ use Rattle.org_serve.specs.declared.end.ServeEnd.{ServeEnd}
 use Rattle.org_serve.specs.declared.end.ServeEnd.TheVariants.{End, Unsettled, Device, Read, Write}
 use Rattle.org_serve.specs.declared.fault.LineFault.{LineFault}
 use Rattle.org_serve.specs.declared.pending.Pending.{Pending}
-use Rattle.org_serve.specs.Serving.{Answers, AnswersLine, AnswersRead, EndsBy, EndsText, EndsWith, Finishes, HasSettled, LeavesServedDisk, RunsLines, RunsAndWrites, RunsSome, WritesSome, end_of, stores_while_honest}
+use Rattle.org_serve.specs.Serving.{Answers, AnswersRead, EndsBy, EndsText, EndsWith, Finishes, HasSettled, LeavesServedDisk, RunsLines, RunsAndWrites, RunsSome, end_of, stores_while_honest}
 use Rattle.org_serve.specs.Lines.{cut}
-use Rattle.org_serve.specs.Replies.{answer_text, settled_text}
+use Rattle.org_serve.specs.Replies.{settled_text}
 use Rattle.org_serve.proofs.Honest.{sound_stores}
 use Rattle.org_serve.proofs.Inputs.{Served}
 use Rattle.org_serve.proofs.Counting.{read_apart}
@@ -131,8 +131,8 @@ module _ {D : Type 0} (g : Ghosts D) where
       → (end ≡ Write → (text : List ℕ) × EndsText (cut s.input).rest new.session.acknowledged text × AppendsSome among io.after.written text)
       → RunsAndWrites Said old new end io
   unfolding runs_whole
-  runs_finish io {among = among} s new end told failed begun = (
-    runs_whole io s new end (⊎_elim failed (λ not. settled_at_end _ _ _ _ _ (told not)) (write_or_not end)) (λ not. let e = told not in (e.0 ++ e.1, e.4)),
+  runs_finish io {among = among} s new end reported failed begun = (
+    runs_whole io s new end (⊎_elim failed (λ not. settled_at_end _ _ _ _ _ (reported not)) (write_or_not end)) (λ not. let e = reported not in (e.0 ++ e.1, e.4)),
     λ is. let text = begun is in inr (refl, text.0, text.1, some_then io.before.written among io.after.written s.out text.0 s.wrote text.2),
   )
 

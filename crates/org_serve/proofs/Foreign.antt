@@ -1,12 +1,11 @@
 -- A run writes no file but its own.
-use Rattle.std.proofs.Common.{◌≡◌, ◌⊎◌, inl, inr, ⊎_elim, ℕ, List, [], ◌∷◌, Option, Result, Ok, Err, refl, sym, ap, subst}
+use Rattle.std.proofs.Common.{◌≡◌, ◌⊎◌, inl, inr, ⊎_elim, ℕ, List, [], ◌∷◌, Result, Ok, Err, refl, sym, ap, subst}
 use Rattle.org_disk.specs.declared.disk.Disk.{Ghosts}
 use Rattle.std.proofs.lemmas.Bool.{cases_Bool}
 use Rattle.org_disk.specs.Accounts.{LeavesOver}
-use Rattle.org_disk.specs.Disk.{FileState, AreImages}
+use Rattle.org_disk.specs.Disk.{AreImages}
 use Rattle.org_disk.specs.Names.{journal_name}
-use Rattle.org_disk.proofs.Moments.{Image, passes_as}
-use Rattle.org_outline.specs.States.{Keywords}
+use Rattle.org_disk.proofs.Moments.{passes_as}
 use Rattle.org_journal.specs.Recovered.{contents}
 use Rattle.org_fileset.specs.Names.{with_archives}
 use Rattle.org_fileset.specs.Writes.{LeavesAlone}

@@ -1,9 +1,9 @@
--- What a crash leaves of a run that is told in one list of texts.
+-- What a crash leaves of a run that is reported in one list of texts.
 use Rattle.std.proofs.Common.{◌≡◌, ◌⊎◌, inl, inr, ⊎_elim, ℕ, ◌≤◌, false, List, [], ◌∷◌, Option, Some, None, Result, Ok, Err, refl, sym, ap, ◌∙◌, subst, arith}
 use Rattle.org_disk.specs.declared.disk.Disk.{Ghosts}
 use Rattle.std.specs.Prelude.{slice_get, IsSomeAnd}
 use Rattle.std.proofs.lemmas.Option.{slice_get_within}
-use Rattle.org_disk.specs.Disk.{FileState, AreImages, LeavesOnly}
+use Rattle.org_disk.specs.Disk.{AreImages, LeavesOnly}
 use Rattle.org_disk.proofs.Moments.{passes_as, leaves_only}
 use Rattle.org_journal.specs.Recovered.{Image, contents}
 use Rattle.org_fileset.specs.Replay.{IsAtRest}
@@ -18,7 +18,7 @@ use Rattle.org_store.specs.History.{Trace, Lists, HoldsPrefix}
 use Rattle.org_commands.specs.Runs.{IsOnDisk}
 use Rattle.org_store.proofs.History.{Begin, Counts, Stands, Texts, adds, begin_adds, further, lists_settling, lists_step, same_or_sound, texts_after, torn}
 use Rattle.org_store.proofs.Runs.{Course, HaveTexts, IsBetween, course_none, course_run, course_settle, falls, holds_back, on_disk_after}
-use Rattle.org_store.specs.Calls.{Call, Machine, StepsBy, model, traces}
+use Rattle.org_store.specs.Calls.{Call, Machine, StepsBy, model}
 use Rattle.org_store.specs.Calls.Call.{Grouped, Ran, Settled}
 use Rattle.org_serve.specs.Pipes.{Exchange}
 use Rattle.org_serve.specs.Serving.{Answers, AnswersRead, HasSettled, RunsLines, RunsAndWrites, stores_while_honest, traces_while_honest}
@@ -288,12 +288,12 @@ pub run_leaves : {D : Type 0} (g : Ghosts D)
 run_leaves g only_now first new end io honestly rest disk sound lists run =
     let lifted = lift_run g first run in
     let last : Trace _ = record { store = new; texts = lifted.0 } in
-    let told = sound_traced g lifted.1 honestly in (
+    let reported = sound_traced g lifted.1 honestly in (
       last,
       refl,
-      lists_last g only_now told.0 told.1 honestly rest disk lists,
+      lists_last g only_now reported.0 reported.1 honestly rest disk lists,
       lifted.1,
-      since g only_now told.0 told.1 honestly rest disk lists first (inl (at_first first told.0.mid told.0.ran told.0.out told.0.answered)) sound,
+      since g only_now reported.0 reported.1 honestly rest disk lists first (inl (at_first first reported.0.mid reported.0.ran reported.0.out reported.0.answered)) sound,
     )
 
 -- .. which is a prefix with at least the commands that were acknowledged

@@ -3,8 +3,8 @@
 use Rattle.std.proofs.Common.{◌≡◌, ◌⊎◌, inl, inr, ⊎_elim, ℕ, Bool, true, false, nat_lt, List, [], ◌∷◌, ◌++◌, Option, Result, Ok, Err, refl, ap, ◌∙◌, subst, append_assoc}
 use Rattle.org_disk.specs.declared.disk.Disk.{Ghosts}
 use Rattle.org_commands.specs.declared.command.Command.{Command}
-use Rattle.org_commands.specs.Session.{Session, StoreView}
-use Rattle.org_store.specs.Calls.{Call, Machine, stores, traces}
+use Rattle.org_commands.specs.Session.{StoreView}
+use Rattle.org_store.specs.Calls.{Machine, stores, traces}
 use Rattle.org_store.specs.History.{Trace}
 use Rattle.org_serve.specs.Pipes.{Exchange, Output}
 use Rattle.org_serve.specs.declared.end.ServeEnd.{ServeEnd}

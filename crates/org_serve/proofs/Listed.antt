@@ -1,4 +1,4 @@
--- What holds of each of the texts by which a run is told, where accepted commands keep it: they are
+-- What holds of each of the texts by which a run is reported, where accepted commands keep it: they are
 -- within the limit, and after refiles alone they have the same nodes.
 use Rattle.std.proofs.Common.{◌≡◌, inl, inr, ⊎_elim, ℕ, ◌+◌, true, List, [], ◌∷◌, ◌++◌, Option, Some, None, Result, Ok, Err, refl, sym, ap, ◌∙◌, subst, arith}
 use Rattle.org_disk.specs.declared.disk.Disk.{Ghosts}
@@ -7,8 +7,6 @@ use Rattle.std.specs.List.{AllByRecursion, IsDistinct}
 use Rattle.std.specs.Str.{bytes_eq}
 use Rattle.std.proofs.lemmas.Bool.{cases_Bool, false≢true}
 use Rattle.std.proofs.lemmas.List.Elements.{All-cons, All-nil, All-push, recursion_from_All}
-use Rattle.org_disk.specs.Disk.{FileState}
-use Rattle.org_outline.specs.States.{Keywords}
 use Rattle.org_journal.specs.Recovered.{Image, contents}
 use Rattle.org_fileset.specs.Names.{AreFew}
 use Rattle.org_commands.specs.declared.command.Command.{Command}
@@ -106,11 +104,11 @@ module _ (names : List (List ℕ)) (Q : List (List ℕ) → Type 0) (Allowed : L
       (first : g.honest served.first.store.disk → Each served.first.store.session served.first.texts) where
     pub each_intermediate : (here : Trace D) → IsIntermediate served here → g.honest here.store.disk → All Q here.texts
     each_intermediate here (inl way) honestly =
-        let told = sound_traced g (up_to served.run here way) honestly in
-        each_run g told.0 (all_first Allowed way.answered way.others (subst (AllByRecursion Allowed) way.all_lines allowed)) (first told.1)
+        let reported = sound_traced g (up_to served.run here way) honestly in
+        each_run g reported.0 (all_first Allowed way.answered way.others (subst (AllByRecursion Allowed) way.all_lines allowed)) (first reported.1)
     each_intermediate here (inr last) honestly =
-        let told = sound_traced g served.run (subst (λ (p : Trace D). g.honest p.store.disk) last honestly) in
-        subst (λ (p : Trace D). All Q p.texts) (sym last) (each_run g told.0 allowed (first told.1))
+        let reported = sound_traced g served.run (subst (λ (p : Trace D). g.honest p.store.disk) last honestly) in
+        subst (λ (p : Trace D). All Q p.texts) (sym last) (each_run g reported.0 allowed (first reported.1))
 
 -- Texts that are within the limit.
 
@@ -147,8 +145,8 @@ module _ {D : Type 0} (g : Ghosts D) (given : List (List ℕ)) (first last : Tra
 
   run_small : All (AreSmall names) last.texts
   run_small =
-      let told = sound_traced g run honestly in
-      each_run names (AreSmall names) Any (λ s line command texts same any read. keeps_small names s command texts same) g told.0 (any_line told.0.ran)
+      let reported = sound_traced g run honestly in
+      each_run names (AreSmall names) Any (λ s line command texts same any read. keeps_small names s command texts same) g reported.0 (any_line reported.0.ran)
       (record { same_names = refl; lists = lists; all = small })
 
   pub run_opens : AreFew given → HoldsPrefix first.store.session others last.texts least image → IsOpenable given image
@@ -161,9 +159,9 @@ module _ {D : Type 0} (g : Ghosts D) (given : List (List ℕ)) (first last : Tra
       → HasNodesOf names first.store.session.files image
   run_same only same =
       let base = first.store.session.files in
-      let told = sound_traced g run honestly in
+      let reported = sound_traced g run honestly in
       prefix_same given first.store.session others last.texts least image of
-      (each_run names (KeptNodes names base) OnlyRefiles (line_keeps names base (names_apart given first.store.session of)) g told.0 (recursion_from_All OnlyRefiles run.ran only)
+      (each_run names (KeptNodes names base) OnlyRefiles (line_keeps names base (names_apart given first.store.session of)) g reported.0 (recursion_from_All OnlyRefiles run.ran only)
       (record { same_names = refl; lists = lists; all = λ k d within. (small k d within, same k d within) }))
 
 -- a whole run

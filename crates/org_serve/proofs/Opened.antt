@@ -2,10 +2,9 @@
 use Rattle.std.proofs.Common.{◌≡◌, ◌⊎◌, inl, inr, ⊎_elim, ℕ, ◌≤◌, Bool, true, false, nat_lt, is_some, List, [], ◌∷◌, Option, Some, None, Result, Ok, Err, refl, sym, ap, ◌∙◌, subst, arith}
 use Rattle.org_disk.specs.declared.disk.Disk.{Ghosts}
 use Rattle.std.specs.Prelude.{IsSomeAnd, IsTrue, IsFalse, slice_get}
-use Rattle.org_disk.specs.Disk.{FileState, AreImages, HasRisen, LeavesOnly}
+use Rattle.org_disk.specs.Disk.{AreImages, HasRisen, LeavesOnly}
 use Rattle.org_disk.specs.Names.{journal_name}
 use Rattle.org_disk.proofs.Moments.{Image, passes_as, passes_then, leaves_only}
-use Rattle.org_outline.specs.States.{Keywords}
 use Rattle.org_journal.specs.Recovered.{SameFiles, RecoversTo, IsRecoverable, recovered, contents}
 use Rattle.org_fileset.specs.Names.{with_archives, AreFew, AreSorted, first_large}
 use Rattle.org_fileset.specs.Recovery.{EachRecovers, IsReopened, RecoversAsBefore}
@@ -72,7 +71,7 @@ module _ {D : Type 0} (g : Ghosts D) (setup : Setup) (disk : D) (store begun : S
       → (ran : RunsAndWrites (stores_while_honest g) begun after end io)
       → (g.honest now → Serves begun.session end after.session io)
       → ServesOver g setup disk now end io
-  serves few sorted sized began reopened dirty_files alone after now given_up run told =
+  serves few sorted sized began reopened dirty_files alone after now given_up run reported =
       let first : Trace D = record { store = begun; texts = begun.session.files ∷ [] } in
       let past = lift_wrote g first run in record {
         first = first;
@@ -86,11 +85,11 @@ module _ {D : Type 0} (g : Ghosts D) (setup : Setup) (disk : D) (store begun : S
         alone = λ h. alone_fewer g (IsForeign setup.names.items (contents (g.files disk) journal_name)) (IsUnconcerned (contents (g.files disk) journal_name)) disk begun.disk (alone h) (λ name foreign. foreign.unconcerned);
         run = past.0;
         given_up = given_up;
-        told = past.1;
+        reported = past.1;
         so_far = λ here way honestly.
             session_of_traced g first way.answered way.written here
             (sound_lines g first way.answered way.written here way.before honestly).0;
-        serves = told;
+        serves = reported;
       }
 
 -- what is listed of a store that was just opened
@@ -274,8 +273,8 @@ module _ {D : Type 0} (g : Ghosts D)
       → (IsTrue after.session.broken → HasRisen (g.failures disk) (g.failures now)) × (IsFalse after.session.broken → g.failures now ≡ g.failures disk)
       → ServesDisk g setup disk now end io
   unfolding serves
-  serves_lasting few sorted sized began reopened dirty_files alone after now given_up run told opening counts =
-      let served = serves g setup disk store begun is opens few sorted sized began reopened dirty_files alone after now given_up run told in
+  serves_lasting few sorted sized began reopened dirty_files alone after now given_up run reported opening counts =
+      let served = serves g setup disk store begun is opens few sorted sized began reopened dirty_files alone after now given_up run reported in
       record {
         served = served;
         breaks = record { broken = counts.0; sound = counts.1 };

@@ -31,11 +31,11 @@ titles_in-append (field ∷ fields) more = one_more (unescaped field) (titles_in
 
 -- one more field is read
 pub titles_in-push : (fields titles : List (List ℕ)) (field title : List ℕ) → titles_in fields ≡ Some titles → unescaped field ≡ Some title → titles_in (fields ++ field ∷ []) ≡ Some (titles ++ title ∷ [])
-titles_in-push fields titles field title told e = titles_in-append fields (field ∷ []) ∙ rw (told, e) refl
+titles_in-push fields titles field title reported e = titles_in-append fields (field ∷ []) ∙ rw (reported, e) refl
 
 -- the next field can't be read
 titles_in-bad : (fields titles : List (List ℕ)) (field : List ℕ) (more : List (List ℕ)) → titles_in fields ≡ Some titles → unescaped field ≡ None → titles_in (fields ++ field ∷ more) ≡ None
-titles_in-bad fields titles field more told e = titles_in-append fields (field ∷ more) ∙ rw (told, e) refl
+titles_in-bad fields titles field more reported e = titles_in-append fields (field ∷ more) ∙ rw (reported, e) refl
 
 cut_at : (fields : List (List ℕ)) (i : ℕ) (field : List ℕ) → (i < length fields) × (field ≡ get_or fields i field) → fields ≡ take i fields ++ field ∷ drop (i + 1) fields
 cut_at fields i field at =
@@ -46,9 +46,9 @@ cut_at fields i field at =
 -- where a field of those that are yielded can't be read, they are no path
 pub titles_in-stopped : {S : Type 0} {steps : S → Option (Bor (List ℕ)) → S → Type 0} {s : S} {all : List (List ℕ)} (road : YieldsList steps (λ x. x.now) s all) (xs : List (Bor (List ℕ))) (t : S) (y : Yields steps s xs t) → (r : Option (Bor (List ℕ))) (u : S) (x : Bor (List ℕ)) → r ≡ Some x → steps t r u
     → (titles : List (List ℕ)) → titles_in (map (λ x. x.now) xs) ≡ Some titles → unescaped x.now ≡ None → titles_in all ≡ None
-titles_in-stopped {all} road xs t y r u x is step titles told e =
+titles_in-stopped {all} road xs t y r u x is step titles reported e =
     ap titles_in (cut_at all (length xs) x.now (YieldsList-turn road xs t y r u x is step) ∙ ap (λ front. front ++ x.now ∷ drop (length xs + 1) all) (sym (YieldsList-so_far road xs t y)))
-    ∙ titles_in-bad (map (λ x. x.now) xs) titles x.now (drop (length xs + 1) all) told e
+    ∙ titles_in-bad (map (λ x. x.now) xs) titles x.now (drop (length xs + 1) all) reported e
 
 -- a path is cut where its titles end
 split-path : (title : List ℕ) (titles : List (List ℕ)) → slice_split (λ b. b == 47) (path_field (title ∷ titles)) ≡ map escaped (title ∷ titles)

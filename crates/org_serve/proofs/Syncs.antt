@@ -81,7 +81,7 @@ pub all_images : {old new : List ℕ → FileState} → ((name bytes : List ℕ)
     → (image : Image) → AreImages new image → AreImages old image
 all_images images image left name = images name (image name) (left name)
 
--- told of each file by itself
+-- reported of each file by itself
 pub each_image : {old new : List ℕ → FileState} → ((name : List ℕ) → IsImage (new name) (new name).content)
     → ((image : Image) → AreImages new image → AreImages old image) → (name bytes : List ℕ) → IsImage (new name) bytes → IsImage (old name) bytes
 each_image {old} {new} own images name bytes image =

@@ -18,24 +18,24 @@ none_some : {A : Type 0} (a : ℕ) → ◌≡◌ {A = Option ℕ} None (Some a) 
 none_some a same = absurd (cc)
 
 written_done : (n new a : ℕ) (risen : Bool) → (if risen then Some new else None) ≡ Some a → (front : List ℕ) × (codes "ok " ++ decimal n ++ codes "\n" ++ (if risen then safe_line new else []) ≡ front ++ safe_line a)
-written_done n new a true told = (codes "ok " ++ decimal n ++ codes "\n", ap (λ m. codes "ok " ++ decimal n ++ codes "\n" ++ safe_line m) (same_some new a told))
-written_done n new a false told = none_some a told
+written_done n new a true reported = (codes "ok " ++ decimal n ++ codes "\n", ap (λ m. codes "ok " ++ decimal n ++ codes "\n" ++ safe_line m) (same_some new a reported))
+written_done n new a false reported = none_some a reported
 
 pub safe_written : (answer : Result Reply RunFault) (old new a : ℕ) → reported_safe answer old new ≡ Some a → (front : List ℕ) × (answer_text answer old new ≡ front ++ safe_line a)
-safe_written (Ok (Done n)) old new a told = written_done n new a (nat_lt old new) told
-safe_written (Ok (Safe n)) old new a told = ([], ap safe_line (same_some n a told))
-safe_written (Ok (Text bytes)) old new a told = none_some a told
-safe_written (Ok (Time minutes)) old new a told = none_some a told
-safe_written (Err fault) old new a told = none_some a told
+safe_written (Ok (Done n)) old new a reported = written_done n new a (nat_lt old new) reported
+safe_written (Ok (Safe n)) old new a reported = ([], ap safe_line (same_some n a reported))
+safe_written (Ok (Text bytes)) old new a reported = none_some a reported
+safe_written (Ok (Time minutes)) old new a reported = none_some a reported
+safe_written (Err fault) old new a reported = none_some a reported
 
 pub safe_known : (old new : Session) (command : Command) (answer : Result Reply RunFault) (a : ℕ) → Step old command answer new → reported_safe answer old.acknowledged new.acknowledged ≡ Some a
     → (new.acknowledged ≡ a) × (new.broken ≡ false)
-safe_known old new command (Ok (Done n)) a step told = elim (cases_Bool (nat_lt old.acknowledged new.acknowledged)) [
-  | inl t ↦ (same_some new.acknowledged a (rw t at told), ap (λ (s : Session). s.broken) step.1.3 ∙ done_broken old step.1.0 ∙ step.0)
-  | inr f ↦ none_some a (rw f at told)
+safe_known old new command (Ok (Done n)) a step reported = elim (cases_Bool (nat_lt old.acknowledged new.acknowledged)) [
+  | inl t ↦ (same_some new.acknowledged a (rw t at reported), ap (λ (s : Session). s.broken) step.1.3 ∙ done_broken old step.1.0 ∙ step.0)
+  | inr f ↦ none_some a (rw f at reported)
 ]
-safe_known old new command (Ok (Safe n)) a step told =
-    (ap (λ (s : Session). s.acknowledged) step.3 ∙ sym step.2 ∙ same_some n a told, ap (λ (s : Session). s.broken) step.3 ∙ step.0)
-safe_known old new command (Ok (Text bytes)) a step told = none_some a told
-safe_known old new command (Ok (Time minutes)) a step told = none_some a told
-safe_known old new command (Err fault) a step told = none_some a told
+safe_known old new command (Ok (Safe n)) a step reported =
+    (ap (λ (s : Session). s.acknowledged) step.3 ∙ sym step.2 ∙ same_some n a reported, ap (λ (s : Session). s.broken) step.3 ∙ step.0)
+safe_known old new command (Ok (Text bytes)) a step reported = none_some a reported
+safe_known old new command (Ok (Time minutes)) a step reported = none_some a reported
+safe_known old new command (Err fault) a step reported = none_some a reported

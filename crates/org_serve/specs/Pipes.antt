@@ -52,7 +52,7 @@ abbrev pub HasRead : ℕ → Option (List ℕ) → Option (List ℕ) → Type 0
 HasRead n left left' = (input : List ℕ) × Consumes left left' input × (n ≤ length input)
 
 -- A run ends with Read or Write for a cause alone, and a call of the reader or the writer that
--- failed is always told so. The counts of the two tell it. One failure is counted where one ends
+-- failed is always reported. The counts of the two say it. One failure is counted where one ends
 -- the run, so neither is called once it has failed.
 pub record EndsForCause (turns : ℕ) (end : Result ServeEnd OpenFault) (io : Exchange)
     : Type 0 where
@@ -64,9 +64,9 @@ pub record EndsForCause (turns : ℕ) (end : Result ServeEnd OpenFault) (io : Ex
       × HasRead turns io.before.left io.after.left)
   -- there are no more reads than turns
   pub within_turns : io.after.reads ≤ io.before.reads + turns
-  -- a read that failed is told so
-  pub read_told : end ≢ Ok Read → io.after.failed_reads ≡ io.before.failed_reads
+  -- a read that failed is reported
+  pub read_reported : end ≢ Ok Read → io.after.failed_reads ≡ io.before.failed_reads
   -- a write or a flush failed
   pub write_cause : end ≡ Ok Write → IsCounted io.before.failed_writes io.after.failed_writes
-  -- one that failed is told so
-  pub write_told : end ≢ Ok Write → io.after.failed_writes ≡ io.before.failed_writes
+  -- one that failed is reported
+  pub write_reported : end ≢ Ok Write → io.after.failed_writes ≡ io.before.failed_writes

@@ -50,7 +50,7 @@ abbrev pub settled_text : Result (Unit {0}) RunFault → ℕ → List ℕ
 settled_text (Ok done) safe = safe_line safe
 settled_text (Err fault) safe = fault_line fault
 
--- how many commands the answer tells to be on the disk, where it tells that
+-- how many commands the answer says are on the disk, where it says that
 abbrev pub reported_safe : Result Reply RunFault → ℕ → ℕ → Option ℕ
 reported_safe (Ok (Done n)) old new = if nat_lt old new then Some new else None
 reported_safe (Ok (Safe n)) old new = Some n

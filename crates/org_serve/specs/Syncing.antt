@@ -1,6 +1,8 @@
 -- The files of a store, synced before it is opened over them, and what a crash leaves of them then.
-use Rattle.std.specs.Prelude.{◌≡◌, ◌⊎◌, ℕ, List, ◌∷◌, Result, OnOk, IsSomeAnd}
+use Rattle.std.specs.Prelude.{◌≡◌, ◌⊎◌, ℕ, List, ◌∷◌, Result, Err, IfErr, OnOk, IsSomeAnd}
 use Rattle.std.specs.List.{Contains}
+use Rattle.org_disk.specs.declared.disk.Disk.{Ghosts}
+use Rattle.org_disk.specs.Accounts.{LeavesOver}
 use Rattle.org_disk.specs.Disk.{FileState, IsImage, IsStable, AreImages}
 use Rattle.org_disk.specs.Names.{journal_name}
 use Rattle.org_journal.specs.Recovered.{Image, RecoversTo, recovered, contents}
@@ -22,13 +24,19 @@ pub record AreSynced (names : List (List ℕ)) (old new : List ℕ → FileState
   pub stable : (name : List ℕ) → Contains names name → IsStable (new name)
 
 -- The files of these names were synced, all of them or, where a sync failed, some.
-pub record Syncs {A E : Type 0} (names : List (List ℕ)) (old new : List ℕ → FileState)
+pub record SyncsOver {D A E : Type 0} (g : Ghosts D) (names : List (List ℕ)) (old new : D)
     (result : Result A E) : Type 0 where
-  pub done : OnOk result (AreSynced names old new)
+  pub done : OnOk result (AreSynced names (g.files old) (g.files new))
   -- a crash leaves of a file what it might have left before
-  pub images : (name bytes : List ℕ) → IsImage (new name) bytes → IsImage (old name) bytes
+  pub images : (name bytes : List ℕ) → IsImage (g.files new name) bytes
+      → IsImage (g.files old name) bytes
   -- no other file is synced
-  pub others : (name : List ℕ) → (Contains names name → ⊥) → new name ≡ old name
+  pub others : (name : List ℕ) → (Contains names name → ⊥) → g.files new name ≡ g.files old name
+  -- so it is at any moment since the call began
+  pub any_moment : LeavesOver g old new (AreImages (g.files old))
+
+abbrev pub Syncs : {D A E : Type 0} → Ghosts D → List (List ℕ) → D → D → Result A E → Type 0
+Syncs g names old new result = g.honest new → SyncsOver g names old new result
 
 -- a sync of a store's files isn't done for this reason
 abbrev pub IsSyncFault : List (List ℕ) → OpenFault → Type 0
@@ -36,6 +44,14 @@ IsSyncFault given TooManyFiles = AreTooMany given
 IsSyncFault given Device = AreFew given
 IsSyncFault given OutOfMemory = Unit {0}
 IsSyncFault given fault = ⊥
+
+-- What a sync of a store's files answers: the given names are few, or it isn't done, for a reason.
+-- Too many names leave the disk unused.
+pub record AnswersSync {D A : Type 0} (given : List (List ℕ)) (old new : D)
+    (result : Result A OpenFault) : Type 0 where
+  pub few : OnOk result (AreFew given)
+  pub refused : IfErr result (IsSyncFault given)
+  pub unused : result ≡ Err TooManyFiles → new ≡ old
 
 -- every file but the store's is on the disk
 abbrev pub OutsideStable : List (List ℕ) → (List ℕ → FileState) → Type 0

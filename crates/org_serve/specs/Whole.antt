@@ -1,8 +1,8 @@
 -- A whole run over a disk: a store is opened, serves the lines of an input, and is given up. `g` is
 -- what is seen of a disk of the type D.
-use Rattle.std.specs.Prelude.{◌≡◌, ◌⊎◌, ℕ, List, [], ◌∷◌, None, Option, IsTrue, IsFalse, Result, Ok, Err, IfOk, IfErr, IsErr}
+use Rattle.std.specs.Prelude.{◌≡◌, ◌⊎◌, ℕ, List, [], ◌∷◌, None, IsTrue, IsFalse, Result, Ok, Err, IfOk, IfErr, IsErr}
 use Rattle.org_disk.specs.declared.disk.Disk.{Ghosts}
-use Rattle.org_disk.specs.Disk.{FileState, AreImages, HasRisen}
+use Rattle.org_disk.specs.Disk.{AreImages, HasRisen}
 use Rattle.org_disk.specs.Accounts.{Accounts, LeavesOver}
 use Rattle.org_disk.specs.Names.{journal_name}
 use Rattle.org_journal.specs.Recovered.{Image, IsRecoverable, contents, recovered}
@@ -18,7 +18,7 @@ use Rattle.org_store.specs.Calls.{model}
 use Rattle.org_store.specs.Opening.{opened}
 use Rattle.org_commands.specs.Session.{Session, Holds}
 use Rattle.org_serve.specs.declared.end.ServeEnd.{ServeEnd}
-use Rattle.org_serve.specs.declared.end.ServeEnd.TheVariants.{End, Unsettled, Device, Read, Write}
+use Rattle.org_serve.specs.declared.end.ServeEnd.TheVariants.{End, Device, Read, Write}
 use Rattle.org_serve.specs.declared.whole.Setup.{Setup}
 use Rattle.org_serve.specs.History.{HoldsSince, Reaches}
 use Rattle.org_serve.specs.Pipes.{EndsForCause, Exchange, output_of}
@@ -70,7 +70,7 @@ pub record ServesOver {D : Type 0} (g : Ghosts D) (setup : Setup) (disk now : D)
   pub given_up : now ≡ last.store.disk
   -- where a write or a flush failed, what was written begins the replies to the lines that were
   -- run, and what is written at the end
-  pub told : end ≡ Write
+  pub reported : end ≡ Write
       → WritesSome run.input run.others run.out last.store.session.acknowledged (output_of io)
   -- the lines that an intermediate store had answered, and their replies
   pub so_far : (here : Trace D)
@@ -104,22 +104,22 @@ module _ {D : Type 0} {g : Ghosts D} {setup : Setup} {disk now : D} {end : Serve
       × Reaches (traces_while_honest g) served.first way.answered way.written later here)
       ⊎ ((later ≡ served.last) × IsIntermediate here)
 
-  -- Up to each intermediate store over a disk that is honest there, files that are none of the run's
-  -- were left alone.
+  -- Up to each intermediate store over a disk that is honest there, files that are none of the
+  -- run's were left alone.
   abbrev pub LeavesForeign : Type 0
   LeavesForeign =
       (here : Trace D) → IsIntermediate here → g.honest here.store.disk
       → LeavesAlone g (IsForeignTo g setup disk) disk here.store.disk
 
-  -- What a crash leaves of a run: up to each intermediate store over a disk that is honest there, at
-  -- the last to the end. `Before` is what it leaves of what was there when the run began.
+  -- What a crash leaves of a run: up to each intermediate store over a disk that is honest there,
+  -- at the last to the end. `Before` is what it leaves of what was there when the run began.
   pub record DurableFrom (Before : Image → Type 0) : Type 0 where
     -- since it began: what was there then, or the files after a prefix of the accepted commands
     pub any_moment : (later : Trace D) → IsIntermediate later → g.honest later.store.disk
         → LeavesOver g disk later.store.disk
         (λ image. Before image ⊎ HoldsServed served.first later image)
-    -- since each intermediate store that wasn't broken: the commands that were acknowledged there, or
-    -- no fewer than were accepted there
+    -- since each intermediate store that wasn't broken: the commands that were acknowledged there,
+    -- or no fewer than were accepted there
     pub since : (here later : Trace D) → IsIntermediateTo here later → g.honest later.store.disk
         → IsFalse here.store.session.broken
         → LeavesOver g here.store.disk later.store.disk (HoldsServed here later)
@@ -132,9 +132,9 @@ module _ {D : Type 0} {g : Ghosts D} {setup : Setup} {disk now : D} {end : Serve
   abbrev pub IsDurable : Type 0
   IsDurable = DurableFrom (RecoversAsBefore (g.files disk))
 
-  -- The disk's count of failures tells whether the last store is broken: so the intermediate stores
-  -- answer no Device unless a call of the disk failed in the run, and a run in which one failed has a
-  -- broken store at its end.
+  -- The disk's count of failures says whether the last store is broken: so the intermediate stores
+  -- answer no Device unless a call of the disk failed in the run, and a run in which one failed has
+  -- a broken store at its end.
   pub record BreaksByCount : Type 0 where
     pub broken : IsTrue served.last.store.session.broken
         → HasRisen (g.failures disk) (g.failures now)
@@ -195,8 +195,8 @@ pub record LeavesSyncedDisk {D : Type 0} (g : Ghosts D) (setup : Setup) (disk no
       → (IsRecoverable (g.files now) × EachRecovers (g.files now))
       ⊎ (IsErr end × OutsideStable setup.names.items (g.files now))
 
--- The disk failed in a run that ended so: the fault of the opening tells it, or the end. An end
--- with a failed read or write tells nothing of the disk.
+-- The disk failed in a run that ended so: the fault of the opening says it, or the end. An end
+-- with a failed read or write says nothing of the disk.
 abbrev pub SaysFailure : Result ServeEnd OpenFault → ℕ → ℕ → Type 0
 SaysFailure (Err fault) before now = fault ≡ open_fault.Device
 SaysFailure (Ok Device) before now = Unit {0}
@@ -204,13 +204,28 @@ SaysFailure (Ok Read) before now = HasRisen before now
 SaysFailure (Ok Write) before now = HasRisen before now
 SaysFailure (Ok end) before now = ⊥
 
--- All that is said of a run that syncs the store's files before it opens the store, in at most this
--- many reads.
-pub record RunsSynced {D : Type 0} (g : Ghosts D) (setup : Setup) (turns : ℕ) (disk now : D)
-    (end : Result ServeEnd OpenFault) (io : Exchange) : Type 0 where
-  pub served : IfOk end (λ end. ServesSynced g setup disk now end io)
-  pub leaves_disk : g.honest now → LeavesSyncedDisk g setup disk now end
+-- All that is said of a run, in at most this many reads: what it did where it opened its store
+-- (`Serves`), and what it leaves of the disk (`Leaves`).
+pub record RunsAs {D : Type 0} (g : Ghosts D) (setup : Setup) (turns : ℕ) (disk now : D)
+    (end : Result ServeEnd OpenFault) (io : Exchange) (Serves : ServeEnd → Type 0) (Leaves : Type 0)
+    : Type 0 where
+  pub served : IfOk end Serves
+  pub leaves_disk : g.honest now → Leaves
   pub refused : IfErr end (IsRefusedFor g setup.names.items disk now)
   pub unserved : IfErr end (λ _. io.after ≡ io.before)
   pub causes : EndsForCause turns end io
   pub accounts : Accounts g disk now (SaysFailure end (g.failures disk) (g.failures now))
+
+-- .. of one over a disk as it is
+abbrev pub RunsDisk : {D : Type 0} → Ghosts D → Setup → ℕ → D → D → Result ServeEnd OpenFault
+    → Exchange → Type 0
+RunsDisk g setup turns disk now end io =
+    RunsAs g setup turns disk now end io
+    (λ end. ServesDisk g setup disk now end io) (LeavesDiskOfRun g setup disk now end)
+
+-- .. and of one that syncs the store's files before it opens the store
+abbrev pub RunsSynced : {D : Type 0} → Ghosts D → Setup → ℕ → D → D → Result ServeEnd OpenFault
+    → Exchange → Type 0
+RunsSynced g setup turns disk now end io =
+    RunsAs g setup turns disk now end io
+    (λ end. ServesSynced g setup disk now end io) (LeavesSyncedDisk g setup disk now end)

@@ -116,7 +116,7 @@ pub fn every_image_opens<D: Disk>()
 /// No file is written but the store's own and the journal while lines are served
 /// (`crashes_leave_a_prefix`), however that ends: where the disk is honest at the end, each other
 /// file is as it was, and a crash meanwhile leaves of it what it might have left before. The files
-/// that wait at first are to be the store's own: where it was just opened, none does.
+/// that are dirty at first are to be the store's own: where it was just opened, none is.
 pub fn only_own_files_are_written<D: Disk>()
     ensures alone { (first last : Trace D) (end : ServeEnd) (io : Exchange)
         → AreNames first.store.session.names first.store.dirty → D.honest last.store.disk

@@ -186,7 +186,7 @@ fn answer_read<D: Disk, W: Sink>(
 // Ends serving at the end of the input.
 fn finish<D: Disk, W: Sink>(store: &mut Store<D>, pending: &Pending, writer: &mut W) -> ServeEnd
     ensures never { result ≢ ServeEnd.Read }
-    ensures told { result ≢ ServeEnd.Write → (W.failures writer.new ≡ W.failures writer.old)
+    ensures reported { result ≢ ServeEnd.Write → (W.failures writer.new ≡ W.failures writer.old)
         × ((part : List ℕ) → Stands pending.now part
         → EndsWith (stores_while_honest D.Disk) part store.old result store.new
         (output W.Sink writer.old writer.new)) }
@@ -223,7 +223,7 @@ fn answer_rest<W: Sink>(pending: &Pending, writer: &mut W) -> Result<(), PipeFau
 // Settles where accepted commands aren't settled yet.
 fn settle<D: Disk, W: Sink>(store: &mut Store<D>, writer: &mut W) -> ServeEnd
     ensures never { result ≢ ServeEnd.Read }
-    ensures told { result ≢ ServeEnd.Write → (W.failures writer.new ≡ W.failures writer.old)
+    ensures reported { result ≢ ServeEnd.Write → (W.failures writer.new ≡ W.failures writer.old)
         × (tail : List ℕ)
         × Finishes (stores_while_honest D.Disk) store.old result tail store.new
         × Adds (output W.Sink writer.old writer.new) tail }

@@ -1,13 +1,11 @@
 //! The files of a store, synced before it is opened over them.
 //!
 //! So what an editor has just saved counts as stable. Nothing is written.
-ghost use Rattle.std.specs.Prelude.{◌≡◌, ◌∷◌, Err, All, IfErr, IsErr, IsErrOf, OnOk};
-ghost use Rattle.org_disk.specs.Accounts.{Accounts, LeavesOver};
-ghost use Rattle.org_disk.specs.Disk.{AreImages};
+ghost use Rattle.std.specs.Prelude.{All, IsErr, IsErrOf};
+ghost use Rattle.org_disk.specs.Accounts.{Accounts};
 ghost use Rattle.org_disk.specs.Names.{IsOrgFile};
-ghost use Rattle.org_fileset.specs.Names.{AreFew};
-ghost use Rattle.org_fileset.specs.declared.open.OpenFault.TheVariants.{Device, TooManyFiles};
-ghost use Rattle.org_serve.specs.Syncing.{Syncs, IsSyncFault, stored};
+ghost use Rattle.org_fileset.specs.declared.open.OpenFault.TheVariants.{Device};
+ghost use Rattle.org_serve.specs.Syncing.{AnswersSync, Syncs, stored};
 
 use crate::names::file_names;
 use org_disk::{Disk, DiskFault, FileName};
@@ -28,15 +26,9 @@ use std::alloc::Global;
 /// - `OutOfMemory`.
 pub fn sync_files<D: Disk>(alloc: Global, disk: &mut D, given: &[FileName]) -> Result<(), OpenFault>
     requires { All IsOrgFile given.now }
-    ensures syncs { D.honest disk.new →
-        Syncs (stored given.now) (D.files disk.old) (D.files disk.new) result }
-    ensures any_moment { D.honest disk.new → LeavesOver D.Disk disk.old disk.new
-        (AreImages (D.files disk.old)) }
-    ensures few { OnOk result (AreFew given.now) }
-    ensures refused { IfErr result (IsSyncFault given.now) }
-    ensures unused { result ≡ Err TooManyFiles → disk.new ≡ disk.old }
-    ensures accounts { Accounts D.Disk disk.old disk.new
-        (IsErrOf result Device) }
+    ensures syncs { Syncs D.Disk (stored given.now) disk.old disk.new result }
+    ensures answers { AnswersSync given.now disk.old disk.new result }
+    ensures accounts { Accounts D.Disk disk.old disk.new (IsErrOf result Device) }
 {
     let Some(names) = file_names(alloc, given)? else {
         return Err(OpenFault::TooManyFiles);
@@ -46,10 +38,7 @@ pub fn sync_files<D: Disk>(alloc: Global, disk: &mut D, given: &[FileName]) -> R
 }
 
 fn sync_each<D: Disk>(disk: &mut D, names: &[FileName]) -> Result<(), DiskFault>
-    ensures syncs { D.honest disk.new →
-        Syncs names.now (D.files disk.old) (D.files disk.new) result }
-    ensures any_moment { D.honest disk.new → LeavesOver D.Disk disk.old disk.new
-        (AreImages (D.files disk.old)) }
+    ensures syncs { Syncs D.Disk names.now disk.old disk.new result }
     ensures accounts { Accounts D.Disk disk.old disk.new (IsErr result) }
 {
     for name in names {

@@ -1,11 +1,8 @@
 //! A whole run over a disk, from the opening to the end of the input.
-ghost use Rattle.std.specs.Prelude.{◌≡◌, Err, All, IfOk, IfErr};
-ghost use Rattle.org_disk.specs.Accounts.{Accounts};
+ghost use Rattle.std.specs.Prelude.{◌≡◌, All, IfErr};
 ghost use Rattle.org_disk.specs.Names.{IsOrgFile};
-ghost use Rattle.org_fileset.specs.Opening.{IsRefusedFor};
-ghost use Rattle.org_serve.specs.Pipes.{EndsForCause};
 ghost use Rattle.org_store.specs.Group.{IsGroupSize};
-ghost use Rattle.org_serve.specs.Whole.{LeavesDiskOfRun, SaysFailure, RunsSynced, ServesDisk};
+ghost use Rattle.org_serve.specs.Whole.{RunsDisk, RunsSynced};
 ghost use Rattle.org_serve.specs.Writes.{exchange};
 
 use crate::end::ServeEnd;
@@ -65,8 +62,8 @@ pub struct Served<D> {
 /// comes, and what is written then, those of `serve`. The store at the end is broken where the disk
 /// counted a failure, and isn't where it counted none. Too many names leave the disk unused. Where
 /// the journal is bad, as it reads, a crash leaves what it might have left before, whatever fault
-/// is reported. With `Device`, or an opening that is refused so, it ends only where the disk counted a
-/// failure, and with `End` or `Unsettled` only where it counted none.
+/// is reported. With `Device`, or an opening that is refused so, it ends only where the disk
+/// counted a failure, and with `End` or `Unsettled` only where it counted none.
 pub fn serve_disk<D: Disk, R: Source, W: Sink>(
     alloc: Global,
     disk: D,
@@ -77,18 +74,10 @@ pub fn serve_disk<D: Disk, R: Source, W: Sink>(
 ) -> Served<D>
     requires names { All IsOrgFile setup.names.items }
     requires group { IsGroupSize setup.group }
-    ensures served { IfOk result.end (λ end. ServesDisk D.Disk setup disk result.disk end
-        (exchange R.Source W.Sink reader.old reader.new writer.old writer.new)) }
-    ensures disk { D.honest result.disk →
-        LeavesDiskOfRun D.Disk setup disk result.disk result.end }
-    ensures refused { IfErr result.end
-        (λ fault. IsRefusedFor D.Disk setup.names.items disk result.disk fault) }
+    ensures runs { RunsDisk D.Disk setup turns disk result.disk result.end
+        (exchange R.Source W.Sink reader.old reader.new writer.old writer.new) }
     ensures unserved { IfErr result.end (λ _. (reader.new ≡ reader.old)
         × (writer.new ≡ writer.old)) }
-    ensures causes { EndsForCause turns result.end
-        (exchange R.Source W.Sink reader.old reader.new writer.old writer.new) }
-    ensures accounts { Accounts D.Disk disk result.disk
-        (SaysFailure result.end (D.failures disk) (D.failures result.disk)) }
 {
     let Setup {
         names,

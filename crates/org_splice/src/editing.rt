@@ -126,9 +126,9 @@ impl Editing {
         self.splice(edit.at, edit.removed, edit.bytes.as_slice())
     }
 
-    /// Makes edits that lie near one another, one after another: what stands behind them moves once.
-    /// None, with nothing changed, where they lie far apart. The part that was replaced holds all
-    /// that they touch.
+    /// Makes edits that lie near one another, one after another: what stands behind them moves
+    /// once. None, with nothing changed, where they lie far apart. The part that was replaced holds
+    /// all that they touch.
     ///
     /// # Errors
     ///

@@ -85,9 +85,9 @@ pub fn settled_is_on_disk<D: Disk>()
 
 /// A store writes no file but its own and the journal: the files that a command gives new texts,
 /// and so those that are dirty, are files of the store's names. Calls of a store that was
-/// just opened (`Store::open`), for which no file is dirty, leave every other file alone: each is as
-/// it was, and a crash meanwhile leaves of it what it might have left before, whatever lies in the
-/// folder and whether it is on the disk or not.
+/// just opened (`Store::open`), for which no file is dirty, leave every other file alone: each is
+/// as it was, and a crash meanwhile leaves of it what it might have left before, whatever lies in
+/// the folder and whether it is on the disk or not.
 pub fn only_its_own_files_are_written<D: Disk>()
     ensures written { (s : Session) (command : Command)
         → AreNames s.names (written (outcome s command)) }

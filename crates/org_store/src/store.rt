@@ -23,8 +23,8 @@ use std::marker::Model;
 
 /// Org files on a disk, and what was done to them since the store was opened.
 ///
-/// A clause sees its disk, its session (`Session` of org_commands) and which of its files wait for
-/// a commit. What is said of replies, files and crashes is said where the disk is honest after the
+/// A clause sees its disk, its session (`Session` of org_commands) and which of its files are
+/// dirty. What is said of replies, files and crashes is said where the disk is honest after the
 /// call; of crashes in `run` and `settle` also only where it was at rest, as an opening of a
 /// recoverable disk and each call without a failure leave it (`LeavesDisk` of org_commands). A
 /// store that is broken does nothing any more: open its files anew.

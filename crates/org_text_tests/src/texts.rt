@@ -298,8 +298,8 @@ const IN_PLACE: &[Step] = &[
     Step::Is(Fact::Absent("c.org")),
 ];
 
-// Texts are dirty in the order in which they are ready: the first is terminated as it is, and stands
-// before the second, which gets a newline.
+// Texts are dirty in the order in which they are ready: the first is terminated as it is, and
+// stands before the second, which gets a newline.
 const IN_ORDER: &[Step] = &[
     Step::Do(Action::Hold("b.org", b"* B\n")),
     Step::Do(Action::Hold("a.org", b"* A")),

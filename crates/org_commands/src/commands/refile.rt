@@ -1,17 +1,14 @@
 //! Subtrees moved to other headings, within a file or across two.
-ghost use Rattle.std.specs.Prelude.{◌≡◌, ◌∷◌, ℕ, List, OnOk, false, true};
-ghost use Rattle.org_outline.specs.States.{Keywords};
+ghost use Rattle.std.specs.Prelude.{◌≡◌, ◌∷◌, [], OnOk, false, true};
 ghost use Rattle.org_outline.specs.Tree.{tree};
 ghost use Rattle.org_move.specs.Answers.{Gives};
 ghost use Rattle.org_move.specs.Refile.{refile_across, refile_within};
-ghost use Rattle.org_commands.specs.Files.{AreReadyForCommand, AreReady, KeepsHeld};
+ghost use Rattle.org_commands.specs.Files.{AreReadyForCommand, MakesReady};
 ghost use Rattle.org_commands.specs.InOrder.{is_name};
-ghost use Rattle.org_commands.specs.Keeping.{Reads};
 ghost use Rattle.org_commands.specs.Outcome.{outcome};
 ghost use Rattle.org_commands.specs.Planning.{PlansAs};
-ghost use Rattle.org_commands.specs.Reading.{OnlyReads};
+ghost use Rattle.org_commands.specs.Reading.{ReadsFiles};
 ghost use Rattle.org_commands.specs.Refile.{MakesDocument, MakesDocuments};
-ghost use Rattle.org_commands.specs.Session.{BetweenSessions};
 
 use crate::command::{Command, Refile, RunFault};
 use crate::commands::edits::{plan_of_two, plan_of_two_edits};
@@ -86,12 +83,9 @@ pub(crate) fn both_ready<D: Disk>(
     requires file { is_name files.old.names file.now ≡ true }
     requires to_file { is_name files.old.names to_file.now ≡ true }
     requires unbroken { files.old.broken ≡ false }
-    ensures ready { OnOk result ((names : List (List ℕ)) → AreReady names files.old.held
-        → AreReady (to_file.now ∷ file.now ∷ names) files.new.held) }
-    ensures keeps { KeepsHeld files.old.held files.new.held }
-    ensures reads { (states : Keywords) → BetweenSessions D.Disk states files.old files.new
-        (λ old new. Reads old result new) }
-    ensures disk { OnlyReads D.Disk files.old files.new result }
+    ensures ready { OnOk result
+        (MakesReady (to_file.now ∷ file.now ∷ []) files.old.held files.new.held) }
+    ensures files { ReadsFiles D.Disk files.old files.new result }
 {
     files.ready(file)?;
     files.ready(to_file)

@@ -5,10 +5,9 @@
 ghost use Rattle.std.specs.Prelude.{◌≡◌, IfOk, OnOk, Some, true};
 ghost use Rattle.std.specs.Option.{ForSome, option_map};
 ghost use Rattle.org_commands.specs.Clocks.{RunsHeld, RunsIn, running_over};
-ghost use Rattle.org_commands.specs.Files.{AreReadyForCommand, KeepsHeld};
+ghost use Rattle.org_commands.specs.Files.{AreReadyForCommand};
 ghost use Rattle.org_commands.specs.InOrder.{is_name};
-ghost use Rattle.org_commands.specs.Keeping.{Reads};
-ghost use Rattle.org_commands.specs.Reading.{OnlyReads};
+ghost use Rattle.org_commands.specs.Reading.{ReadsFiles};
 ghost use Rattle.org_commands.specs.Session.{BetweenSessions};
 
 use crate::command::RunFault;
@@ -35,11 +34,8 @@ fn running_in_file<D: Disk>(
     requires name { is_name files.old.names file.now ≡ true }
     requires between { AreReadyForCommand files.old }
     ensures runs { IfOk result (λ found. RunsIn files.new.held.before file.now found) }
-    ensures reads { BetweenSessions D.Disk states.now files.old files.new
-        (λ old new. Reads old result new) }
+    ensures files { ReadsFiles D.Disk files.old files.new result }
     ensures unedited { OnOk result (files.new.held.now ≡ files.new.held.before) }
-    ensures keeps { KeepsHeld files.old.held files.new.held }
-    ensures disk { OnlyReads D.Disk files.old files.new result }
 {
     files.ready(file)?;
     let before = files.searched(file);
@@ -60,14 +56,11 @@ pub(crate) fn running_clock<D: Disk>(
     ensures clock { BetweenSessions D.Disk states.now files.old files.new
         (λ old new. IfOk result (λ found. option_map (λ clock. (clock.file, clock.running)) found
         ≡ running_over old.names old.files)) }
-    ensures reads { BetweenSessions D.Disk states.now files.old files.new
-        (λ old new. Reads old result new) }
     ensures found { IfOk result (λ found. ForSome found
         (λ clock. RunsHeld files.new.held clock.file clock.running
         × (is_name files.new.names clock.file ≡ true))) }
+    ensures files { ReadsFiles D.Disk files.old files.new result }
     ensures unedited { OnOk result (files.new.held.now ≡ files.new.held.before) }
-    ensures keeps { KeepsHeld files.old.held files.new.held }
-    ensures disk { OnlyReads D.Disk files.old files.new result }
 {
     for index in 0..files.count() {
         if files.is_clockless(index) {

@@ -15,8 +15,8 @@ const ABSENT: &[Step] = &[
     Step::IsAbsent("absent/a.org"),
 ];
 
-// That a file isn't there is believed at the next call on it, and then looked at again: what another
-// program made there meanwhile is seen. What is written later to another file is read back.
+// That a file isn't there is believed at the next call on it, and then looked at again: what
+// another program made there meanwhile is seen. What is written later to another file is read back.
 const ASKED_AGAIN: &[Step] = &[
     Step::Call("a.org", Call::Length, Ok(0), 0),
     Step::Other("asked/a.org", Entry::File(b"* A\n")),

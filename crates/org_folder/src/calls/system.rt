@@ -29,7 +29,7 @@ use std::{fs, io};
 pub struct SystemCalls<R: Files, S: Start> {
     rt: R,
     path: String,
-    // names without a file, as the folder was looked at before the first call; each is believed once
+    // names that had no file before the first call; each is believed once
     absent: AbsentNames,
     // the folder was synced, and this has made no file since
     is_synced: bool,

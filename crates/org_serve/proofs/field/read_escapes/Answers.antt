@@ -1,4 +1,4 @@
-use Rattle.std.proofs.Common.{rules, sym, ◌≡◌, ◌++◌, ◌∷◌, [], ◌+◌, drop, get_or, ◌∙◌, arith, add-one, drop-cons, ◌<◌, length}
+use Rattle.std.proofs.Common.{sym, ◌≡◌, ◌++◌, ◌∷◌, [], ◌+◌, drop, get_or, ◌∙◌, arith, add-one, drop-cons, ◌<◌, length}
 use Rattle.org_serve.specs.Grammar.{unescaped}
 use Rattle.org_serve.proofs.Escapes.{in_front-nothing, step-escaped, step-backslash, step-plain, escape-none, ended-plain, ended-escaped}
 use Rattle.org_serve.proofs.field.read_escapes.Goals as goal

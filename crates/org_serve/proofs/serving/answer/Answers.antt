@@ -1,4 +1,4 @@
-use Rattle.std.proofs.Common.{◌≡◌, ◌≤◌, ◌++◌, inr, [], List, ℕ, length, Result, Ok, Err, sym, subst}
+use Rattle.std.proofs.Common.{◌≤◌, ◌++◌, inr, List, ℕ, length, Result, Ok, Err, sym, subst}
 use Rattle.std.specs.Prelude.{IsTrue}
 use Rattle.org_commands.specs.declared.command.Command.{Command}
 use Rattle.org_serve.specs.declared.fault.LineFault.{LineFault}

@@ -3,11 +3,11 @@ use Rattle.org_serve.specs.Replies.{settled_text}
 use Rattle.org_serve.proofs.Joins.{Appends-append, some_first, some_then}
 use Rattle.org_serve.proofs.serving.finish.Goals as goal
 
-pub returns-in-Ok-clause-told : goal.returns-in-Ok-clause-told
-returns-in-Ok-clause-told g c = λ not.
-    let told = c.settle.ensures.told not in (
-      told.0 ∙ c.in-Ok.ensures.counts.same,
-      λ part stands. let rest = c.in-Ok.ensures.rest part stands in (rest.0, told.1, rest.1, told.2, Appends-append _ _ _ rest.0 told.1 rest.2.ok told.3),
+pub returns-in-Ok-clause-reported : goal.returns-in-Ok-clause-reported
+returns-in-Ok-clause-reported g c = λ not.
+    let reported = c.settle.ensures.reported not in (
+      reported.0 ∙ c.in-Ok.ensures.counts.same,
+      λ part stands. let rest = c.in-Ok.ensures.rest part stands in (rest.0, reported.1, rest.1, reported.2, Appends-append _ _ _ rest.0 reported.1 rest.2.ok reported.3),
     )
 
 pub returns-in-Ok-clause-write : goal.returns-in-Ok-clause-write
@@ -21,8 +21,8 @@ returns-in-Ok-clause-write g c = λ is.
           (rest.0 ++ tail, (rest.0, some.2, rest.1, refl), some_then _ _ _ rest.0 tail rest.2.ok some.3),
     )
 
-pub returns-in-Err-clause-told : goal.returns-in-Err-clause-told
-returns-in-Err-clause-told g c not = absurd (not refl)
+pub returns-in-Err-clause-reported : goal.returns-in-Err-clause-reported
+returns-in-Err-clause-reported g c not = absurd (not refl)
 
 pub returns-in-Err-clause-write : goal.returns-in-Err-clause-write
 returns-in-Err-clause-write g c = λ is.

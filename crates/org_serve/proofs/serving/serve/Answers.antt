@@ -17,7 +17,7 @@ pub returns-in-Ok-eq0-clause-causes : goal.returns-in-Ok-eq0-clause-causes
 returns-in-Ok-eq0-clause-causes g c =
     ended_otherwise (exchange g.R.Source g.W.Sink c.args.reader.now c.read.new.self c.args.writer.now c.finish.new.writer) c.finish.result c.finish.ensures.never
     (within_all c.args.turns c.loop.counter (g.R.Source.reads c.args.reader.now) (g.R.Source.reads c.read.new.self) (within_counted c.loop.counter (g.R.Source.reads c.args.reader.now) (g.R.Source.reads c.loop.reader) (g.R.Source.reads c.read.new.self) c.loop.invariant.6 c.in-Ok-eq0.ensures.counted) (omega arith))
-    (c.in-Ok-eq0.ensures.ok ∙ c.loop.invariant.4) c.loop.invariant.5 (λ is. (c.finish.ensures.write is).1) (λ not. (c.finish.ensures.told not).0)
+    (c.in-Ok-eq0.ensures.ok ∙ c.loop.invariant.4) c.loop.invariant.5 (λ is. (c.finish.ensures.write is).1) (λ not. (c.finish.ensures.reported not).0)
 
 pub returns-in-Ok-eq0-clause-calls : goal.returns-in-Ok-eq0-clause-calls
 returns-in-Ok-eq0-clause-calls g c =
@@ -26,7 +26,7 @@ returns-in-Ok-eq0-clause-calls g c =
     let read = rw zero at c.in-Ok-eq0.ensures.bytes in
     let s = Served-no_more c.loop.invariant.0 (g.R.Source.left c.read.new.self) read.0 in
     runs_finish d (exchange g.R.Source g.W.Sink c.args.reader.now c.read.new.self c.args.writer.now c.finish.new.writer) s c.finish.new.store c.finish.result
-    (λ not. (c.finish.ensures.told not).1 (cut s.input).rest s.stands) (λ is. (c.finish.ensures.write is).0) (λ is. (c.finish.ensures.write is).2 (cut s.input).rest s.stands)
+    (λ not. (c.finish.ensures.reported not).1 (cut s.input).rest s.stands) (λ is. (c.finish.ensures.write is).0) (λ is. (c.finish.ensures.write is).2 (cut s.input).rest s.stands)
 
 pub returns-in-Ok-eq0-clause-did : goal.returns-in-Ok-eq0-clause-did
 returns-in-Ok-eq0-clause-did g c = λ honest.
@@ -38,7 +38,7 @@ returns-in-Ok-eq0-clause-did g c = λ honest.
       serves_end (exchange g.R.Source g.W.Sink c.args.reader.now c.read.new.self c.args.writer.now c.finish.new.writer) (served_by (sound_stores d) model (λ store. store.session) (λ store. refl) (session_calls d) s) c.finish.result c.finish.new.store.session (c.in-Ok-eq0.ensures.bytes.1 zero room) c.finish.ensures.never
           (λ no_write. ends_by (sound_stores d) model (λ store. store.session) (λ store. refl) (session_calls d) (cut s.input).rest c.loop.store c.finish.result c.finish.new.store (output g.W.Sink c.loop.writer c.finish.new.writer)
           (sound_end d (cut s.input).rest c.loop.store c.finish.result c.finish.new.store (output g.W.Sink c.loop.writer c.finish.new.writer)
-          ((c.finish.ensures.told no_write).1 (cut s.input).rest s.stands) honest))
+          ((c.finish.ensures.reported no_write).1 (cut s.input).rest s.stands) honest))
           (λ e. elim ((c.finish.ensures.write e).0) [
             | inl same ↦ inl (rw same refl)
             | inr settled ↦ inr (settled_by (sound_stores d) model (λ store. store.session) (λ store. refl) (session_calls d) c.loop.store c.finish.new.store (sound_settled d c.loop.store c.finish.new.store settled honest))

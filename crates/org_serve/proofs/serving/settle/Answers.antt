@@ -6,8 +6,8 @@ use Rattle.org_serve.proofs.Crashes.{finishes_broken, finishes_settled, finishes
 use Rattle.org_serve.proofs.Joins.{Appends-none}
 use Rattle.org_serve.proofs.serving.settle.Goals as goal
 
-pub returns-in-Ok-clause-told : goal.returns-in-Ok-clause-told
-returns-in-Ok-clause-told g c = λ not.
+pub returns-in-Ok-clause-reported : goal.returns-in-Ok-clause-reported
+returns-in-Ok-clause-reported g c = λ not.
     let d = g.D.Disk in
     let e = c.settle-answer.ensures in
     let old = c.args.store.now in
@@ -62,8 +62,8 @@ returns-then-acknowledged-accepted-clause-untouched g c broke = refl
 pub returns-then-acknowledged-accepted-clause-accounts : goal.returns-then-acknowledged-accepted-clause-accounts
 returns-then-acknowledged-accepted-clause-accounts g c = accounts_still c.args.store.now.session
 
-pub returns-in-Err-clause-told : goal.returns-in-Err-clause-told
-returns-in-Err-clause-told g c not = absurd (not refl)
+pub returns-in-Err-clause-reported : goal.returns-in-Err-clause-reported
+returns-in-Err-clause-reported g c not = absurd (not refl)
 
 pub returns-in-Err-clause-never : goal.returns-in-Err-clause-never
 returns-in-Err-clause-never g c = write_unread
@@ -83,13 +83,13 @@ returns-in-Ok-clause-write g c is = absurd (c.end_of.ensures.never.1 is)
 pub returns-in-Ok-clause-untouched : goal.returns-in-Ok-clause-untouched
 returns-in-Ok-clause-untouched g c broke = c.settle-answer.ensures.idle.untouched (c.settle-answer.ensures.broken.before.1 broke)
 
-pub returns-then-is_broken-clause-told : goal.returns-then-is_broken-clause-told
-returns-then-is_broken-clause-told g c not =
+pub returns-then-is_broken-clause-reported : goal.returns-then-is_broken-clause-reported
+returns-then-is_broken-clause-reported g c not =
     let d = g.D.Disk in
     (refl, [], finishes_broken d c.args.store.now (sym c.is_broken.ensures ∙ c.if-is_broken.true), Appends-none (g.W.Sink.written c.args.writer.now))
 
-pub returns-then-acknowledged-accepted-clause-told : goal.returns-then-acknowledged-accepted-clause-told
-returns-then-acknowledged-accepted-clause-told g c not =
+pub returns-then-acknowledged-accepted-clause-reported : goal.returns-then-acknowledged-accepted-clause-reported
+returns-then-acknowledged-accepted-clause-reported g c not =
     let d = g.D.Disk in
     let store = c.args.store.now in
     let settled : store.session.accepted ≤ store.session.acknowledged = omega (arith, c.acknowledged.ensures, c.accepted.ensures, c.if-acknowledged-accepted.true) in

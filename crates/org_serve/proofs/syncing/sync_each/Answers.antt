@@ -52,17 +52,11 @@ returns-in_err-sync-clause-syncs g c ended =
           (sync_after name (d.files c.loop-name.disk) (d.files c.sync.new.self) c.sync.result (g.met.D.Disk.content_is_image c.loop-name.disk name back) (c.sync.ensures.effect ended) other bytes image);
       others = λ other none.
           (c.sync.ensures.effect ended).others other (λ same. none (subst (Contains c.args.names.now) (sym same) (c.loop-name.name-index, c.loop-name-test.true, sym c.name-item.is))) ∙ sofar.others back other none;
+      any_moment =
+          leaves_only (passes_then (sofar.time back) (c.sync.ensures.time ended)
+          (λ image left. all_images (sofar.images back) image (sync_left name (d.files c.loop-name.disk) image (g.met.D.Disk.content_is_image c.loop-name.disk name back) left)))
+          (λ image left. g.met.D.Disk.only_now c.args.disk.now image (sofar.accounts.was_honest back) left);
     }
-
-pub returns-in_err-sync-clause-any_moment : goal.returns-in_err-sync-clause-any_moment
-returns-in_err-sync-clause-any_moment g c ended =
-    let d = g.D.Disk in
-    let sofar = c.loop-name.invariant in
-    let back = c.sync.ensures.accounts.was_honest ended in
-    let name = c.name-item.result in
-    leaves_only (passes_then (sofar.time back) (c.sync.ensures.time ended)
-    (λ image left. all_images (sofar.images back) image (sync_left name (d.files c.loop-name.disk) image (g.met.D.Disk.content_is_image c.loop-name.disk name back) left)))
-    (λ image left. g.met.D.Disk.only_now c.args.disk.now image (sofar.accounts.was_honest back) left)
 
 pub returns-clause-syncs : goal.returns-clause-syncs
 returns-clause-syncs g c ended =
@@ -73,9 +67,5 @@ returns-clause-syncs g c ended =
       done = all_synced c.args.names.now c.loop-name.name-index (d.files c.args.disk.now) (d.files c.loop-name.disk) all (sofar.same ended) (sofar.stable ended);
       images = sofar.images ended;
       others = sofar.others ended;
+      any_moment = leaves_only (sofar.time ended) (λ image left. g.met.D.Disk.only_now c.args.disk.now image (sofar.accounts.was_honest ended) left);
     }
-
-pub returns-clause-any_moment : goal.returns-clause-any_moment
-returns-clause-any_moment g c ended =
-    let sofar = c.loop-name.invariant in
-    leaves_only (sofar.time ended) (λ image left. g.met.D.Disk.only_now c.args.disk.now image (sofar.accounts.was_honest ended) left)

@@ -15,6 +15,7 @@ returns-clause-syncs g c ended =
       done = syncs_of c.args.given.now c.deref.result.now (d.files c.args.disk.now) (d.files c.sync_each.new.disk) sorted synced.done;
       images = synced.images;
       others = others_of c.args.given.now c.deref.result.now (d.files c.args.disk.now) (d.files c.sync_each.new.disk) sorted synced.others;
+      any_moment = synced.any_moment;
     }
 
 pub returns-in_err-sync_each-clause-syncs : goal.returns-in_err-sync_each-clause-syncs
@@ -26,34 +27,23 @@ returns-in_err-sync_each-clause-syncs g c ended =
       done = passed_never _ _ c.from_residual-in_err-sync_each.result c.from_residual-in_err-sync_each.ensures.1;
       images = synced.images;
       others = others_of c.args.given.now c.deref.result.now (d.files c.args.disk.now) (d.files c.sync_each.new.disk) sorted synced.others;
+      any_moment = synced.any_moment;
     }
 
-pub returns-clause-any_moment : goal.returns-clause-any_moment
-returns-clause-any_moment g c = c.sync_each.ensures.any_moment
-
-pub returns-clause-few : goal.returns-clause-few
-returns-clause-few g c = (rw c.in-Some.is at c.in_ok-names.ensures.few).0
-
-pub returns-clause-refused : goal.returns-clause-refused
-returns-clause-refused g c = tt
-
-pub returns-clause-unused : goal.returns-clause-unused
-returns-clause-unused g c = ok_many
+pub returns-clause-answers : goal.returns-clause-answers
+returns-clause-answers g c = record { few = (rw c.in-Some.is at c.in_ok-names.ensures.few).0; refused = tt; unused = ok_many }
 
 pub returns-clause-accounts : goal.returns-clause-accounts
 returns-clause-accounts g c = accounts_answered (accounts_ok c.in_ok-sync_each.ensures.accounts)
 
-pub returns-in_err-sync_each-clause-any_moment : goal.returns-in_err-sync_each-clause-any_moment
-returns-in_err-sync_each-clause-any_moment g c = c.sync_each.ensures.any_moment
-
-pub returns-in_err-sync_each-clause-few : goal.returns-in_err-sync_each-clause-few
-returns-in_err-sync_each-clause-few g c = passed_never _ _ c.from_residual-in_err-sync_each.result c.from_residual-in_err-sync_each.ensures.1
-
-pub returns-in_err-sync_each-clause-refused : goal.returns-in_err-sync_each-clause-refused
-returns-in_err-sync_each-clause-refused g c = passed_told _ _ c.from_residual-in_err-sync_each.result c.from_residual-in_err-sync_each.ensures.1 (rw c.in-Some.is at c.in_ok-names.ensures.few).0
-
-pub returns-in_err-sync_each-clause-unused : goal.returns-in_err-sync_each-clause-unused
-returns-in_err-sync_each-clause-unused g c = device_many c.from_residual-in_err-sync_each.ensures.1
+pub returns-in_err-sync_each-clause-answers : goal.returns-in_err-sync_each-clause-answers
+returns-in_err-sync_each-clause-answers g c =
+    let reported = c.from_residual-in_err-sync_each.ensures.1 in
+    record {
+      few = passed_never _ _ c.from_residual-in_err-sync_each.result reported;
+      refused = passed_told _ _ c.from_residual-in_err-sync_each.result reported (rw c.in-Some.is at c.in_ok-names.ensures.few).0;
+      unused = device_many reported;
+    }
 
 pub returns-in_err-sync_each-clause-accounts : goal.returns-in_err-sync_each-clause-accounts
 returns-in_err-sync_each-clause-accounts g c = accounts_told c.from_residual-in_err-sync_each.ensures.1 c.in_err-sync_each.ensures.accounts

@@ -15,8 +15,8 @@ use Rattle.org_serve.proofs.Counting.{ended_unserved}
 use Rattle.org_serve.proofs.Opened.{of_disk, is_sound, serves_lasting, left_recovers, each_recovers}
 use Rattle.org_serve.proofs.whole.serve_disk.Goals as goal
 
-pub returns-in-Ok-clause-served : goal.returns-in-Ok-clause-served
-returns-in-Ok-clause-served g c =
+pub returns-in-Ok-clause-runs : goal.returns-in-Ok-clause-runs
+returns-in-Ok-clause-runs g c =
     let d = g.D.Disk in
     let laws = g.met.D.Disk in
     let store = c.in-Ok.store in
@@ -25,6 +25,9 @@ returns-in-Ok-clause-served g c =
     let opens = c.in-Ok.ensures.opened.session in
     let here = of_disk d setup c.args.disk store begun c.set_group.ensures opens in
     let reopens = c.in-Ok.ensures.opens.reopens in
+    let counts = here (λ k. Accounts d c.args.disk k ⊥) c.in-Ok.ensures.opens.accounts in
+    let sound = is_sound d setup c.args.disk store begun c.set_group.ensures opens in
+    let served =
     serves_lasting d laws.only_now laws.counts_now setup c.args.disk store begun c.set_group.ensures opens
     c.in-Ok.ensures.opened.set.few c.in-Ok.ensures.opened.set.sorted c.in-Ok.ensures.opened.set.sizes (here (λ k. d.honest k → d.honest c.args.disk) c.in-Ok.ensures.opens.accounts.was_honest)
     (here (λ k. d.honest k → IsReopened (d.files c.args.disk) (d.files k)) (λ honestly. (reopens honestly).done))
@@ -33,83 +36,59 @@ returns-in-Ok-clause-served g c =
     c.serve-end.new.store c.into_disk.result c.into_disk.ensures c.serve-end.ensures.calls
     (λ honest. (c.serve-end.ensures.did (rw (← c.into_disk.ensures) honest)).0)
     (λ fit each. here (λ k. d.honest k → LeavesOver d c.args.disk k (RecoversAsBefore (d.files c.args.disk))) (λ honestly. (reopens honestly).any_moment fit each))
-    (breaks_by_count begun c.serve-end.new.store (here (λ k. Accounts d c.args.disk k ⊥) c.in-Ok.ensures.opens.accounts) c.serve-end.ensures.accounts
-    (is_sound d setup c.args.disk store begun c.set_group.ensures opens) c.into_disk.ensures)
-
-pub returns-in-Ok-clause-disk : goal.returns-in-Ok-clause-disk
-returns-in-Ok-clause-disk g c honest =
-    let d = g.D.Disk in
-    let laws = g.met.D.Disk in
-    let store = c.in-Ok.store in
-    let begun = c.set_group.new.self in
-    let setup = c.args.setup in
-    let opens = c.in-Ok.ensures.opened.session in
-    let here = of_disk d setup c.args.disk store begun c.set_group.ensures opens in
-    let now : d.honest c.serve-end.new.store.disk = rw (← c.into_disk.ensures) honest in
-    let then = here (λ k. d.honest k → d.honest store.disk) (λ h. h) (c.serve-end.ensures.accounts.was_honest now) in
-    let reopened = (c.in-Ok.ensures.opens.reopens then).done in
-    let served = returns-in-Ok-clause-served g c in
+    (breaks_by_count begun c.serve-end.new.store counts c.serve-end.ensures.accounts
+    sound c.into_disk.ensures) in
     record {
-      unopened = λ fit each. tt;
-      unopened_bad = λ none. absurd (subst (λ (o : Option Image). IsSomeAnd o (SameFiles (contents (d.files store.disk)))) none reopened.recovered_then);
-      unopened_closed = λ closed. tt;
-      recoverable = λ fit each.
-          let rest = here (λ k. IsAtRest (d.files k)) (reopened.rest fit each) in
-          (rw c.into_disk.ensures ((c.serve-end.ensures.did now).1.recoverable rest), left_recovers laws.only_now laws.counts_now served.served honest (served.lasts fit each));
-      alone = given_back_alone served.served honest;
+      served = served;
+      leaves_disk = λ honest.
+          let now : d.honest c.serve-end.new.store.disk = rw (← c.into_disk.ensures) honest in
+          let then = here (λ k. d.honest k → d.honest store.disk) (λ h. h) (c.serve-end.ensures.accounts.was_honest now) in
+          let reopened = (reopens then).done in
+          record {
+            unopened = λ fit each. tt;
+            unopened_bad = λ none. absurd (subst (λ (o : Option Image). IsSomeAnd o (SameFiles (contents (d.files store.disk)))) none reopened.recovered_then);
+            unopened_closed = λ closed. tt;
+            recoverable = λ fit each.
+                let rest = here (λ k. IsAtRest (d.files k)) (reopened.rest fit each) in
+                (rw c.into_disk.ensures ((c.serve-end.ensures.did now).1.recoverable rest), left_recovers laws.only_now laws.counts_now served.served honest (served.lasts fit each));
+            alone = given_back_alone served.served honest;
+          };
+      refused = tt;
+      unserved = tt;
+      causes = c.serve-end.ensures.causes;
+      accounts = served_accounts c.serve-end.result begun c.serve-end.new.store counts c.serve-end.ensures.accounts sound c.serve-end.ensures.broken c.into_disk.ensures;
     }
-
-pub returns-in-Ok-clause-accounts : goal.returns-in-Ok-clause-accounts
-returns-in-Ok-clause-accounts g c =
-    let d = g.D.Disk in
-    let setup = c.args.setup in
-    let begun = c.set_group.new.self in
-    let opens = c.in-Ok.ensures.opened.session in
-    let here = of_disk d setup c.args.disk c.in-Ok.store begun c.set_group.ensures opens in
-    let opened = here (λ k. Accounts d c.args.disk k ⊥) c.in-Ok.ensures.opens.accounts in
-    let sound = is_sound d setup c.args.disk c.in-Ok.store begun c.set_group.ensures opens in
-    served_accounts c.serve-end.result begun c.serve-end.new.store opened c.serve-end.ensures.accounts sound c.serve-end.ensures.broken c.into_disk.ensures
-
-pub returns-in-Err-clause-disk : goal.returns-in-Err-clause-disk
-returns-in-Err-clause-disk g c honest =
-    let d = g.D.Disk in
-    let disk = c.args.disk in
-    let now = c.in-Err.field-0.disk in
-    let reopens = c.in-Err.ensures.opens.reopens honest in
-    record {
-      unopened = reopens.any_moment;
-      unopened_bad = λ none. (refl, reopens.bad none);
-      unopened_closed = reopens.idle;
-      recoverable = λ fit each.
-          let leaves = reopens.any_moment fit each in (
-            reopens.recoverable fit each,
-            each_recovers d disk now (RecoversAsBefore (d.files disk))
-                (λ image left. g.met.D.Disk.counts_now now (d.instant disk) image honest leaves.passes.later left) leaves (λ image left. (left.texts, left.recovers_now)),
-          );
-      alone = alone_fewer d (IsForeign c.args.setup.names.items (contents (d.files disk) journal_name)) (IsUnconcerned (contents (d.files disk) journal_name)) disk now reopens.alone
-          (λ name foreign. foreign.unconcerned);
-    }
-
-pub returns-in-Err-clause-causes : goal.returns-in-Err-clause-causes
-returns-in-Err-clause-causes g c = ended_unserved (pipes g.R.Source g.W.Sink c.args.reader.now c.args.writer.now)
-
-pub returns-in-Ok-clause-refused : goal.returns-in-Ok-clause-refused
-returns-in-Ok-clause-refused g c = tt
 
 pub returns-in-Ok-clause-unserved : goal.returns-in-Ok-clause-unserved
 returns-in-Ok-clause-unserved g c = tt
 
-pub returns-in-Ok-clause-causes : goal.returns-in-Ok-clause-causes
-returns-in-Ok-clause-causes g c = c.serve-end.ensures.causes
-
-pub returns-in-Err-clause-served : goal.returns-in-Err-clause-served
-returns-in-Err-clause-served g c = tt
-
-pub returns-in-Err-clause-refused : goal.returns-in-Err-clause-refused
-returns-in-Err-clause-refused g c = c.in-Err.ensures.opens.refused
+pub returns-in-Err-clause-runs : goal.returns-in-Err-clause-runs
+returns-in-Err-clause-runs g c =
+    let d = g.D.Disk in
+    let disk = c.args.disk in
+    let now = c.in-Err.field-0.disk in
+    record {
+      served = tt;
+      leaves_disk = λ honest.
+          let reopens = c.in-Err.ensures.opens.reopens honest in
+          record {
+            unopened = reopens.any_moment;
+            unopened_bad = λ none. (refl, reopens.bad none);
+            unopened_closed = reopens.idle;
+            recoverable = λ fit each.
+                let leaves = reopens.any_moment fit each in (
+                  reopens.recoverable fit each,
+                  each_recovers d disk now (RecoversAsBefore (d.files disk))
+                      (λ image left. g.met.D.Disk.counts_now now (d.instant disk) image honest leaves.passes.later left) leaves (λ image left. (left.texts, left.recovers_now)),
+                );
+            alone = alone_fewer d (IsForeign c.args.setup.names.items (contents (d.files disk) journal_name)) (IsUnconcerned (contents (d.files disk) journal_name)) disk now reopens.alone
+                (λ name foreign. foreign.unconcerned);
+          };
+      refused = c.in-Err.ensures.opens.refused;
+      unserved = refl;
+      causes = ended_unserved (pipes g.R.Source g.W.Sink c.args.reader.now c.args.writer.now);
+      accounts = c.in-Err.ensures.opens.accounts;
+    }
 
 pub returns-in-Err-clause-unserved : goal.returns-in-Err-clause-unserved
 returns-in-Err-clause-unserved g c = (refl, refl)
-
-pub returns-in-Err-clause-accounts : goal.returns-in-Err-clause-accounts
-returns-in-Err-clause-accounts g c = c.in-Err.ensures.opens.accounts

@@ -22,7 +22,7 @@ returns-in_err-check_name g c =
 
 pub returns-in_err-ready : goal.returns-in_err-ready
 returns-in_err-ready g c =
-    plans_no_read g.D.Disk c.args.states.now _ c.requires.between.unbroken c.ready.new.self c.from_residual-in_err-ready.result c.from_residual-in_err-ready.ensures.1 c.in_err-ready.was (c.ready.ensures.reads c.args.states.now) c.in_err-ready.ensures.disk
+    plans_no_read g.D.Disk c.args.states.now _ c.requires.between.unbroken c.ready.new.self c.from_residual-in_err-ready.result c.from_residual-in_err-ready.ensures.1 c.in_err-ready.ensures.files
 
 pub find_location-requires : goal.find_location-requires
 find_location-requires g c = one_ready c.args.command.now.file c.requires.between c.in_ok-ready.ensures.ready
@@ -35,15 +35,15 @@ returns-in_err-to g c = plans_refused g.D.Disk c.args.states.now _ c.from_residu
     let same = c.find_location.ensures.same in
     let s = session_in g.D.Disk c.args.states.now c.args.files.now tally in
     let was = subst (λ (f : OpenFiles g.row.D.Denot). g.D.Disk.honest f.disk) same honest in
-    let read = ap (λ (f : OpenFiles g.row.D.Denot). session_in g.D.Disk c.args.states.now f tally) same ∙ c.in_ok-ready.ensures.reads c.args.states.now tally was in
+    let read = ap (λ (f : OpenFiles g.row.D.Denot). session_in g.D.Disk c.args.states.now f tally) same ∙ c.in_ok-ready.ensures.files.reads c.args.states.now tally was in
     let ready = subst (λ (f : OpenFiles g.row.D.Denot). AreReady (k.file ∷ []) f.held) (sym same) (one_ready k.file c.requires.between c.in_ok-ready.ensures.ready) in
-    let names = ap (λ (f : OpenFiles g.row.D.Denot). f.names) same ∙ c.ready.ensures.disk.names in
+    let names = ap (λ (f : OpenFiles g.row.D.Denot). f.names) same ∙ c.ready.ensures.files.disk.names in
     let own = store_text g.D.Disk c.args.states.now files tally s (k.file ∷ []) k.file read ready (one_name k.file) (still_named k.file names c.in_ok-check_name.ensures) in
     let told = archive s k.file k.path k.moment (text_at s.names s.files k.file) in
     plans_not_fit s (session_in g.D.Disk c.args.states.now files tally) told files.held (fault_of_move c.in_err-to.field-0.0) c.from_residual-in_err-to.result c.from_residual-in_err-to.ensures.1 read
     (place_refused s k.file k.path k.moment own.0 (held_bytes files.held k.file) c.find_location.result c.in_err-to.field-0.0 c.requires.between.unbroken own.1 own.2 c.in_err-to.was c.find_location.ensures.place))
     (subst (λ (f : OpenFiles g.row.D.Denot). OnlyReads g.D.Disk c.args.files.now f c.from_residual-in_err-to.result) (sym c.find_location.ensures.same)
-    (only_reads_own c.from_residual-in_err-to.result (fault_of_move c.in_err-to.field-0.0) (handed_on c.from_residual-in_err-to.result _ c.from_residual-in_err-to.ensures.1) (move_own c.in_err-to.field-0.0) c.in_ok-ready.ensures.disk))
+    (only_reads_own c.from_residual-in_err-to.result (fault_of_move c.in_err-to.field-0.0) (handed_on c.from_residual-in_err-to.result _ c.from_residual-in_err-to.ensures.1) (move_own c.in_err-to.field-0.0) c.in_ok-ready.ensures.files.disk))
 
 pub plan_archive_to-requires-clause-ready : goal.plan_archive_to-requires-clause-ready
 plan_archive_to-requires-clause-ready g c =
@@ -60,13 +60,13 @@ returns g c = record {
       let s = session_in g.D.Disk c.args.states.now c.args.files.now tally in
       let to = c.in_ok-to.to in
       let was = subst (λ (f : OpenFiles g.row.D.Denot). g.D.Disk.honest f.disk) same (c.plan_archive_to.ensures.disk.accounts.was_honest honest) in
-      let read = ap (λ (f : OpenFiles g.row.D.Denot). session_in g.D.Disk c.args.states.now f tally) same ∙ c.in_ok-ready.ensures.reads c.args.states.now tally was in
+      let read = ap (λ (f : OpenFiles g.row.D.Denot). session_in g.D.Disk c.args.states.now f tally) same ∙ c.in_ok-ready.ensures.files.reads c.args.states.now tally was in
       let ready = subst (λ (f : OpenFiles g.row.D.Denot). AreReady (k.file ∷ []) f.held) (sym same) (one_ready k.file c.requires.between c.in_ok-ready.ensures.ready) in
-      let names = ap (λ (f : OpenFiles g.row.D.Denot). f.names) same ∙ c.ready.ensures.disk.names in
+      let names = ap (λ (f : OpenFiles g.row.D.Denot). f.names) same ∙ c.ready.ensures.files.disk.names in
       let own = store_text g.D.Disk c.args.states.now files tally s (k.file ∷ []) k.file read ready (one_name k.file) (still_named k.file names c.in_ok-check_name.ensures) in
       let there = subst (λ (t : Session). text_at t.names t.files k.file ≡ Some own.0) (sym read) own.1 in
       plans_then g.D.Disk c.args.states.now c.args.files.now files c.plan_archive_to.new.files tally (λ t. archive_to t k.file k.path k.moment own.0 to (text_at t.names t.files to.file)) read (place_found s k.file k.path k.moment own.0 (held_bytes files.held k.file) to own.1 own.2 c.in_ok-to.ensures.place) c.plan_archive_to.result
       (c.plan_archive_to.ensures.plans tally honest own.0 there);
   disk =
-      only_reads_then c.in_ok-ready.ensures.disk (subst (λ (f : OpenFiles g.row.D.Denot). OnlyReads g.D.Disk f c.plan_archive_to.new.files c.plan_archive_to.result) c.find_location.ensures.same c.plan_archive_to.ensures.disk);
+      only_reads_then c.in_ok-ready.ensures.files.disk (subst (λ (f : OpenFiles g.row.D.Denot). OnlyReads g.D.Disk f c.plan_archive_to.new.files c.plan_archive_to.result) c.find_location.ensures.same c.plan_archive_to.ensures.disk);
 }

@@ -62,12 +62,12 @@ returns-then-not-has-clause-plans g c tally honest text at =
 
 pub returns-in_err-ready-clause-plans : goal.returns-in_err-ready-clause-plans
 returns-in_err-ready-clause-plans g c tally honest text at =
-    plans_unread g.D.Disk c.args.states.now c.args.files.now c.ready.new.self tally _ c.from_residual-in_err-ready.result c.from_residual-in_err-ready.ensures.1 c.requires.unbroken c.in_err-ready.was (c.ready.ensures.reads c.args.states.now tally honest)
+    plans_unread g.D.Disk c.args.states.now c.args.files.now c.ready.new.self tally _ c.from_residual-in_err-ready.result c.from_residual-in_err-ready.ensures.1 c.requires.unbroken c.in_err-ready.was (c.ready.ensures.files.reads c.args.states.now tally honest)
 
 pub returns-in_err-ready-clause-disk : goal.returns-in_err-ready-clause-disk
 returns-in_err-ready-clause-disk g c =
     let given : c.from_residual-in_err-ready.result ≡ Err c.in_err-ready.field-0.0 = handed_on c.from_residual-in_err-ready.result _ c.from_residual-in_err-ready.ensures.1 in
-    only_reads_fault given c.in_err-ready.ensures.disk
+    only_reads_fault given c.in_err-ready.ensures.files.disk
 
 pub plan_across-requires-clause-source : goal.plan_across-requires-clause-source
 plan_across-requires-clause-source g c =
@@ -79,40 +79,40 @@ pub plan_across-requires-clause-target : goal.plan_across-requires-clause-target
 plan_across-requires-clause-target g c =
     let k = c.args.command.now in
     let both = both_ready g.D.Disk c.args.states.now c.args.files.now c.ready.new.self k.file c.args.to.now.file c.file-to_file.result.now c.file-to_file.ensures c.if-eq.ensures c.if-not-has.ensures c.requires.name c.requires.ready c.in_ok-ready.ensures.ready
-    c.ready.ensures.disk.names c.in_ok-ready.ensures.reads in
+    c.ready.ensures.files.disk.names c.in_ok-ready.ensures.files.reads in
     target_is_ready k.file k.path k.moment c.args.to.now both
 
 pub returns-in_err-plan_across-clause-plans : goal.returns-in_err-plan_across-clause-plans
 returns-in_err-plan_across-clause-plans g c tally honest text at =
     let k = c.args.command.now in
     let both = both_ready g.D.Disk c.args.states.now c.args.files.now c.ready.new.self k.file c.args.to.now.file c.file-to_file.result.now c.file-to_file.ensures c.if-eq.ensures c.if-not-has.ensures c.requires.name c.requires.ready c.in_ok-ready.ensures.ready
-    c.ready.ensures.disk.names c.in_ok-ready.ensures.reads in
+    c.ready.ensures.files.disk.names c.in_ok-ready.ensures.files.reads in
     across_fails k.file k.path k.moment c.args.to.now both tally honest text at c.plan_across.result c.from_residual-in_err-plan_across.result c.requires.unbroken c.in_err-plan_across.was c.plan_across.ensures c.from_residual-in_err-plan_across.ensures.1
 
 pub returns-in_err-plan_across-clause-disk : goal.returns-in_err-plan_across-clause-disk
 returns-in_err-plan_across-clause-disk g c =
     let why = c.in_err-plan_across.field-0.0 in
     let given : c.from_residual-in_err-plan_across.result ≡ Err (fault_of_move why) = handed_on c.from_residual-in_err-plan_across.result _ c.from_residual-in_err-plan_across.ensures.1 in
-    only_reads_fine (other_fault c.from_residual-in_err-plan_across.result (fault_of_move why) Broken given (move_apart why).0) (other_fault c.from_residual-in_err-plan_across.result (fault_of_move why) Device given (move_apart why).1) c.in_ok-ready.ensures.disk
+    only_reads_fine (other_fault c.from_residual-in_err-plan_across.result (fault_of_move why) Broken given (move_apart why).0) (other_fault c.from_residual-in_err-plan_across.result (fault_of_move why) Device given (move_apart why).1) c.in_ok-ready.ensures.files.disk
 
 pub returns-clause-plan : goal.returns-clause-plan
 returns-clause-plan g c =
     let k = c.args.command.now in
     let both = both_ready g.D.Disk c.args.states.now c.args.files.now c.ready.new.self k.file c.args.to.now.file c.file-to_file.result.now c.file-to_file.ensures c.if-eq.ensures c.if-not-has.ensures c.requires.name c.requires.ready c.in_ok-ready.ensures.ready
-    c.ready.ensures.disk.names c.in_ok-ready.ensures.reads in
+    c.ready.ensures.files.disk.names c.in_ok-ready.ensures.files.reads in
     across_fits k.file k.path k.moment c.args.to.now both c.in_ok-plan_across.field-0 c.in_ok-plan_across.ensures
 
 pub returns-clause-plans : goal.returns-clause-plans
 returns-clause-plans g c tally honest text at =
     let k = c.args.command.now in
     let both = both_ready g.D.Disk c.args.states.now c.args.files.now c.ready.new.self k.file c.args.to.now.file c.file-to_file.result.now c.file-to_file.ensures c.if-eq.ensures c.if-not-has.ensures c.requires.name c.requires.ready c.in_ok-ready.ensures.ready
-    c.ready.ensures.disk.names c.in_ok-ready.ensures.reads in
+    c.ready.ensures.files.disk.names c.in_ok-ready.ensures.files.reads in
     across_planned k.file k.path k.moment c.args.to.now both tally honest text at c.in_ok-plan_across.field-0 c.in_ok-plan_across.ensures
 
 pub returns-clause-disk : goal.returns-clause-disk
 returns-clause-disk g c =
     let plan = c.in_ok-plan_across.field-0 in
-    only_reads_fine (fine_is_no_fault (Ok plan) plan Broken refl) (fine_is_no_fault (Ok plan) plan Device refl) c.in_ok-ready.ensures.disk
+    only_reads_fine (fine_is_no_fault (Ok plan) plan Broken refl) (fine_is_no_fault (Ok plan) plan Device refl) c.in_ok-ready.ensures.files.disk
 
 pub returns-then-not-has-clause-disk : goal.returns-then-not-has-clause-disk
 returns-then-not-has-clause-disk g c = only_reads_none c.requires.unbroken (refused_apart NoSuchFile).0 (refused_apart NoSuchFile).1

@@ -6,7 +6,7 @@ use Rattle.org_commands.proofs.MadeReady.{one_is_ready, sees_one}
 use Rattle.org_commands.proofs.commands.clock.look_up_in.Goals as goal
 
 pub returns-in_err-ready-clause-finds : goal.returns-in_err-ready-clause-finds
-returns-in_err-ready-clause-finds g c tally honest = look_up_unread g.D.Disk c.args.states.now c.args.files.now c.ready.new.self tally _ c.from_residual.result c.from_residual.ensures.1 c.in_err-ready.was (c.ready.ensures.reads c.args.states.now tally honest)
+returns-in_err-ready-clause-finds g c tally honest = look_up_unread g.D.Disk c.args.states.now c.args.files.now c.ready.new.self tally _ c.from_residual.result c.from_residual.ensures.1 c.in_err-ready.was (c.ready.ensures.files.reads c.args.states.now tally honest)
 
 pub held-requires : goal.held-requires
 held-requires g c = one_is_ready c.args.command.now.file c.requires.between c.in_ok-ready.ensures.ready
@@ -14,7 +14,7 @@ held-requires g c = one_is_ready c.args.command.now.file c.requires.between c.in
 pub returns-in_err-look_up-clause-finds : goal.returns-in_err-look_up-clause-finds
 returns-in_err-look_up-clause-finds g c tally honest =
     let k = c.args.command.now in
-    let sees = sees_one k.file c.requires.between g.D.Disk c.args.states.now c.ready.new.self c.requires.file c.in_ok-ready.ensures.ready c.ready.ensures.disk.names c.in_ok-ready.ensures.reads c.held.ensures.text in
+    let sees = sees_one k.file c.requires.between g.D.Disk c.args.states.now c.ready.new.self c.requires.file c.in_ok-ready.ensures.ready c.ready.ensures.files.disk.names c.in_ok-ready.ensures.files.reads c.held.ensures.text in
     look_up_fails sees k.path tally honest c.from_residual-in_err-look_up.result c.from_residual-in_err-look_up.ensures.1 (sym c.look_up.ensures ∙ c.in_err-look_up.was)
 
 pub returns-clause-finds : goal.returns-clause-finds
@@ -22,6 +22,6 @@ returns-clause-finds g c tally honest =
     let k = c.args.command.now in
     let d = g.D.Disk in
     let undone = c.undo.ensures in
-    let sees = sees_one k.file c.requires.between d c.args.states.now c.ready.new.self c.requires.file c.in_ok-ready.ensures.ready c.ready.ensures.disk.names c.in_ok-ready.ensures.reads c.held.ensures.text in
+    let sees = sees_one k.file c.requires.between d c.args.states.now c.ready.new.self c.requires.file c.in_ok-ready.ensures.ready c.ready.ensures.files.disk.names c.in_ok-ready.ensures.files.reads c.held.ensures.text in
     let same = view_same d.files c.args.states.now c.ready.new.self c.undo.new.self tally undone.memory undone.before in
     look_up_finds sees k.path tally (subst d.honest undone.memory.disk honest) (sym c.look_up.ensures ∙ c.in_ok-look_up.was) (ap (λ (k : StoreView g.row.D.Denot). k.session) same)

@@ -38,12 +38,12 @@ returns-in_err-clock g c = record {
   plan = no_value _ c.from_residual-in_err-clock.result _ (handed_on c.from_residual-in_err-clock.result _ c.from_residual-in_err-clock.ensures.1);
   plans = λ tally honest.
       let new = session_in g.D.Disk c.args.states.now c.running_clock.new.files tally in
-      let same = (c.in_ok-look_up_in.ensures.finds tally (c.running_clock.ensures.disk.accounts.was_honest honest)).1 in
+      let same = (c.in_ok-look_up_in.ensures.finds tally (c.running_clock.ensures.files.disk.accounts.was_honest honest)).1 in
       stays_unread g.D.Disk c.args.states.now c.args.files.now c.running_clock.new.files tally _ c.from_residual-in_err-clock.result c.from_residual-in_err-clock.ensures.1 c.requires.between.unbroken c.in_err-clock.was
-      (subst (λ (s : Session). Reads s c.running_clock.result new) same (c.running_clock.ensures.reads tally honest));
+      (subst (λ (s : Session). Reads s c.running_clock.result new) same (c.running_clock.ensures.files.reads c.args.states.now tally honest));
   disk =
       let given : c.from_residual-in_err-clock.result ≡ Err c.in_err-clock.field-0.0 = handed_on c.from_residual-in_err-clock.result _ c.from_residual-in_err-clock.ensures.1 in
-      only_reads_then c.in_ok-look_up_in.ensures.disk (only_reads_fault given c.in_err-clock.ensures.disk);
+      only_reads_then c.in_ok-look_up_in.ensures.disk (only_reads_fault given c.in_err-clock.ensures.files.disk);
 }
 
 pub returns-in_default : goal.returns-in_default
@@ -52,11 +52,11 @@ returns-in_default g c = record {
   plans = λ tally honest.
       let k = c.args.command.now in
       let ran = c.start_in_one.ensures.disk.accounts.was_honest honest in
-      let same = (c.in_ok-look_up_in.ensures.finds tally (c.running_clock.ensures.disk.accounts.was_honest ran)).1 in
+      let same = (c.in_ok-look_up_in.ensures.finds tally (c.running_clock.ensures.files.disk.accounts.was_honest ran)).1 in
       let none = none_left c.in_ok-clock.field-0 c.in_default.not-Some in
-      stays_then g.D.Disk c.args.states.now c.args.files.now c.running_clock.new.files c.start_in_one.new.files tally (in_one c.args.states.now k.file k.path k.moment None) (c.in_ok-clock.ensures.reads tally ran ∙ same)
+      stays_then g.D.Disk c.args.states.now c.args.files.now c.running_clock.new.files c.start_in_one.new.files tally (in_one c.args.states.now k.file k.path k.moment None) (c.in_ok-clock.ensures.files.reads c.args.states.now tally ran ∙ same)
       (none_runs g.D.Disk c.args.states.now c.args.files.now k.file k.path k.moment (sym c.in_ok-check_name.ensures) tally same (c.in_ok-clock.ensures.clock tally ran) none) c.start_in_one.result (c.start_in_one.ensures.plans tally honest);
-  disk = only_reads_then c.in_ok-look_up_in.ensures.disk (only_reads_then c.in_ok-clock.ensures.disk c.start_in_one.ensures.disk);
+  disk = only_reads_then c.in_ok-look_up_in.ensures.disk (only_reads_then c.in_ok-clock.ensures.files.disk c.start_in_one.ensures.disk);
 }
 
 pub returns-then-eq : goal.returns-then-eq
@@ -67,10 +67,10 @@ returns-then-eq g c = record {
       let clock = c.in-Some.clock in
       let own : clock.file ≡ k.file = search rules in
       let ran = c.start_in_one-then-eq.ensures.disk.accounts.was_honest honest in
-      let same = (c.in_ok-look_up_in.ensures.finds tally (c.running_clock.ensures.disk.accounts.was_honest ran)).1 in
-      stays_then g.D.Disk c.args.states.now c.args.files.now c.running_clock.new.files c.start_in_one-then-eq.new.files tally (in_one c.args.states.now k.file k.path k.moment (Some clock.running)) (c.in_ok-clock.ensures.reads tally ran ∙ same)
+      let same = (c.in_ok-look_up_in.ensures.finds tally (c.running_clock.ensures.files.disk.accounts.was_honest ran)).1 in
+      stays_then g.D.Disk c.args.states.now c.args.files.now c.running_clock.new.files c.start_in_one-then-eq.new.files tally (in_one c.args.states.now k.file k.path k.moment (Some clock.running)) (c.in_ok-clock.ensures.files.reads c.args.states.now tally ran ∙ same)
       (own_runs g.D.Disk c.args.states.now c.args.files.now k.file k.path k.moment (sym c.in_ok-check_name.ensures) tally same (c.in_ok-clock.ensures.clock tally ran) clock c.in-Some.is own) c.start_in_one-then-eq.result (c.start_in_one-then-eq.ensures.plans tally honest);
-  disk = only_reads_then c.in_ok-look_up_in.ensures.disk (only_reads_then c.in_ok-clock.ensures.disk c.start_in_one-then-eq.ensures.disk);
+  disk = only_reads_then c.in_ok-look_up_in.ensures.disk (only_reads_then c.in_ok-clock.ensures.files.disk c.start_in_one-then-eq.ensures.disk);
 }
 
 pub returns : goal.returns
@@ -80,11 +80,11 @@ returns g c = record {
       let k = c.args.command.now in
       let clock = c.in-Some.clock in
       let ran = c.start_beside.ensures.disk.accounts.was_honest honest in
-      let same = (c.in_ok-look_up_in.ensures.finds tally (c.running_clock.ensures.disk.accounts.was_honest ran)).1 in
+      let same = (c.in_ok-look_up_in.ensures.finds tally (c.running_clock.ensures.files.disk.accounts.was_honest ran)).1 in
       let apart : clock.file ≢ k.file = search rules in
-      stays_then g.D.Disk c.args.states.now c.args.files.now c.running_clock.new.files c.start_beside.new.files tally (in_other c.args.states.now k.file k.path k.moment clock) (c.in_ok-clock.ensures.reads tally ran ∙ same)
+      stays_then g.D.Disk c.args.states.now c.args.files.now c.running_clock.new.files c.start_beside.new.files tally (in_other c.args.states.now k.file k.path k.moment clock) (c.in_ok-clock.ensures.files.reads c.args.states.now tally ran ∙ same)
       (other_runs g.D.Disk c.args.states.now c.args.files.now k.file k.path k.moment (sym c.in_ok-check_name.ensures) tally same (c.in_ok-clock.ensures.clock tally ran) clock c.in-Some.is apart) c.start_beside.result (c.start_beside.ensures.plans tally honest);
-  disk = only_reads_then c.in_ok-look_up_in.ensures.disk (only_reads_then c.in_ok-clock.ensures.disk c.start_beside.ensures.disk);
+  disk = only_reads_then c.in_ok-look_up_in.ensures.disk (only_reads_then c.in_ok-clock.ensures.files.disk c.start_beside.ensures.disk);
 }
 
 pub start_beside-requires-clause-runs : goal.start_beside-requires-clause-runs

@@ -12,7 +12,7 @@ use Rattle.org_commands.proofs.commands.clock.start_beside.Goals as goal
 
 pub returns-in_err-both_ready : goal.returns-in_err-both_ready
 returns-in_err-both_ready g c =
-    stays_no_read g.D.Disk c.args.states.now _ c.requires.between.unbroken c.both_ready.new.files c.from_residual.result c.from_residual.ensures.1 c.in_err-both_ready.was (c.both_ready.ensures.reads c.args.states.now) c.in_err-both_ready.ensures.disk
+    stays_no_read g.D.Disk c.args.states.now _ c.requires.between.unbroken c.both_ready.new.files c.from_residual.result c.from_residual.ensures.1 c.in_err-both_ready.ensures.files
 
 pub held-other-requires : goal.held-other-requires
 held-other-requires g c = first_is_ready c.args.clock.now.file c.args.command.now.file c.requires.between c.in_ok-both_ready.ensures.ready
@@ -24,7 +24,7 @@ pub plan_move-requires-clause-runs : goal.plan_move-requires-clause-runs
 plan_move-requires-clause-runs g c =
     let clock = c.args.clock.now in
     let file = c.args.command.now.file in
-    still_runs c.args.files.now.held c.both_ready.new.files.held (file ∷ clock.file ∷ []) clock.file clock.running c.held-other.result.now.text c.requires.runs c.both_ready.ensures.keeps
+    still_runs c.args.files.now.held c.both_ready.new.files.held (file ∷ clock.file ∷ []) clock.file clock.running c.held-other.result.now.text c.requires.runs c.both_ready.ensures.files.keeps
     (two_ready clock.file file c.requires.between c.in_ok-both_ready.ensures.ready) (second_name file clock.file) c.held-other.ensures.text
 
 pub returns-in_err-plan : goal.returns-in_err-plan
@@ -33,10 +33,10 @@ returns-in_err-plan g c = record {
   plans = λ tally honest.
       let clock = c.args.clock.now in
       let k = c.args.command.now in
-      let both = sees_two clock.file k.file c.requires.between g.D.Disk c.args.states.now c.both_ready.new.files c.requires.other c.requires.file c.in_ok-both_ready.ensures.ready c.both_ready.ensures.disk.names c.in_ok-both_ready.ensures.reads
+      let both = sees_two clock.file k.file c.requires.between g.D.Disk c.args.states.now c.both_ready.new.files c.requires.other c.requires.file c.in_ok-both_ready.ensures.ready c.both_ready.ensures.files.disk.names c.in_ok-both_ready.ensures.files.reads
       c.held-other.ensures.text c.held-held.ensures.text in
       move_fails both k.path k.moment clock.running tally honest c.plan_move.result c.from_residual-in_err-plan.result c.in_err-plan.was c.plan_move.ensures c.from_residual-in_err-plan.ensures.1;
-  disk = only_reads_own c.from_residual-in_err-plan.result (fault_of_state c.in_err-plan.field-0.0) (handed_on c.from_residual-in_err-plan.result _ c.from_residual-in_err-plan.ensures.1) (state_own c.in_err-plan.field-0.0) c.in_ok-both_ready.ensures.disk;
+  disk = only_reads_own c.from_residual-in_err-plan.result (fault_of_state c.in_err-plan.field-0.0) (handed_on c.from_residual-in_err-plan.result _ c.from_residual-in_err-plan.ensures.1) (state_own c.in_err-plan.field-0.0) c.in_ok-both_ready.ensures.files.disk;
 }
 
 pub returns : goal.returns
@@ -44,14 +44,14 @@ returns g c = record {
   plan =
       let clock = c.args.clock.now in
       let k = c.args.command.now in
-      let both = sees_two clock.file k.file c.requires.between g.D.Disk c.args.states.now c.both_ready.new.files c.requires.other c.requires.file c.in_ok-both_ready.ensures.ready c.both_ready.ensures.disk.names c.in_ok-both_ready.ensures.reads
+      let both = sees_two clock.file k.file c.requires.between g.D.Disk c.args.states.now c.both_ready.new.files c.requires.other c.requires.file c.in_ok-both_ready.ensures.ready c.both_ready.ensures.files.disk.names c.in_ok-both_ready.ensures.files.reads
       c.held-other.ensures.text c.held-held.ensures.text in
       move_fits both k.path k.moment clock.running c.in_ok-plan.plan c.requires.apart c.in_ok-plan.ensures;
   plans = λ tally honest.
       let clock = c.args.clock.now in
       let k = c.args.command.now in
-      let both = sees_two clock.file k.file c.requires.between g.D.Disk c.args.states.now c.both_ready.new.files c.requires.other c.requires.file c.in_ok-both_ready.ensures.ready c.both_ready.ensures.disk.names c.in_ok-both_ready.ensures.reads
+      let both = sees_two clock.file k.file c.requires.between g.D.Disk c.args.states.now c.both_ready.new.files c.requires.other c.requires.file c.in_ok-both_ready.ensures.ready c.both_ready.ensures.files.disk.names c.in_ok-both_ready.ensures.files.reads
       c.held-other.ensures.text c.held-held.ensures.text in
       move_planned both k.path k.moment clock.running tally honest c.in_ok-plan.plan c.requires.apart c.in_ok-plan.ensures;
-  disk = only_reads_ok c.in_ok-both_ready.ensures.disk;
+  disk = only_reads_ok c.in_ok-both_ready.ensures.files.disk;
 }

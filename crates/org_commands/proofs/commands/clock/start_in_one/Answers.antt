@@ -23,7 +23,7 @@ said states command running d = clocked_in command.moment running d (find_path s
 
 pub returns-in_err-ready : goal.returns-in_err-ready
 returns-in_err-ready g c =
-    stays_no_read g.D.Disk c.args.states.now _ c.requires.between.unbroken c.ready.new.self c.from_residual.result c.from_residual.ensures.1 c.in_err-ready.was (c.ready.ensures.reads c.args.states.now) c.in_err-ready.ensures.disk
+    stays_no_read g.D.Disk c.args.states.now _ c.requires.between.unbroken c.ready.new.self c.from_residual.result c.from_residual.ensures.1 c.in_err-ready.ensures.files
 
 pub held-held-requires : goal.held-held-requires
 held-held-requires g c = one_is_ready c.args.command.now.file c.requires.between c.in_ok-ready.ensures.ready
@@ -31,7 +31,7 @@ held-held-requires g c = one_is_ready c.args.command.now.file c.requires.between
 pub plan_in_text-requires-clause-runs : goal.plan_in_text-requires-clause-runs
 plan_in_text-requires-clause-runs g c running is =
     let file = c.args.command.now.file in
-    still_runs c.args.files.now.held c.ready.new.self.held (file ∷ []) file running c.held-held.result.now.text (c.requires.runs running is) c.ready.ensures.keeps (one_ready file c.requires.between c.in_ok-ready.ensures.ready) (one_name file)
+    still_runs c.args.files.now.held c.ready.new.self.held (file ∷ []) file running c.held-held.result.now.text (c.requires.runs running is) c.ready.ensures.files.keeps (one_ready file c.requires.between c.in_ok-ready.ensures.ready) (one_name file)
     c.held-held.ensures.text
 
 pub returns-in_err-plan_in_text : goal.returns-in_err-plan_in_text
@@ -39,22 +39,22 @@ returns-in_err-plan_in_text g c = record {
   plan = no_value _ c.from_residual-in_err-plan_in_text.result _ (handed_on c.from_residual-in_err-plan_in_text.result _ c.from_residual-in_err-plan_in_text.ensures.1);
   plans = λ tally honest.
       let a = c.args in
-      let sees = sees_one a.command.now.file c.requires.between g.D.Disk a.states.now c.ready.new.self c.requires.file c.in_ok-ready.ensures.ready c.ready.ensures.disk.names c.in_ok-ready.ensures.reads c.held-held.ensures.text in
+      let sees = sees_one a.command.now.file c.requires.between g.D.Disk a.states.now c.ready.new.self c.requires.file c.in_ok-ready.ensures.ready c.ready.ensures.files.disk.names c.in_ok-ready.ensures.files.reads c.held-held.ensures.text in
       state_fails sees tally honest (said a.states.now a.command.now a.running (tree c.held-held.result.now.text.bytes)) c.plan_in_text.result c.from_residual-in_err-plan_in_text.result
       (document_is sees tally honest (said a.states.now a.command.now a.running)) c.in_err-plan_in_text.was c.plan_in_text.ensures c.from_residual-in_err-plan_in_text.ensures.1;
-  disk = only_reads_own c.from_residual-in_err-plan_in_text.result (fault_of_state c.in_err-plan_in_text.field-0.0) (handed_on c.from_residual-in_err-plan_in_text.result _ c.from_residual-in_err-plan_in_text.ensures.1) (state_own c.in_err-plan_in_text.field-0.0) c.in_ok-ready.ensures.disk;
+  disk = only_reads_own c.from_residual-in_err-plan_in_text.result (fault_of_state c.in_err-plan_in_text.field-0.0) (handed_on c.from_residual-in_err-plan_in_text.result _ c.from_residual-in_err-plan_in_text.ensures.1) (state_own c.in_err-plan_in_text.field-0.0) c.in_ok-ready.ensures.files.disk;
 }
 
 pub returns : goal.returns
 returns g c = record {
   plan =
       let a = c.args in
-      let sees = sees_one a.command.now.file c.requires.between g.D.Disk a.states.now c.ready.new.self c.requires.file c.in_ok-ready.ensures.ready c.ready.ensures.disk.names c.in_ok-ready.ensures.reads c.held-held.ensures.text in
+      let sees = sees_one a.command.now.file c.requires.between g.D.Disk a.states.now c.ready.new.self c.requires.file c.in_ok-ready.ensures.ready c.ready.ensures.files.disk.names c.in_ok-ready.ensures.files.reads c.held-held.ensures.text in
       state_fits sees (said a.states.now a.command.now a.running (tree c.held-held.result.now.text.bytes)) c.in_ok-plan_in_text.field-0 c.in_ok-plan_in_text.ensures;
   plans = λ tally honest.
       let a = c.args in
-      let sees = sees_one a.command.now.file c.requires.between g.D.Disk a.states.now c.ready.new.self c.requires.file c.in_ok-ready.ensures.ready c.ready.ensures.disk.names c.in_ok-ready.ensures.reads c.held-held.ensures.text in
+      let sees = sees_one a.command.now.file c.requires.between g.D.Disk a.states.now c.ready.new.self c.requires.file c.in_ok-ready.ensures.ready c.ready.ensures.files.disk.names c.in_ok-ready.ensures.files.reads c.held-held.ensures.text in
       state_planned sees tally honest (said a.states.now a.command.now a.running (tree c.held-held.result.now.text.bytes)) c.in_ok-plan_in_text.field-0 (document_is sees tally honest (said a.states.now a.command.now a.running))
       c.in_ok-plan_in_text.ensures;
-  disk = only_reads_ok c.in_ok-ready.ensures.disk;
+  disk = only_reads_ok c.in_ok-ready.ensures.files.disk;
 }

@@ -37,7 +37,7 @@ returns-in_err-check_name-2 g c =
 
 pub returns-in_err-ready : goal.returns-in_err-ready
 returns-in_err-ready g c =
-    plans_no_read g.D.Disk c.args.states.now _ c.requires.between.unbroken c.ready.new.self c.from_residual-in_err-ready.result c.from_residual-in_err-ready.ensures.1 c.in_err-ready.was (c.ready.ensures.reads c.args.states.now) c.in_err-ready.ensures.disk
+    plans_no_read g.D.Disk c.args.states.now _ c.requires.between.unbroken c.ready.new.self c.from_residual-in_err-ready.result c.from_residual-in_err-ready.ensures.1 c.in_err-ready.ensures.files
 
 pub held-held-requires : goal.held-held-requires
 held-held-requires g c = one_is_ready c.args.command.now.file c.requires.between c.in_ok-ready.ensures.ready
@@ -53,10 +53,10 @@ returns-in_err-plan_within g c =
           let a = c.args in
           let k = a.command.now in
           let seen = c.held-held.result.now.text in
-          let sees = sees_one k.file c.requires.between g.D.Disk a.states.now c.ready.new.self c.in_ok-check_name.ensures c.in_ok-ready.ensures.ready c.ready.ensures.disk.names c.in_ok-ready.ensures.reads c.held-held.ensures.text in
+          let sees = sees_one k.file c.requires.between g.D.Disk a.states.now c.ready.new.self c.in_ok-check_name.ensures c.in_ok-ready.ensures.ready c.ready.ensures.files.disk.names c.in_ok-ready.ensures.files.reads c.held-held.ensures.text in
           move_fails c.ready.new.self.held (text_within k.file) (refile_within a.states.now k.path k.to_path k.place (tree seen.bytes)) (MakesDocument k.file seen.bytes) c.plan_within.result c.from_residual-in_err-plan_within.result sees.unbroken
           (sees.reads tally honest) (within_is sees k.path k.to_path k.place tally honest) c.in_err-plan_within.was c.plan_within.ensures c.from_residual-in_err-plan_within.ensures.1;
-      disk = only_reads_own c.from_residual-in_err-plan_within.result (fault_of_move c.in_err-plan_within.field-0.0) (handed_on c.from_residual-in_err-plan_within.result _ c.from_residual-in_err-plan_within.ensures.1) (move_own c.in_err-plan_within.field-0.0) c.in_ok-ready.ensures.disk;
+      disk = only_reads_own c.from_residual-in_err-plan_within.result (fault_of_move c.in_err-plan_within.field-0.0) (handed_on c.from_residual-in_err-plan_within.result _ c.from_residual-in_err-plan_within.ensures.1) (move_own c.in_err-plan_within.field-0.0) c.in_ok-ready.ensures.files.disk;
     })
 
 pub returns-then-eq : goal.returns-then-eq
@@ -67,24 +67,24 @@ returns-then-eq g c =
     (record {
       plan =
           let made = c.in_ok-plan_within.ensures in
-          let sees = sees_one c.args.command.now.file c.requires.between g.D.Disk c.args.states.now c.ready.new.self c.in_ok-check_name.ensures c.in_ok-ready.ensures.ready c.ready.ensures.disk.names c.in_ok-ready.ensures.reads c.held-held.ensures.text in
+          let sees = sees_one c.args.command.now.file c.requires.between g.D.Disk c.args.states.now c.ready.new.self c.in_ok-check_name.ensures c.in_ok-ready.ensures.ready c.ready.ensures.files.disk.names c.in_ok-ready.ensures.files.reads c.held-held.ensures.text in
           document_fits sees c.in_ok-plan_within.field-0 made.0 made.2;
       plans = λ tally honest.
           let a = c.args in
           let k = a.command.now in
           let plan = c.in_ok-plan_within.field-0 in
           let made = c.in_ok-plan_within.ensures in
-          let sees = sees_one k.file c.requires.between g.D.Disk a.states.now c.ready.new.self c.in_ok-check_name.ensures c.in_ok-ready.ensures.ready c.ready.ensures.disk.names c.in_ok-ready.ensures.reads c.held-held.ensures.text in
+          let sees = sees_one k.file c.requires.between g.D.Disk a.states.now c.ready.new.self c.in_ok-check_name.ensures c.in_ok-ready.ensures.ready c.ready.ensures.files.disk.names c.in_ok-ready.ensures.files.reads c.held-held.ensures.text in
           move_planned c.ready.new.self.held (text_within k.file) (refile_within a.states.now k.path k.to_path k.place (tree c.held-held.result.now.text.bytes)) made.0 plan (sees.reads tally honest) (within_is sees k.path k.to_path k.place tally honest) made.1
           (document_texts sees plan made.0 made.2);
-      disk = only_reads_ok c.in_ok-ready.ensures.disk;
+      disk = only_reads_ok c.in_ok-ready.ensures.files.disk;
     })
 
 -- ---- across two
 
 pub returns-in_err-both_ready : goal.returns-in_err-both_ready
 returns-in_err-both_ready g c =
-    plans_no_read g.D.Disk c.args.states.now _ c.requires.between.unbroken c.both_ready.new.files c.from_residual-in_err-both_ready.result c.from_residual-in_err-both_ready.ensures.1 c.in_err-both_ready.was (c.both_ready.ensures.reads c.args.states.now) c.in_err-both_ready.ensures.disk
+    plans_no_read g.D.Disk c.args.states.now _ c.requires.between.unbroken c.both_ready.new.files c.from_residual-in_err-both_ready.result c.from_residual-in_err-both_ready.ensures.1 c.in_err-both_ready.ensures.files
 
 pub held-source-requires : goal.held-source-requires
 held-source-requires g c = first_is_ready c.args.command.now.file c.args.command.now.to_file c.requires.between c.in_ok-both_ready.ensures.ready
@@ -102,12 +102,12 @@ returns-in_err-plan_across g c =
           let k = a.command.now in
           let seen = c.held-source.result.now.text in
           let found = c.held-target.result.now.text in
-          let both = sees_two k.file k.to_file c.requires.between g.D.Disk a.states.now c.both_ready.new.files c.in_ok-check_name.ensures c.in_ok-check_name-2.ensures c.in_ok-both_ready.ensures.ready c.both_ready.ensures.disk.names c.in_ok-both_ready.ensures.reads
+          let both = sees_two k.file k.to_file c.requires.between g.D.Disk a.states.now c.both_ready.new.files c.in_ok-check_name.ensures c.in_ok-check_name-2.ensures c.in_ok-both_ready.ensures.ready c.both_ready.ensures.files.disk.names c.in_ok-both_ready.ensures.files.reads
           c.held-source.ensures.text c.held-target.ensures.text in
           move_fails c.both_ready.new.files.held (texts_across k.file k.to_file) (refile_across a.states.now k.path (tree seen.bytes) a.states.now k.to_path (tree found.bytes) k.place) (MakesDocuments k.file k.to_file seen.bytes found.bytes)
           c.plan_across.result c.from_residual-in_err-plan_across.result both.0.unbroken (both.0.reads tally honest) (across_is both k.path k.to_path k.place apart tally honest) c.in_err-plan_across.was c.plan_across.ensures
           c.from_residual-in_err-plan_across.ensures.1;
-      disk = only_reads_own c.from_residual-in_err-plan_across.result (fault_of_move c.in_err-plan_across.field-0.0) (handed_on c.from_residual-in_err-plan_across.result _ c.from_residual-in_err-plan_across.ensures.1) (move_own c.in_err-plan_across.field-0.0) c.in_ok-both_ready.ensures.disk;
+      disk = only_reads_own c.from_residual-in_err-plan_across.result (fault_of_move c.in_err-plan_across.field-0.0) (handed_on c.from_residual-in_err-plan_across.result _ c.from_residual-in_err-plan_across.ensures.1) (move_own c.in_err-plan_across.field-0.0) c.in_ok-both_ready.ensures.files.disk;
     }
 
 pub returns : goal.returns
@@ -117,17 +117,17 @@ returns g c =
       plan =
           let a = c.args in
           let made = c.in_ok-plan_across.ensures in
-          let both = sees_two a.command.now.file a.command.now.to_file c.requires.between g.D.Disk a.states.now c.both_ready.new.files c.in_ok-check_name.ensures c.in_ok-check_name-2.ensures c.in_ok-both_ready.ensures.ready c.both_ready.ensures.disk.names
-          c.in_ok-both_ready.ensures.reads c.held-source.ensures.text c.held-target.ensures.text in
+          let both = sees_two a.command.now.file a.command.now.to_file c.requires.between g.D.Disk a.states.now c.both_ready.new.files c.in_ok-check_name.ensures c.in_ok-check_name-2.ensures c.in_ok-both_ready.ensures.ready c.both_ready.ensures.files.disk.names
+          c.in_ok-both_ready.ensures.files.reads c.held-source.ensures.text c.held-target.ensures.text in
           documents_fit both apart c.in_ok-plan_across.field-0 made.0 made.2;
       plans = λ tally honest.
           let a = c.args in
           let k = a.command.now in
           let plan = c.in_ok-plan_across.field-0 in
           let made = c.in_ok-plan_across.ensures in
-          let both = sees_two k.file k.to_file c.requires.between g.D.Disk a.states.now c.both_ready.new.files c.in_ok-check_name.ensures c.in_ok-check_name-2.ensures c.in_ok-both_ready.ensures.ready c.both_ready.ensures.disk.names c.in_ok-both_ready.ensures.reads
+          let both = sees_two k.file k.to_file c.requires.between g.D.Disk a.states.now c.both_ready.new.files c.in_ok-check_name.ensures c.in_ok-check_name-2.ensures c.in_ok-both_ready.ensures.ready c.both_ready.ensures.files.disk.names c.in_ok-both_ready.ensures.files.reads
           c.held-source.ensures.text c.held-target.ensures.text in
           move_planned c.both_ready.new.files.held (texts_across k.file k.to_file) (refile_across a.states.now k.path (tree c.held-source.result.now.text.bytes) a.states.now k.to_path (tree c.held-target.result.now.text.bytes) k.place) made.0 plan
           (both.0.reads tally honest) (across_is both k.path k.to_path k.place apart tally honest) made.1 (documents_texts both apart plan made.0 made.2);
-      disk = only_reads_ok c.in_ok-both_ready.ensures.disk;
+      disk = only_reads_ok c.in_ok-both_ready.ensures.files.disk;
     }

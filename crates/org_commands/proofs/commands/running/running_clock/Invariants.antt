@@ -1,10 +1,7 @@
 use Rattle.std.proofs.Common.{◌≡◌, false, Ok}
 use Rattle.org_journal.specs.Recovered.{contents}
 use Rattle.org_texts.specs.Texts.{held_over}
-use Rattle.org_commands.specs.declared.tally.Tally.{Tally}
-use Rattle.org_commands.specs.Files.{KeepsHeld}
-use Rattle.org_commands.specs.Reading.{OnlyReads}
-use Rattle.org_commands.specs.Session.{session_over}
+use Rattle.org_commands.specs.Reading.{ReadsFiles}
 use Rattle.org_commands.proofs.Running.{first_from}
 use Rattle.org_commands.proofs.commands.running.running_clock.Given as goal
 
@@ -15,8 +12,6 @@ invariant-loop-index g l =
     record {
       unbroken : l.files.broken ≡ false;
       unedited : l.files.held.now ≡ l.files.held.before;
-      keeps : KeepsHeld l.fn.files.held l.files.held;
-      reads : OnlyReads {A = Unit {0}} disk l.fn.files l.files (Ok tt);
-      same : (tally : Tally) → disk.honest l.files.disk → session_over (λ d. contents (disk.files d)) l.fn.states l.files tally ≡ session_over (λ d. contents (disk.files d)) l.fn.states l.fn.files tally;
+      files : ReadsFiles {A = Unit {0}} disk l.fn.files l.files (Ok tt);
       passed : disk.honest l.files.disk → let files = held_over l.fn.files.held.before (contents (disk.files l.fn.files.disk)) in first_from files l.fn.files.names l.index ≡ first_from files l.fn.files.names 0;
     }

@@ -19,7 +19,7 @@ returns-in_err-check_name g c =
 
 pub returns-in_err-ready : goal.returns-in_err-ready
 returns-in_err-ready g c =
-    stays_no_read g.D.Disk c.args.states.now _ c.requires.between.unbroken c.ready.new.self c.from_residual-in_err-ready.result c.from_residual-in_err-ready.ensures.1 c.in_err-ready.was (c.ready.ensures.reads c.args.states.now) c.in_err-ready.ensures.disk
+    stays_no_read g.D.Disk c.args.states.now _ c.requires.between.unbroken c.ready.new.self c.from_residual-in_err-ready.result c.from_residual-in_err-ready.ensures.1 c.in_err-ready.ensures.files
 
 pub held-held-requires : goal.held-held-requires
 held-held-requires g c = one_is_ready c.args.command.now.file c.requires.between c.in_ok-ready.ensures.ready
@@ -30,10 +30,10 @@ returns-in_err-plan_state g c = record {
   plans = λ tally honest.
       let a = c.args in
       let k = a.command.now in
-      let sees = sees_one k.file c.requires.between g.D.Disk a.states.now c.ready.new.self c.in_ok-check_name.ensures c.in_ok-ready.ensures.ready c.ready.ensures.disk.names c.in_ok-ready.ensures.reads c.held-held.ensures.text in
+      let sees = sees_one k.file c.requires.between g.D.Disk a.states.now c.ready.new.self c.in_ok-check_name.ensures c.in_ok-ready.ensures.ready c.ready.ensures.files.disk.names c.in_ok-ready.ensures.files.reads c.held-held.ensures.text in
       state_fails sees tally honest (in_state a.states.now k.path k.state k.moment (tree c.held-held.result.now.text.bytes)) c.plan_state.result c.from_residual-in_err-plan_state.result (todo_is sees tally honest k.path k.state k.moment)
       c.in_err-plan_state.was c.plan_state.ensures c.from_residual-in_err-plan_state.ensures.1;
-  disk = only_reads_own c.from_residual-in_err-plan_state.result (fault_of_state c.in_err-plan_state.field-0.0) (handed_on c.from_residual-in_err-plan_state.result _ c.from_residual-in_err-plan_state.ensures.1) (state_own c.in_err-plan_state.field-0.0) c.in_ok-ready.ensures.disk;
+  disk = only_reads_own c.from_residual-in_err-plan_state.result (fault_of_state c.in_err-plan_state.field-0.0) (handed_on c.from_residual-in_err-plan_state.result _ c.from_residual-in_err-plan_state.ensures.1) (state_own c.in_err-plan_state.field-0.0) c.in_ok-ready.ensures.files.disk;
 }
 
 pub returns : goal.returns
@@ -41,12 +41,12 @@ returns g c = record {
   plan =
       let a = c.args in
       let k = a.command.now in
-      let sees = sees_one k.file c.requires.between g.D.Disk a.states.now c.ready.new.self c.in_ok-check_name.ensures c.in_ok-ready.ensures.ready c.ready.ensures.disk.names c.in_ok-ready.ensures.reads c.held-held.ensures.text in
+      let sees = sees_one k.file c.requires.between g.D.Disk a.states.now c.ready.new.self c.in_ok-check_name.ensures c.in_ok-ready.ensures.ready c.ready.ensures.files.disk.names c.in_ok-ready.ensures.files.reads c.held-held.ensures.text in
       state_fits sees (in_state a.states.now k.path k.state k.moment (tree c.held-held.result.now.text.bytes)) c.in_ok-plan_state.field-0 c.in_ok-plan_state.ensures;
   plans = λ tally honest.
       let a = c.args in
       let k = a.command.now in
-      let sees = sees_one k.file c.requires.between g.D.Disk a.states.now c.ready.new.self c.in_ok-check_name.ensures c.in_ok-ready.ensures.ready c.ready.ensures.disk.names c.in_ok-ready.ensures.reads c.held-held.ensures.text in
+      let sees = sees_one k.file c.requires.between g.D.Disk a.states.now c.ready.new.self c.in_ok-check_name.ensures c.in_ok-ready.ensures.ready c.ready.ensures.files.disk.names c.in_ok-ready.ensures.files.reads c.held-held.ensures.text in
       state_planned sees tally honest (in_state a.states.now k.path k.state k.moment (tree c.held-held.result.now.text.bytes)) c.in_ok-plan_state.field-0 (todo_is sees tally honest k.path k.state k.moment) c.in_ok-plan_state.ensures;
-  disk = only_reads_ok c.in_ok-ready.ensures.disk;
+  disk = only_reads_ok c.in_ok-ready.ensures.files.disk;
 }

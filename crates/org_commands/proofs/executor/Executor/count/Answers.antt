@@ -42,7 +42,7 @@ returns-in_err-keep_or_settle-clause-executes g c names dirties =
     subst (λ (r : Result Reply RunFault). ExecutesTo d old (counted old.session names texts) r new) (sym given)
     (acts_fault d old (λ honest image left. g.met.D.Disk.only_now old.disk image honest left) refl new (counted old.session names texts)
     names files.held.now.dirty texts c.keep_or_settle.result dirties (ap (λ t. if t then Refuses TooLarge else Accepts names texts) countable) c.requires.unbroken
-    (λ honest. (kept.did honest).0) (λ honest. (kept.did honest).1) kept.counts kept.breaks fault c.in_err-keep_or_settle.was)
+    kept.keeps.did kept.keeps.disk kept.keeps.counts kept.keeps.breaks fault c.in_err-keep_or_settle.was)
 
 pub returns-clause-executes : goal.returns-clause-executes
 returns-clause-executes g c names dirties =
@@ -55,7 +55,7 @@ returns-clause-executes g c names dirties =
     let countable : (c.args.self.now.tally.accepted == 2 ^ 64 - 1) ≡ false = search rules in
     acts_done d old (λ honest image left. g.met.D.Disk.only_now old.disk image honest left) refl new (counted old.session names texts)
     names files.held.now.dirty texts c.keep_or_settle.result dirties (ap (λ t. if t then Refuses TooLarge else Accepts names texts) countable) c.requires.unbroken
-    (λ honest. (kept.did honest).0) (λ honest. (kept.did honest).1) kept.counts kept.breaks c.keep_or_settle.new.self.tally.accepted c.in_ok-keep_or_settle.was refl
+    kept.keeps.did kept.keeps.disk kept.keeps.counts kept.keeps.breaks c.keep_or_settle.new.self.tally.accepted c.in_ok-keep_or_settle.was refl
 
 pub returns-in_err-keep_or_settle-clause-dirty_files : goal.returns-in_err-keep_or_settle-clause-dirty_files
 returns-in_err-keep_or_settle-clause-dirty_files g c =

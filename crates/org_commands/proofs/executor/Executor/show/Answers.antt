@@ -35,9 +35,9 @@ returns-in_err-load g c =
     let load = c.load.ensures in
     let given : c.from_residual-in_err-load.result ≡ Err c.in_err-load.field-0.0 = handed_on c.from_residual-in_err-load.result _ c.from_residual-in_err-load.ensures.1 in
     let executes = acts_read d old (λ honest image left. g.met.D.Disk.only_now old.disk image honest left) refl new
-    (show (text_at c.args.self.now.files.names old.session.files c.args.file.now)) c.load.result c.in_err-load.field-0.0 c.from_residual-in_err-load.result c.in_err-load.was given c.requires.between.unbroken load.disk.accounts.was_honest
-    (load.reads c.args.self.now.states c.args.self.now.tally) load.disk.looks refl (record { accepted = refl; acknowledged = refl; group = refl }) load.disk.works load.disk.breaks in
-    question_failed d c.args.self.now _ (command.Show c.args.file.now) c.from_residual-in_err-load.result c.in_err-load.field-0.0 given executes refl (load.unedited c.requires.between.unedited) (only_reads_fault given c.in_err-load.ensures.disk)
+    (show (text_at c.args.self.now.files.names old.session.files c.args.file.now)) c.load.result c.in_err-load.field-0.0 c.from_residual-in_err-load.result c.in_err-load.was given c.requires.between.unbroken load.files.disk.accounts.was_honest
+    (load.files.reads c.args.self.now.states c.args.self.now.tally) load.files.disk.looks refl (record { accepted = refl; acknowledged = refl; group = refl }) load.files.disk.works load.files.disk.breaks in
+    question_failed d c.args.self.now _ (command.Show c.args.file.now) c.from_residual-in_err-load.result c.in_err-load.field-0.0 given executes refl (load.unedited c.requires.between.unedited) (only_reads_fault given c.in_err-load.ensures.files.disk)
 
 pub returns-in_err-to_vec-in-Some : goal.returns-in_err-to_vec-in-Some
 returns-in_err-to_vec-in-Some g c =
@@ -49,11 +49,11 @@ returns-in_err-to_vec-in-Some g c =
     let given : c.from_residual-in_err-to_vec-in-Some.result ≡ Err OutOfMemory = handed_on c.from_residual-in_err-to_vec-in-Some.result _ c.from_residual-in_err-to_vec-in-Some.ensures.1 in
     let whole : c.load.new.self.broken ≡ false = search rules in
     let executes = subst (λ (a : Result Reply RunFault). ExecutesTo d old told a new) (sym given)
-    (executes_uncounted d old (λ honest image left. g.met.D.Disk.only_now old.disk image honest left) refl new told (Err OutOfMemory) tt load.disk.accounts.was_honest
-    (λ honest. (c.requires.between.unbroken, c.in_ok-load.ensures.reads c.args.self.now.states c.args.self.now.tally honest)) load.disk.looks refl (record { accepted = refl; acknowledged = refl; group = refl })
+    (executes_uncounted d old (λ honest image left. g.met.D.Disk.only_now old.disk image honest left) refl new told (Err OutOfMemory) tt load.files.disk.accounts.was_honest
+    (λ honest. (c.requires.between.unbroken, c.in_ok-load.ensures.files.reads c.args.self.now.states c.args.self.now.tally honest)) load.files.disk.looks refl (record { accepted = refl; acknowledged = refl; group = refl })
     (λ broken. absurd (cc)) (λ fell. absurd (cc), λ broken. absurd (false≢true (sym whole ∙ broken)))) in
     question_failed d c.args.self.now _ (command.Show c.args.file.now) c.from_residual-in_err-to_vec-in-Some.result OutOfMemory given executes refl (load.unedited c.requires.between.unedited)
-    (only_reads_own c.from_residual-in_err-to_vec-in-Some.result OutOfMemory given (λ no. cc, λ no. cc) c.in_ok-load.ensures.disk)
+    (only_reads_own c.from_residual-in_err-to_vec-in-Some.result OutOfMemory given (λ no. cc, λ no. cc) c.in_ok-load.ensures.files.disk)
 
 pub returns : goal.returns
 returns g c =
@@ -66,15 +66,15 @@ returns g c =
     let whole : c.load.new.self.broken ≡ false = search rules in
     let held = c.in-Some.held.now in
     let there : is_name c.args.self.now.files.names file ≡ true = c.in_ok-check_name.ensures in
-    let named : is_name c.load.new.self.names file ≡ true = ap (λ (ns : List (List ℕ)). is_name ns file) load.disk.names ∙ there in
+    let named : is_name c.load.new.self.names file ≡ true = ap (λ (ns : List (List ℕ)). is_name ns file) load.files.disk.names ∙ there in
     let now : text_of c.load.new.self.held.now file ≡ Some held.text = search rules in
     let before : text_of c.load.new.self.held.before file ≡ Some held.text = ap (λ (s : TextSet). text_of s file) (sym (load.unedited c.requires.between.unedited)) ∙ now in
     let bytes : c.new.result ≡ held.text.bytes = search rules in
-    let executes = executes_uncounted d old (λ honest image left. g.met.D.Disk.only_now old.disk image honest left) refl new told (Ok (Text c.new.result)) tt load.disk.accounts.was_honest
+    let executes = executes_uncounted d old (λ honest image left. g.met.D.Disk.only_now old.disk image honest left) refl new told (Ok (Text c.new.result)) tt load.files.disk.accounts.was_honest
     (λ honest.
-    let read : new.session ≡ old.session = c.in_ok-load.ensures.reads c.args.self.now.states c.args.self.now.tally honest in
+    let read : new.session ≡ old.session = c.in_ok-load.ensures.files.reads c.args.self.now.states c.args.self.now.tally honest in
     let seen : text_at new.session.names new.session.files file ≡ Some held.text.bytes = text_held c.load.new.self.names c.load.new.self.held (contents (d.files c.load.new.self.disk)) file held.text named before in
     (c.requires.between.unbroken, ap show (subst (λ (s : Session). text_at s.names s.files file ≡ Some held.text.bytes) read seen ∙ ap (λ (b : List ℕ). Some b) (sym bytes)), read))
-    load.disk.looks refl (record { accepted = refl; acknowledged = refl; group = refl })
+    load.files.disk.looks refl (record { accepted = refl; acknowledged = refl; group = refl })
     (λ broken. absurd (cc)) (λ fell. absurd (cc), λ broken. absurd (false≢true (sym whole ∙ broken))) in
-    question_answered d c.args.self.now _ (command.Show file) (Ok (Text c.new.result)) tt executes refl (load.unedited c.requires.between.unedited) (only_reads_ok c.in_ok-load.ensures.disk)
+    question_answered d c.args.self.now _ (command.Show file) (Ok (Text c.new.result)) tt executes refl (load.unedited c.requires.between.unedited) (only_reads_ok c.in_ok-load.ensures.files.disk)

@@ -1,4 +1,4 @@
-use Rattle.std.proofs.Common.{◌≡◌, ◌⊎◌, ⊎_elim, ◌∙◌, false, Err, refl, sym, ap, subst}
+use Rattle.std.proofs.Common.{◌≡◌, ◌⊎◌, ⊎_elim, ◌∙◌, false, Err, refl, sym, ap, subst, rules}
 use Rattle.org_journal.specs.Recovered.{contents}
 use Rattle.org_texts.specs.Texts.{TextSet, held_over}
 use Rattle.org_commands.specs.Files.{AreSmallToWrite, CommitsTexts}
@@ -43,10 +43,13 @@ returns-in_err-commit-clause-commits g c =
     let fault = c.in_err-commit.field-0.0 in
     let unbroken : inside.set.broken ≡ false = rw (← c.self.view_is) at c.requires.unbroken in
     let given : c.from_residual.result ≡ Err fault = handed_on c.from_residual.result _ c.from_residual.ensures.1 in
-    rw (← c.self.view_is) (λ honest.
-    subst (λ r. CommitsTexts d inside.set.names inside.texts.now.dirty (texts_of (held_over inside.texts.now (contents (d.files inside.set.disk))) inside.set.names) inside.set.disk c.commit.new.self.disk r) (sym given)
-    (commit_failed d inside.set.names ((inside.set.broken ≡ false) × d.honest inside.set.disk) inside.set.disk c.commit.new.self.disk inside.texts.now c.self.invariant.0.apart c.self.invariant.0.now
-    (unbroken, c.commit.ensures.commits.accounts.was_honest honest) c.commit.result fault (c.commit.ensures.commits.commits honest)))
+    record {
+      commits = rw (← c.self.view_is) (λ honest.
+          subst (λ r. CommitsTexts d inside.set.names inside.texts.now.dirty (texts_of (held_over inside.texts.now (contents (d.files inside.set.disk))) inside.set.names) inside.set.disk c.commit.new.self.disk r) (sym given)
+          (commit_failed d inside.set.names ((inside.set.broken ≡ false) × d.honest inside.set.disk) inside.set.disk c.commit.new.self.disk inside.texts.now c.self.invariant.0.apart c.self.invariant.0.now
+          (unbroken, c.commit.ensures.commits.accounts.was_honest honest) c.commit.result fault (c.commit.ensures.commits.commits honest)));
+      texts = search rules;
+    }
 
 pub invariant_of-self-2 : goal.invariant_of-self-2
 invariant_of-self-2 g c =
@@ -68,20 +71,17 @@ pub returns-clause-commits : goal.returns-clause-commits
 returns-clause-commits g c =
     let d = g.D.Disk in
     let inside = c.self.inside in
-    let unbroken : inside.set.broken ≡ false = rw (← c.self.view_is) at c.requires.unbroken in
-    rw (← c.self.view_is) (λ honest.
-    commit_done d inside.set.names ((inside.set.broken ≡ false) × d.honest inside.set.disk) inside.set.disk c.commit.new.self.disk inside.texts.now c.self.invariant.0.apart c.self.invariant.0.now
-    (unbroken, c.commit.ensures.commits.accounts.was_honest honest) tt (c.in_ok-commit.ensures.commits.commits honest))
-
-pub returns-clause-texts : goal.returns-clause-texts
-returns-clause-texts g c =
-    let d = g.D.Disk in
-    let inside = c.self.inside in
     let files = contents (d.files inside.set.disk) in
     let left = contents (d.files c.commit.new.self.disk) in
+    let live = (inside.set.broken ≡ false) × d.honest inside.set.disk in
     let unbroken : inside.set.broken ≡ false = rw (← c.self.view_is) at c.requires.unbroken in
-    rw (← c.self.view_is) (λ honest.
-    ap (λ (s : TextSet). texts_of (held_over s left) inside.set.names) c.settle.ensures.before
-    ∙ texts_settled_are inside.set.names files left inside.texts.now c.self.invariant.0.apart
-    (made_held d inside.set.names ((inside.set.broken ≡ false) × d.honest inside.set.disk) inside.set.disk c.commit.new.self.disk inside.texts.now c.self.invariant.0.apart c.self.invariant.0.now
-    (unbroken, c.commit.ensures.commits.accounts.was_honest honest) (c.in_ok-commit.ensures.commits.commits honest).done.made))
+    record {
+      commits = rw (← c.self.view_is) (λ honest.
+          commit_done d inside.set.names live inside.set.disk c.commit.new.self.disk inside.texts.now c.self.invariant.0.apart c.self.invariant.0.now
+          (unbroken, c.commit.ensures.commits.accounts.was_honest honest) tt (c.in_ok-commit.ensures.commits.commits honest));
+      texts = rw (← c.self.view_is) (λ honest.
+          ap (λ (s : TextSet). texts_of (held_over s left) inside.set.names) c.settle.ensures.before
+          ∙ texts_settled_are inside.set.names files left inside.texts.now c.self.invariant.0.apart
+          (made_held d inside.set.names live inside.set.disk c.commit.new.self.disk inside.texts.now c.self.invariant.0.apart c.self.invariant.0.now
+          (unbroken, c.commit.ensures.commits.accounts.was_honest honest) (c.in_ok-commit.ensures.commits.commits honest).done.made));
+    }

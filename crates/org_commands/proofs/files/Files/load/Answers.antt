@@ -108,23 +108,34 @@ returns-clause-held g c =
     subst (λ (n : List ℕ). IsSome (text_of c.hold.new.self.now n)) cloned
     (subst (λ (s : TextSet). IsSome (text_of s copy)) (sym c.in_ok-hold.ensures.now) (ap is_some (held_this copy c.in_ok-bytes.bytes.items inside.texts.now none)))
 
-pub returns-clause-reads : goal.returns-clause-reads
-returns-clause-reads g c states tally honest =
+pub returns-clause-files : goal.returns-clause-files
+returns-clause-files g c =
     let inside = c.self.inside in
+    let made = c.read.ensures in
     let own = c.args.name.now in
     let copy = c.in_ok-clone.field-0 in
     let cloned : copy ≡ own = c.in_ok-clone.ensures.cases in
-    let files = contents (g.D.Disk.files inside.set.disk) in
-    let left = contents (g.D.Disk.files c.read.new.self.disk) in
-    let same : left ≡ files = ap contents (c.read.ensures.looks honest).same in
     let unbroken : inside.set.broken ≡ false = rw (← c.self.view_is) at c.requires.unbroken in
-    let whole : c.read.new.self.broken ≡ inside.set.broken = set_whole c.read.result inside.set.broken c.read.new.self.broken unbroken (fine_is_no_fault c.read.result c.in_ok-bytes.bytes set.Device c.in_ok-bytes.was) c.read.ensures.set.breaks in
-    rw (← c.self.view_is) (session_still (λ disk. contents (g.D.Disk.files disk)) states
-    (record { disk = inside.set.disk; names = inside.set.names; broken = inside.set.broken; held = inside.texts })
-    (record { disk = c.read.new.self.disk; names = c.read.new.self.names; broken = c.read.new.self.broken; held = c.hold.new.self }) tally
-    c.read.ensures.set.same_names same
-    (over_held own copy c.in_ok-bytes.bytes.items files left inside.texts.before c.hold.new.self.before cloned same (c.in_ok-bytes.ensures.text honest) c.in_ok-hold.ensures.before)
-    whole)
+    record {
+      keeps =
+          let missing : is_some c.get.result ≡ false = sym c.if-is_some.ensures in
+          let none_before : text_of inside.texts.before copy ≡ None = ap (text_of inside.texts.before) cloned ∙ none_found (λ held. held.now.before) c.get.result (text_of inside.texts.before own) missing c.get.ensures.before in
+          rw (← c.self.view_is) (keeps_held copy c.in_ok-bytes.bytes.items inside.texts c.hold.new.self none_before c.in_ok-hold.ensures.before);
+      reads = λ states tally honest.
+          let files = contents (g.D.Disk.files inside.set.disk) in
+          let left = contents (g.D.Disk.files c.read.new.self.disk) in
+          let same : left ≡ files = ap contents (c.read.ensures.looks honest).same in
+          let whole : c.read.new.self.broken ≡ inside.set.broken = set_whole c.read.result inside.set.broken c.read.new.self.broken unbroken (fine_is_no_fault c.read.result c.in_ok-bytes.bytes set.Device c.in_ok-bytes.was) c.read.ensures.set.breaks in
+          rw (← c.self.view_is) (session_still (λ disk. contents (g.D.Disk.files disk)) states
+          (record { disk = inside.set.disk; names = inside.set.names; broken = inside.set.broken; held = inside.texts })
+          (record { disk = c.read.new.self.disk; names = c.read.new.self.names; broken = c.read.new.self.broken; held = c.hold.new.self }) tally
+          c.read.ensures.set.same_names same
+          (over_held own copy c.in_ok-bytes.bytes.items files left inside.texts.before c.hold.new.self.before cloned same (c.in_ok-bytes.ensures.text honest) c.in_ok-hold.ensures.before)
+          whole);
+      disk =
+          let fine : c.read.result ≡ Ok c.in_ok-bytes.bytes = c.in_ok-bytes.was in
+          rw (← c.self.view_is) (only_reads_set c.read.result (fine_is_no_fault (Ok tt) tt Broken refl) (λ fell. absurd (fine_is_no_fault (Ok tt) tt Device refl fell)) (λ fell. absurd (fine_is_no_fault c.read.result c.in_ok-bytes.bytes set.Device fine fell)) unbroken made.set.same_names (ap (λ (s : TextSet). s.dirty) c.in_ok-hold.ensures.before) made.looks made.set.breaks made.accounts);
+    }
 
 pub returns-clause-ready : goal.returns-clause-ready
 returns-clause-ready g c names =
@@ -137,47 +148,53 @@ returns-clause-ready g c names =
     let none_before : text_of inside.texts.before copy ≡ None = ap (text_of inside.texts.before) cloned ∙ none_found (λ held. held.now.before) c.get.result (text_of inside.texts.before own) missing c.get.ensures.before in
     rw (← c.self.view_is) (ready_held copy c.in_ok-bytes.bytes.items names inside.texts c.hold.new.self none none_before c.in_ok-hold.ensures.now c.in_ok-hold.ensures.before c.in_ok-hold.ensures.ready)
 
-pub returns-clause-keeps : goal.returns-clause-keeps
-returns-clause-keeps g c =
-    let inside = c.self.inside in
-    let own = c.args.name.now in
-    let copy = c.in_ok-clone.field-0 in
-    let cloned : copy ≡ own = c.in_ok-clone.ensures.cases in
-    let missing : is_some c.get.result ≡ false = sym c.if-is_some.ensures in
-    let none_before : text_of inside.texts.before copy ≡ None = ap (text_of inside.texts.before) cloned ∙ none_found (λ held. held.now.before) c.get.result (text_of inside.texts.before own) missing c.get.ensures.before in
-    rw (← c.self.view_is) (keeps_held copy c.in_ok-bytes.bytes.items inside.texts c.hold.new.self none_before c.in_ok-hold.ensures.before)
+pub returns-then-is_some-clause-files : goal.returns-then-is_some-clause-files
+returns-then-is_some-clause-files g c = record {
+  keeps = λ name some. refl;
+  reads = λ states tally honest. refl;
+  disk = only_reads_none c.requires.unbroken (fine_is_no_fault (Ok tt) tt Broken refl) (fine_is_no_fault (Ok tt) tt Device refl);
+}
 
-pub returns-then-is_some-clause-disk : goal.returns-then-is_some-clause-disk
-returns-then-is_some-clause-disk g c = only_reads_none c.requires.unbroken (fine_is_no_fault (Ok tt) tt Broken refl) (fine_is_no_fault (Ok tt) tt Device refl)
-
-pub returns-in_err-bytes-clause-disk : goal.returns-in_err-bytes-clause-disk
-returns-in_err-bytes-clause-disk g c =
+pub returns-in_err-bytes-clause-files : goal.returns-in_err-bytes-clause-files
+returns-in_err-bytes-clause-files g c =
     let inside = c.self.inside in
     let made = c.read.ensures in
     let fault = c.in_err-bytes.field-0.0 in
-    let was = c.in_err-bytes.was in
     let given : c.from_residual.result ≡ Err (fault_of_set fault) = handed_on c.from_residual.result _ c.from_residual.ensures.1 in
     let unbroken : inside.set.broken ≡ false = rw (← c.self.view_is) at c.requires.unbroken in
-    let works = set_works c.read.result c.from_residual.result fault was given (λ no. false≢true (sym unbroken ∙ made.set.refuses.0 no)) in
-    rw (← c.self.view_is) (only_reads_set c.read.result works (set_back c.read.result c.from_residual.result fault was given) (set_on c.read.result c.from_residual.result fault was given)
-    unbroken made.set.same_names refl made.looks made.set.breaks made.accounts)
+    record {
+      keeps = rw (← c.self.view_is) (λ name some. refl);
+      reads = λ states tally honest.
+          rw (← c.self.view_is) (reads_failed (λ disk. contents (g.D.Disk.files disk)) states
+          (record { disk = inside.set.disk; names = inside.set.names; broken = inside.set.broken; held = inside.texts })
+          (record { disk = c.read.new.self.disk; names = c.read.new.self.names; broken = c.read.new.self.broken; held = inside.texts }) tally
+          c.read.result c.from_residual.result c.in_err-bytes.field-0.0 c.in_err-bytes.was given (λ no. false≢true (sym unbroken ∙ made.set.refuses.0 no)) unbroken made.set.breaks
+          made.set.same_names (ap contents (made.looks honest).same) refl);
+      disk =
+          let was = c.in_err-bytes.was in
+          let works = set_works c.read.result c.from_residual.result fault was given (λ no. false≢true (sym unbroken ∙ made.set.refuses.0 no)) in
+          rw (← c.self.view_is) (only_reads_set c.read.result works (set_back c.read.result c.from_residual.result fault was given) (set_on c.read.result c.from_residual.result fault was given)
+          unbroken made.set.same_names refl made.looks made.set.breaks made.accounts);
+    }
 
-pub returns-in_err-clone-clause-disk : goal.returns-in_err-clone-clause-disk
-returns-in_err-clone-clause-disk g c =
+pub returns-in_err-clone-clause-files : goal.returns-in_err-clone-clause-files
+returns-in_err-clone-clause-files g c =
     let inside = c.self.inside in
     let made = c.read.ensures in
     let given : c.from_residual-in_err-clone.result ≡ Err OutOfMemory = handed_on c.from_residual-in_err-clone.result _ c.from_residual-in_err-clone.ensures.1 in
-    let fine : c.read.result ≡ Ok c.in_ok-bytes.bytes = c.in_ok-bytes.was in
     let unbroken : inside.set.broken ≡ false = rw (← c.self.view_is) at c.requires.unbroken in
-    rw (← c.self.view_is) (only_reads_set c.read.result (memory_is_not_broken c.from_residual-in_err-clone.result given) (λ fell. absurd (memory_is_not_device c.from_residual-in_err-clone.result given fell)) (λ fell. absurd (fine_is_no_fault c.read.result c.in_ok-bytes.bytes set.Device fine fell)) unbroken made.set.same_names refl made.looks made.set.breaks made.accounts)
-
-pub returns-clause-disk : goal.returns-clause-disk
-returns-clause-disk g c =
-    let inside = c.self.inside in
-    let made = c.read.ensures in
-    let fine : c.read.result ≡ Ok c.in_ok-bytes.bytes = c.in_ok-bytes.was in
-    let unbroken : inside.set.broken ≡ false = rw (← c.self.view_is) at c.requires.unbroken in
-    rw (← c.self.view_is) (only_reads_set c.read.result (fine_is_no_fault (Ok tt) tt Broken refl) (λ fell. absurd (fine_is_no_fault (Ok tt) tt Device refl fell)) (λ fell. absurd (fine_is_no_fault c.read.result c.in_ok-bytes.bytes set.Device fine fell)) unbroken made.set.same_names (ap (λ (s : TextSet). s.dirty) c.in_ok-hold.ensures.before) made.looks made.set.breaks made.accounts)
+    record {
+      keeps = rw (← c.self.view_is) (λ name some. refl);
+      reads = λ states tally honest.
+          rw (← c.self.view_is) (reads_memory (λ disk. contents (g.D.Disk.files disk)) states
+          (record { disk = inside.set.disk; names = inside.set.names; broken = inside.set.broken; held = inside.texts })
+          (record { disk = c.read.new.self.disk; names = c.read.new.self.names; broken = c.read.new.self.broken; held = inside.texts }) tally
+          c.read.result c.from_residual-in_err-clone.result given unbroken (fine_is_no_fault c.read.result c.in_ok-bytes.bytes set.Device c.in_ok-bytes.was) made.set.breaks
+          made.set.same_names (ap contents (made.looks honest).same) refl);
+      disk =
+          let fine : c.read.result ≡ Ok c.in_ok-bytes.bytes = c.in_ok-bytes.was in
+          rw (← c.self.view_is) (only_reads_set c.read.result (memory_is_not_broken c.from_residual-in_err-clone.result given) (λ fell. absurd (memory_is_not_device c.from_residual-in_err-clone.result given fell)) (λ fell. absurd (fine_is_no_fault c.read.result c.in_ok-bytes.bytes set.Device fine fell)) unbroken made.set.same_names refl made.looks made.set.breaks made.accounts);
+    }
 
 pub invariant_of-self : goal.invariant_of-self
 invariant_of-self g c =
@@ -222,17 +239,11 @@ pub returns-then-is_some-clause-held : goal.returns-then-is_some-clause-held
 returns-then-is_some-clause-held g c =
     rw (← c.self.view_is) (some_found (λ held. held.now.text) c.get.result (text_of c.self.inside.texts.now c.args.name.now) (sym c.if-is_some.ensures) c.get.ensures.text)
 
-pub returns-then-is_some-clause-reads : goal.returns-then-is_some-clause-reads
-returns-then-is_some-clause-reads g c states tally honest = refl
-
 pub returns-then-is_some-clause-unedited : goal.returns-then-is_some-clause-unedited
 returns-then-is_some-clause-unedited g c same = same
 
 pub returns-then-is_some-clause-ready : goal.returns-then-is_some-clause-ready
 returns-then-is_some-clause-ready g c names ready = ready
-
-pub returns-then-is_some-clause-keeps : goal.returns-then-is_some-clause-keeps
-returns-then-is_some-clause-keeps g c name some = refl
 
 pub returns-clause-unedited : goal.returns-clause-unedited
 returns-clause-unedited g c = rw (← c.self.view_is) (λ same. c.in_ok-hold.ensures.now ∙ ap (with_text c.in_ok-clone.field-0 c.in_ok-bytes.bytes.items) same ∙ sym c.in_ok-hold.ensures.before)
@@ -240,41 +251,14 @@ returns-clause-unedited g c = rw (← c.self.view_is) (λ same. c.in_ok-hold.ens
 pub returns-in_err-bytes-clause-held : goal.returns-in_err-bytes-clause-held
 returns-in_err-bytes-clause-held g c = not_ok c.from_residual.result (fault_of_set c.in_err-bytes.field-0.0) _ (handed_on c.from_residual.result _ c.from_residual.ensures.1)
 
-pub returns-in_err-bytes-clause-reads : goal.returns-in_err-bytes-clause-reads
-returns-in_err-bytes-clause-reads g c states tally honest =
-    let inside = c.self.inside in
-    let made = c.read.ensures in
-    let given : c.from_residual.result ≡ Err (fault_of_set c.in_err-bytes.field-0.0) = handed_on c.from_residual.result _ c.from_residual.ensures.1 in
-    let unbroken : inside.set.broken ≡ false = rw (← c.self.view_is) at c.requires.unbroken in
-    rw (← c.self.view_is) (reads_failed (λ disk. contents (g.D.Disk.files disk)) states
-    (record { disk = inside.set.disk; names = inside.set.names; broken = inside.set.broken; held = inside.texts })
-    (record { disk = c.read.new.self.disk; names = c.read.new.self.names; broken = c.read.new.self.broken; held = inside.texts }) tally
-    c.read.result c.from_residual.result c.in_err-bytes.field-0.0 c.in_err-bytes.was given (λ no. false≢true (sym unbroken ∙ made.set.refuses.0 no)) unbroken made.set.breaks
-    made.set.same_names (ap contents (made.looks honest).same) refl)
-
 pub returns-in_err-bytes-clause-unedited : goal.returns-in_err-bytes-clause-unedited
 returns-in_err-bytes-clause-unedited g c = rw (← c.self.view_is) (λ same. same)
 
 pub returns-in_err-bytes-clause-ready : goal.returns-in_err-bytes-clause-ready
 returns-in_err-bytes-clause-ready g c names = rw (← c.self.view_is) (λ ready. ready)
 
-pub returns-in_err-bytes-clause-keeps : goal.returns-in_err-bytes-clause-keeps
-returns-in_err-bytes-clause-keeps g c = rw (← c.self.view_is) (λ name some. refl)
-
 pub returns-in_err-clone-clause-held : goal.returns-in_err-clone-clause-held
 returns-in_err-clone-clause-held g c = not_ok c.from_residual-in_err-clone.result OutOfMemory _ (handed_on c.from_residual-in_err-clone.result _ c.from_residual-in_err-clone.ensures.1)
-
-pub returns-in_err-clone-clause-reads : goal.returns-in_err-clone-clause-reads
-returns-in_err-clone-clause-reads g c states tally honest =
-    let inside = c.self.inside in
-    let made = c.read.ensures in
-    let given : c.from_residual-in_err-clone.result ≡ Err OutOfMemory = handed_on c.from_residual-in_err-clone.result _ c.from_residual-in_err-clone.ensures.1 in
-    let unbroken : inside.set.broken ≡ false = rw (← c.self.view_is) at c.requires.unbroken in
-    rw (← c.self.view_is) (reads_memory (λ disk. contents (g.D.Disk.files disk)) states
-    (record { disk = inside.set.disk; names = inside.set.names; broken = inside.set.broken; held = inside.texts })
-    (record { disk = c.read.new.self.disk; names = c.read.new.self.names; broken = c.read.new.self.broken; held = inside.texts }) tally
-    c.read.result c.from_residual-in_err-clone.result given unbroken (fine_is_no_fault c.read.result c.in_ok-bytes.bytes set.Device c.in_ok-bytes.was) made.set.breaks
-    made.set.same_names (ap contents (made.looks honest).same) refl)
 
 pub returns-in_err-clone-clause-unedited : goal.returns-in_err-clone-clause-unedited
 returns-in_err-clone-clause-unedited g c = rw (← c.self.view_is) (λ same. same)
@@ -282,39 +266,31 @@ returns-in_err-clone-clause-unedited g c = rw (← c.self.view_is) (λ same. sam
 pub returns-in_err-clone-clause-ready : goal.returns-in_err-clone-clause-ready
 returns-in_err-clone-clause-ready g c names = rw (← c.self.view_is) (λ ready. ready)
 
-pub returns-in_err-clone-clause-keeps : goal.returns-in_err-clone-clause-keeps
-returns-in_err-clone-clause-keeps g c = rw (← c.self.view_is) (λ name some. refl)
-
 pub returns-in_err-hold-clause-held : goal.returns-in_err-hold-clause-held
 returns-in_err-hold-clause-held g c = not_ok c.from_residual-in_err-hold.result OutOfMemory _ (handed_on c.from_residual-in_err-hold.result _ c.from_residual-in_err-hold.ensures.1)
 
-pub returns-in_err-hold-clause-reads : goal.returns-in_err-hold-clause-reads
-returns-in_err-hold-clause-reads g c states tally honest =
+pub returns-in_err-hold-clause-files : goal.returns-in_err-hold-clause-files
+returns-in_err-hold-clause-files g c =
     let inside = c.self.inside in
     let made = c.read.ensures in
     let given : c.from_residual-in_err-hold.result ≡ Err OutOfMemory = handed_on c.from_residual-in_err-hold.result _ c.from_residual-in_err-hold.ensures.1 in
     let unbroken : inside.set.broken ≡ false = rw (← c.self.view_is) at c.requires.unbroken in
-    rw (← c.self.view_is) (reads_memory (λ disk. contents (g.D.Disk.files disk)) states
-    (record { disk = inside.set.disk; names = inside.set.names; broken = inside.set.broken; held = inside.texts })
-    (record { disk = c.read.new.self.disk; names = c.read.new.self.names; broken = c.read.new.self.broken; held = c.hold.new.self }) tally
-    c.read.result c.from_residual-in_err-hold.result given unbroken (fine_is_no_fault c.read.result c.in_ok-bytes.bytes set.Device c.in_ok-bytes.was) made.set.breaks
-    made.set.same_names (ap contents (made.looks honest).same) (ap (λ (h : Holding). h.before) c.in_err-hold.ensures.err))
+    record {
+      keeps = rw (← c.self.view_is, c.in_err-hold.ensures.err) (λ name some. refl);
+      reads = λ states tally honest.
+          rw (← c.self.view_is) (reads_memory (λ disk. contents (g.D.Disk.files disk)) states
+          (record { disk = inside.set.disk; names = inside.set.names; broken = inside.set.broken; held = inside.texts })
+          (record { disk = c.read.new.self.disk; names = c.read.new.self.names; broken = c.read.new.self.broken; held = c.hold.new.self }) tally
+          c.read.result c.from_residual-in_err-hold.result given unbroken (fine_is_no_fault c.read.result c.in_ok-bytes.bytes set.Device c.in_ok-bytes.was) made.set.breaks
+          made.set.same_names (ap contents (made.looks honest).same) (ap (λ (h : Holding). h.before) c.in_err-hold.ensures.err));
+      disk =
+          let fine : c.read.result ≡ Ok c.in_ok-bytes.bytes = c.in_ok-bytes.was in
+          rw (← c.self.view_is) (only_reads_set c.read.result (memory_is_not_broken c.from_residual-in_err-hold.result given) (λ fell. absurd (memory_is_not_device c.from_residual-in_err-hold.result given fell)) (λ fell. absurd (fine_is_no_fault c.read.result c.in_ok-bytes.bytes set.Device fine fell))
+          unbroken made.set.same_names (ap (λ (h : Holding). h.before.dirty) c.in_err-hold.ensures.err) made.looks made.set.breaks made.accounts);
+    }
 
 pub returns-in_err-hold-clause-unedited : goal.returns-in_err-hold-clause-unedited
 returns-in_err-hold-clause-unedited g c = rw (← c.self.view_is, c.in_err-hold.ensures.err) (λ same. same)
 
 pub returns-in_err-hold-clause-ready : goal.returns-in_err-hold-clause-ready
 returns-in_err-hold-clause-ready g c names = rw (← c.self.view_is, c.in_err-hold.ensures.err) (λ ready. ready)
-
-pub returns-in_err-hold-clause-keeps : goal.returns-in_err-hold-clause-keeps
-returns-in_err-hold-clause-keeps g c = rw (← c.self.view_is, c.in_err-hold.ensures.err) (λ name some. refl)
-
-pub returns-in_err-hold-clause-disk : goal.returns-in_err-hold-clause-disk
-returns-in_err-hold-clause-disk g c =
-    let inside = c.self.inside in
-    let made = c.read.ensures in
-    let given : c.from_residual-in_err-hold.result ≡ Err OutOfMemory = handed_on c.from_residual-in_err-hold.result _ c.from_residual-in_err-hold.ensures.1 in
-    let fine : c.read.result ≡ Ok c.in_ok-bytes.bytes = c.in_ok-bytes.was in
-    let unbroken : inside.set.broken ≡ false = rw (← c.self.view_is) at c.requires.unbroken in
-    rw (← c.self.view_is) (only_reads_set c.read.result (memory_is_not_broken c.from_residual-in_err-hold.result given) (λ fell. absurd (memory_is_not_device c.from_residual-in_err-hold.result given fell)) (λ fell. absurd (fine_is_no_fault c.read.result c.in_ok-bytes.bytes set.Device fine fell))
-    unbroken made.set.same_names (ap (λ (h : Holding). h.before.dirty) c.in_err-hold.ensures.err) made.looks made.set.breaks made.accounts)

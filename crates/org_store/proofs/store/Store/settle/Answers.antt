@@ -58,7 +58,7 @@ returns-in_err-commit-clause-did g c =
     let fault = c.in_err-commit.field-0.0 in
     let unbroken : inside.executor.files.broken ≡ false = search rules in
     let fails : Fails inside.executor.files c.commit.new.self c.commit.result fault =
-    record { is = c.in_err-commit.was; unbroken = unbroken; memory = made.idle.0; works = made.set.works; breaks = made.set.breaks; names = made.set.names } in
+    record { is = c.in_err-commit.was; unbroken = unbroken; memory = made.keeps.memory; works = made.keeps.works; breaks = made.keeps.breaks; names = made.keeps.names } in
     let given : c.from_residual.result ≡ Err (fault_of_set fault) = search rules in
     let files = contents (d.files inside.executor.files.disk) in
     rw (← c.self.view_is, given) (λ ended. record {
@@ -66,9 +66,9 @@ returns-in_err-commit-clause-did g c =
       disk = settle_leaves d inside.executor.states inside.executor.files c.commit.new.self inside.executor.tally
           (λ image left. g.met.D.Disk.only_now inside.executor.files.disk image (made.accounts.was_honest ended) left) c.commit.result fault fails
           (λ rest. subst (λ (s : TextSet). LeavesOver d inside.executor.files.disk c.commit.new.self.disk (HoldsEither inside.executor.files.names files (texts_of (held_over s files) inside.executor.files.names))) c.self.invariant.0
-          ((made.commits ended).any_moment rest)) (made.commits ended).recoverable
-          (subst (λ (s : TextSet). LeavesAlone d (IsOther s.dirty) inside.executor.files.disk c.commit.new.self.disk) c.self.invariant.0 (made.commits ended).alone);
-      dirty_files = ap (λ (held : Holding). held.before.dirty) c.in_err-commit.ensures.held;
+          ((made.commits.commits ended).any_moment rest)) (made.commits.commits ended).recoverable
+          (subst (λ (s : TextSet). LeavesAlone d (IsOther s.dirty) inside.executor.files.disk c.commit.new.self.disk) c.self.invariant.0 (made.commits.commits ended).alone);
+      dirty_files = ap (λ (held : Holding). held.before.dirty) c.in_err-commit.ensures.keeps.held;
       idle = search rules;
     })
 
@@ -86,6 +86,6 @@ returns-in_err-commit-clause-counts g c =
 -- where the commit failed, commands still wait
 pub invariant_of-self : goal.invariant_of-self
 invariant_of-self g c = (
-  subst (λ (held : Holding). held.now ≡ held.before) (sym c.in_err-commit.ensures.held) c.self.invariant.0,
+  subst (λ (held : Holding). held.now ≡ held.before) (sym c.in_err-commit.ensures.keeps.held) c.self.invariant.0,
   λ honest. (λ unbroken done. absurd (c.if-self.false done), λ done. absurd (c.if-self.false done)),
 )
