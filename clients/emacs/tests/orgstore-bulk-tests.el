@@ -76,13 +76,14 @@
                                                  (number-sequence 1 count) ""))))
       (orgstore-test-visit "a.org" "P")
       (let* ((quits 0)
-             ;; It is slow, so that there is a moment in which to quit.
+             ;; Its lines come slowly, so that there is a moment in which to quit.  The process
+             ;; that is killed then is the program itself.
              (orgstore-program
               (orgstore-test-script
                "slow" "if mkdir \"$0.once\" 2> /dev/null; then"
-               (format "  while read -r line; do printf '%%s\\n' \"$line\"; sleep 0.05; done | exec '%s' \"$@\""
-                       orgstore-test-program)
-               "  exit" "fi" (format "exec '%s' \"$@\"" orgstore-test-program)))
+               "  mkfifo \"$0.lines\"; exec 3<&0"
+               "  while read -r line; do printf '%s\\n' \"$line\"; sleep 0.05; done <&3 > \"$0.lines\" &"
+               "  exec 3<&- < \"$0.lines\"" "fi" (format "exec '%s' \"$@\"" orgstore-test-program)))
              (told
               (cl-letf* ((accept (symbol-function 'accept-process-output))
                          ((symbol-function 'accept-process-output)
