@@ -7,7 +7,7 @@ use Rattle.std.specs.List.Sorted.{IsNonDecreasingBy, IsPartitionPoint}
 use Rattle.std.proofs.lemmas.List.Sums.{prefix_len_is}
 use Rattle.std.proofs.lemmas.Bool.{cases_Bool, eqb-true}
 use Rattle.std.proofs.lemmas.Bool.Decides.{nat_tests}
-use Rattle.std.proofs.lemmas.List.{length-append, length-drop, length-take, length-take-le, take-append-drop, take_rest, take_more, take_at, drop_at, drop-drop, get_or-take, get_or-drop, length-map, take_all, drop_all, append-nil}
+use Rattle.std.proofs.lemmas.List.{length-append, length-drop, length-take, length-take-le, take-append-drop, take_rest, take_more, take_at, drop_at, drop-drop, get_or-take, get_or-drop, take_all, drop_all, append-nil}
 use Rattle.std.specs.declared.vec.IntoIter.{IntoIter}
 use Rattle.std.specs.Vec.Iter.{into_iter_items, into_iter_len, into_iter_steps}
 use Rattle.std.specs.Iterator.{Drains}
@@ -382,27 +382,18 @@ map-same (x ∷ xs) = ap (λ l. x ∷ l) (map-same xs)
 pub spliced_items : {X Z : Type 0} (s : IntoIter X Z) (all xs : List X) → into_iter_items s ≡ all → into_iter_len s ≡ length all → Drains (into_iter_steps {X = X} {Z = Z}) s xs → xs ≡ all
 spliced_items s all xs is long d = sym (map-same xs) ∙ items_from_drains xs (d.1.0, d.1.1, λ w. (d.0, d.1.2)) (YieldsList-from_vec all is long)
 
--- the headings that the code has after the splice: us is their list, n the count of the fresh ones,
--- ks what the field held
-pub can_move_now : (hs ks us : List Heading) (c : List ℕ) (removed added from to first last n : ℕ) {fresh : List Heading} → Makes hs c removed added from to first last fresh
-    → n ≡ length fresh → us ≡ take first ks ++ (fresh ++ drop last ks) → ks ≡ hs → AllByRecursion (λ h. CanMove removed added h) (drop (first + n) us)
-can_move_now hs ks us c removed added from to first last n {fresh} m en eu ek =
+-- the headings that the code has after the splice: us is their list, n the count of the fresh ones
+pub can_move_now : (hs us : List Heading) (c : List ℕ) (removed added from to first last n : ℕ) {fresh : List Heading} → Makes hs c removed added from to first last fresh
+    → n ≡ length fresh → us ≡ take first hs ++ (fresh ++ drop last hs) → AllByRecursion (λ h. CanMove removed added h) (drop (first + n) us)
+can_move_now hs us c removed added from to first last n {fresh} m en eu =
     let P : List Heading → Type 0 = λ l. AllByRecursion (λ h. CanMove removed added h) l in
-    let same : us ≡ take first hs ++ (fresh ++ drop last hs) = eu ∙ ap (λ ks. take first ks ++ (fresh ++ drop last ks)) ek in
-    subst P (sym (ap (λ n. drop (first + n) us) en ∙ ap (drop (first + length fresh)) same)) m.can
+    subst P (sym (ap (λ n. drop (first + n) us) en ∙ ap (drop (first + length fresh)) eu)) m.can
 
-pub edited_now : (hs ks us ws rest : List Heading) (c : List ℕ) (removed added from to first last n size : ℕ) {fresh : List Heading} → Makes hs c removed added from to first last fresh
-    → n ≡ length fresh → us ≡ take first ks ++ (fresh ++ drop last ks) → ks ≡ hs → ws ≡ take (first + n) us ++ map (moved removed added) (drop (first + n) us) → length us ≡ size
-    → take size (ws ++ rest) ≡ headings_of c
-edited_now hs ks us ws rest c removed added from to first last n size {fresh} m en eu ek ew es =
-    let same : us ≡ take first hs ++ (fresh ++ drop last hs) = eu ∙ ap (λ ks. take first ks ++ (fresh ++ drop last ks)) ek in
+pub edited_now : (hs us ws : List Heading) (c : List ℕ) (removed added from to first last n : ℕ) {fresh : List Heading} → Makes hs c removed added from to first last fresh
+    → n ≡ length fresh → us ≡ take first hs ++ (fresh ++ drop last hs) → ws ≡ take (first + n) us ++ map (moved removed added) (drop (first + n) us) → ws ≡ headings_of c
+edited_now hs us ws c removed added from to first last n {fresh} m en eu ew =
     let f = moved removed added in
-    let k = first + n in
-    let long : length ws ≡ size =
-    omega (arith, ap length ew, length-append (take k us) (map f (drop k us)), length-map (drop k us) f, es, ap length (take-append-drop k us), length-append (take k us) (drop k us)) in
-    take_at ws rest size long ∙ ew
-    ∙ ap (λ n. take (first + n) us ++ map f (drop (first + n) us)) en
-    ∙ ap (λ us. take (first + length fresh) us ++ map f (drop (first + length fresh) us)) same ∙ m.is
+    ew ∙ ap (λ n. take (first + n) us ++ map f (drop (first + n) us)) en ∙ ap (λ us. take (first + length fresh) us ++ map f (drop (first + length fresh) us)) eu ∙ m.is
 
 -- where all headings begin before the lines, those of the lines go behind them: us is their list
 pub appended_now : (hs ks ls us : List Heading) (c : List ℕ) (at removed added from to first : ℕ) → IsEdit hs c at removed added → length c < 2 ^ 64

@@ -1,10 +1,11 @@
 -- What is kept of a text's headings: where each begins, its level, and how its title
 -- can begin.
-use Rattle.std.specs.Prelude.{◌≡◌, ℕ, suc, nat_lt, Bool, ◌==◌, ◌&&◌, ◌||◌, Option, Some, None, if◌then◌else◌, [], ◌∷◌, ◌+◌, List, map, find, length, nat_le, slice_range, ◌-◌, ◌<◌, ◌≤◌, ◌^◌, take, drop}
+use Rattle.std.specs.Prelude.{◌≡◌, ℕ, suc, nat_lt, min, ◌⊎◌, Bool, ◌==◌, ◌&&◌, ◌||◌, Option, Some, None, if◌then◌else◌, [], ◌∷◌, ◌+◌, List, map, find, length, nat_le, slice_range, ◌-◌, ◌<◌, ◌≤◌, ◌^◌, take, drop}
 use Rattle.std.specs.Option.{option_map_or}
 use Rattle.org_outline.specs.declared.heads.Heading.{Heading}
 use Rattle.org_splice.specs.declared.Span.{Span}
 use Rattle.org_splice.specs.Lines.{terminated, print_lines}
+use Rattle.org_outline.specs.declared.beginnings.Beginnings.{Beginnings}
 use Rattle.org_outline.specs.Beginnings.{beginnings_of, may_begin_date}
 use Rattle.org_outline.specs.Text.{level_of, heading_line, line_at}
 use Rattle.org_outline.specs.Tree.{Placed, own_lines, print_node, nodes_of}
@@ -35,6 +36,15 @@ abbrev pub can_be_dated : ℕ → Heading → Bool
 can_be_dated level h =
     h.level == level
     && (may_begin_date h.beginnings.first || may_begin_date h.beginnings.second)
+
+-- the lowest level of these headings, and of one level more
+abbrev pub lowest_level : ℕ → List Heading → ℕ
+lowest_level level [] = level
+lowest_level level (h ∷ hs) = lowest_level (min level h.level) hs
+
+-- how the titles of headings can begin; or nothing
+abbrev pub AreBeginnings : List Beginnings → List Heading → Type 0
+AreBeginnings lines hs = (lines ≡ map (λ (h : Heading). h.beginnings) hs) ⊎ (lines ≡ [])
 
 -- where the first of these headings begins that is not deeper than n, and the end where there is
 -- none

@@ -28,10 +28,10 @@ returns-then-first-len-clause-ok c =
     let from = c.line_start-from.result in
     let found = heads_from from true (take (c.line_end-to.result - from) (drop from c.args.after.now)) in
     let held = c.self.inside.headings in
-    let all = c.scan.new.headings.items in
-    on_ok_weaker {P = all ≡ held.items ++ found} {Q = all ≡ headings_of c.args.after.now} c.scan.result
+    let all = c.append.new.self in
+    on_ok_weaker {P = all ≡ c.args.self.now ++ found} {Q = all ≡ headings_of c.args.after.now} c.append.result
     (λ is. appended_now _ _ _ _ _ _ _ _ _ _ _ c.requires small (c.line_start-from.ensures.within, c.line_start-from.ensures.begins) c.line_end-to.ensures.within c.line_end-to.ensures.ends
-    (c.as_slice.ensures.value ∙ c.self.view_is) c.self.view_is c.starts_before-first.ensures.count (c.if-first-len.true ∙ c.len.ensures ∙ held.ok.0) is) c.scan.ensures.ok
+    (c.as_slice.ensures.value ∙ c.self.view_is) refl c.starts_before-first.ensures.count (c.if-first-len.true ∙ c.len.ensures ∙ held.ok.0 ∙ ap (λ (l : List Heading). length l) c.self.view_is) is) c.append.ensures.ok
 
 -- what was put behind no headings
 behind_none : (all held found : List Heading) → all ≡ held ++ found → held ≡ [] → all ≡ found
@@ -49,18 +49,14 @@ move_from-requires-clause-room c =
     let small : length c.args.after.now < 2 ^ 64 = omega arith in
     let m = makes_now _ _ _ _ _ _ _ _ _ _ _ _ c.requires small (c.line_start-from.ensures.within, c.line_start-from.ensures.begins) c.line_end-to.ensures.within c.line_end-to.ensures.ends
     (c.as_slice.ensures.value ∙ c.self.view_is) (c.as_slice-2.ensures.value ∙ c.self.view_is) c.starts_before-first.ensures.count c.starts_before-last.ensures.count (behind_none _ _ _ c.in_ok-scan.ensures.ok c.new-fresh.ensures.items) in
-    let at_cut = c.len-2.ensures ∙ c.scan-2.new.headings.ok.0 in
-    let now = c.as_mut_slice.ensures.value ∙ c.in_ok-replace.ensures.ok in
-    can_move_now _ _ _ _ _ _ _ _ _ _ _ m at_cut now (c.self.view_is)
+    can_move_now _ _ _ _ _ _ _ _ _ _ m (c.len-2.ensures ∙ c.scan.new.headings.ok.0) c.in_ok-replace.ensures.ok
 
 pub returns-clause-ok : goal.returns-clause-ok
 returns-clause-ok c =
     let small : length c.args.after.now < 2 ^ 64 = omega arith in
     let m = makes_now _ _ _ _ _ _ _ _ _ _ _ _ c.requires small (c.line_start-from.ensures.within, c.line_start-from.ensures.begins) c.line_end-to.ensures.within c.line_end-to.ensures.ends
     (c.as_slice.ensures.value ∙ c.self.view_is) (c.as_slice-2.ensures.value ∙ c.self.view_is) c.starts_before-first.ensures.count c.starts_before-last.ensures.count (behind_none _ _ _ c.in_ok-scan.ensures.ok c.new-fresh.ensures.items) in
-    let at_cut = c.len-2.ensures ∙ c.scan-2.new.headings.ok.0 in
-    let now = c.as_mut_slice.ensures.value ∙ c.in_ok-replace.ensures.ok in
-    edited_now _ _ _ _ _ _ _ _ _ _ _ _ _ _ m at_cut now c.self.view_is c.move_from.ensures c.as_mut_slice.ensures.len
+    edited_now _ _ _ _ _ _ _ _ _ _ _ m (c.len-2.ensures ∙ c.scan.new.headings.ok.0) c.in_ok-replace.ensures.ok c.move_from.ensures
 
 pub overflow_add-at : goal.overflow_add-at
 overflow_add-at c = omega arith
@@ -74,9 +70,6 @@ overflow_sub-to c = omega arith
 pub overflow_add-behind : goal.overflow_add-behind
 overflow_add-behind c = omega arith
 
-pub replace-requires-clause-within : goal.replace-requires-clause-within
-replace-requires-clause-within c = omega arith
-
 -- what is so whatever a call answered is so where it failed
 on_err : {P : Type 0} (r : Result (Unit {0}) AllocError) → P → OnErr r P
 on_err (Ok _) so = tt
@@ -89,16 +82,20 @@ cut_within held fresh all first last count low size is =
     omega (arith, low, size, ap (λ (l : List Heading). length l) is, length-append (take first held) (fresh ++ drop last held), behind, length-take first held)
 
 pub returns-then-first-len-clause-err : goal.returns-then-first-len-clause-err
-returns-then-first-len-clause-err c = subst (λ (hs : List Heading). OnErr c.scan.result (c.scan.new.headings.items ≡ hs)) c.self.view_is c.scan.ensures.err
+returns-then-first-len-clause-err c = c.append.ensures.err
 
 pub returns-in_err-scan-clause-err : goal.returns-in_err-scan-clause-err
 returns-in_err-scan-clause-err c = on_err c.from_residual.result refl
 
 pub returns-in_err-replace-clause-err : goal.returns-in_err-replace-clause-err
-returns-in_err-replace-clause-err c = on_err c.from_residual-in_err-replace.result (c.in_err-replace.ensures.err ∙ c.self.view_is)
+returns-in_err-replace-clause-err c = on_err c.from_residual-in_err-replace.result c.in_err-replace.ensures.err
 
 pub move_from-requires-clause-within : goal.move_from-requires-clause-within
 move_from-requires-clause-within c =
-    let held = c.self.inside.headings.items in
-    let low : c.starts_before-first.result ≤ length held = subst (λ (hs : List Heading). c.starts_before-first.result ≤ length hs) c.as_slice.ensures.value c.starts_before-first.ensures.within in
-    cut_within held _ _ _ _ _ low (c.len-2.ensures ∙ c.scan-2.new.headings.ok.0) (c.as_mut_slice.ensures.value ∙ c.in_ok-replace.ensures.ok)
+    let held = c.args.self.now in
+    let low : c.starts_before-first.result ≤ length held = subst (λ (hs : List Heading). c.starts_before-first.result ≤ length hs) (c.as_slice.ensures.value ∙ c.self.view_is) c.starts_before-first.ensures.within in
+    cut_within held _ _ _ _ _ low (c.len-2.ensures ∙ c.scan.new.headings.ok.0) c.in_ok-replace.ensures.ok
+
+pub replace-requires-clause-within : goal.replace-requires-clause-within
+replace-requires-clause-within c =
+    subst (λ (hs : List Heading). c.starts_before-last.result ≤ length hs) (c.as_slice-2.ensures.value ∙ c.self.view_is) c.starts_before-last.ensures.within

@@ -1,5 +1,9 @@
+use Rattle.std.proofs.Common.{◌-◌}
 use Rattle.org_outline.proofs.PathWalk.{Heading_walk}
 use Rattle.org_outline.proofs.outline.Outline.headed.Given as goal
 
 abbrev pub invariant-loop-index : goal.invariant-loop-index
 invariant-loop-index l = Heading_walk l.self.states l.self.text l.title l.index l.found
+
+abbrev pub decreases-loop-index : goal.decreases-loop-index
+decreases-loop-index l = l.count - l.index
