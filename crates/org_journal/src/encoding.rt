@@ -91,6 +91,26 @@ fn set_size(bytes: &mut [u8], size: u64)
     BigEndian::write_u64(&mut bytes[SIZE_AT..], size);
 }
 
+// The bytes of patches.
+fn size_of(patches: &[Patch]) -> usize {
+    let mut size: usize = 0;
+    for patch in patches {
+        size = size.saturating_add(patch.bytes.len());
+    }
+    size
+}
+
+// Room for a record: half more than its patches take, which is never touched. The C library's
+// allocator keeps freed memory up to twice the largest block that it has given back, and so what
+// this record and its patches took for the next ones; else it is cleared for each again.
+fn room_for(entries: &[Entry]) -> usize {
+    let mut size: usize = 0;
+    for entry in entries {
+        size = size.saturating_add(size_of(entry.patches.as_slice()));
+    }
+    size.saturating_add(size / 2)
+}
+
 impl Record {
     /// The journal's bytes behind its gate, in version 2 of the format.
     ///
@@ -106,6 +126,8 @@ impl Record {
     {
         let entries = self.as_slice();
         let mut out = Vec::new(alloc);
+        // Where there is no such room, the bytes take what they need.
+        let _ = out.reserve(room_for(entries));
         out.extend_from_slice(b"ORGJ\x02\x00\x00")?;
         put_u64(&mut out, 0)?;
         put_u32(&mut out, entries.len() as u32)?;

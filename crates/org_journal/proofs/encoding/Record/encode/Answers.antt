@@ -12,7 +12,7 @@ returns-clause-bytes c =
     let out = c.put_entries.new.out in
     let entries = c.args.self.now in
     sized c.extend_from_slice.new.self.items c.put_u64.new.out.items c.put_u32.new.out.items out.items c.set_size.new.bytes (big_bytes 4 (length entries)) (flat_map (entry_bytes Two) entries) out.len (c.len.result - 15)
-    (c.in_ok-extend_from_slice.ensures.items ∙ ap (λ (x : List ℕ). x ++ 79 ∷ 82 ∷ 71 ∷ 74 ∷ 2 ∷ 0 ∷ 0 ∷ []) c.new-out.ensures.items)
+    (c.in_ok-extend_from_slice.ensures.items ∙ ap (λ (x : List ℕ). x ++ 79 ∷ 82 ∷ 71 ∷ 74 ∷ 2 ∷ 0 ∷ 0 ∷ []) (c.reserve.ensures.items ∙ c.new-out.ensures.items))
     c.in_ok-put_u64.ensures
     (c.in_ok-put_u32.ensures ∙ ap (λ (x : List Entry). c.put_u64.new.out.items ++ big_bytes 4 (length x)) c.as_slice-entries.ensures)
     (c.in_ok-put_entries.ensures ∙ ap (λ (x : List Entry). c.put_u32.new.out.items ++ flat_map (entry_bytes Two) x) c.as_slice-entries.ensures)
