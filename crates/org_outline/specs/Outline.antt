@@ -37,7 +37,7 @@ can_be_dated level h =
     h.level == level
     && (may_begin_date h.beginnings.first || may_begin_date h.beginnings.second)
 
--- the lowest level of these headings, and of one level more
+-- the lowest of these headings' levels and of another one
 abbrev pub lowest_level : ℕ → List Heading → ℕ
 lowest_level level [] = level
 lowest_level level (h ∷ hs) = lowest_level (min level h.level) hs
