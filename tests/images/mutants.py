@@ -148,7 +148,8 @@ def openings(trace: Trace) -> Iterator[Mutant]:
             yield Mutant("no sync of a journal that is found", events, 0, *journal_shows(trace, first))
         elif not trace.has_file(first, trace.serves):
             yield Mutant("no sync of a file that is found", events, 0, end, True)
-    loose = {name for name, file in start.items() if not file.entered}
+    # An empty file that is lost is an absent one, which is the same.
+    loose = {name for name, file in start.items() if not file.entered and (file.content or file.changes)}
     if loose:
         events = tuple(event for at, event in enumerate(trace.events) if at >= first or event != FolderSynced())
         again = FolderSynced() in trace.events[first:trace.serves]

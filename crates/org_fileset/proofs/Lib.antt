@@ -22,3 +22,4 @@ mod Committing
 mod Kept
 pub mod Crashed
 pub mod Middle
+mod Tried

@@ -1,10 +1,11 @@
 -- Which files calls write.
-use Rattle.std.specs.Prelude.{◌≡◌, ◌≢◌, ℕ, List, [], ◌∷◌, IsTrue, IsFalse, Some, drop}
+use Rattle.std.specs.Prelude.{◌≡◌, ◌≢◌, ℕ, List, [], ◌∷◌, IsTrue, IsFalse, OnOk, Result, Some, drop}
 use Rattle.org_disk.specs.declared.disk.Disk.{Ghosts}
 use Rattle.std.specs.List.{list_any}
 use Rattle.std.specs.Str.{bytes_eq}
-use Rattle.org_disk.specs.Disk.{FileState, IsImage}
-use Rattle.org_disk.specs.Accounts.{PassesOver}
+use Rattle.org_disk.specs.declared.disk.DiskFault.{DiskFault}
+use Rattle.org_disk.specs.Disk.{AreImages, FileState, IsImage}
+use Rattle.org_disk.specs.Accounts.{LooksOver, PassesOver}
 use Rattle.org_disk.specs.Names.{journal_name}
 use Rattle.org_journal.specs.declared.record.Entry.{Entry}
 use Rattle.org_journal.specs.Gate.{is_open}
@@ -42,3 +43,14 @@ pub record IsUnconcerned (journal : List ℕ) (name : List ℕ) : Type 0 where
   pub unnamed : IsTrue (is_open journal) → (entries : List Entry)
       → journal_at (drop 1 journal) ≡ Some entries
       → IsFalse (is_named name entries)
+
+-- Calls that try the journal and the files of a record, where the disk is honest after them. After
+-- Ok they only looked. Where one failed, they left no other file, and whatever a crash leaves,
+-- meanwhile and then, it might have left before.
+pub record TriesOver {D : Type 0} (g : Ghosts D) (entries : List Entry) (old new : D)
+    (result : Result (Unit {0}) DiskFault) : Type 0 where
+  pub ok : OnOk result (LooksOver g old new)
+  pub time : PassesOver g old new (AreImages (g.files old))
+  pub images : (name bytes : List ℕ) → IsImage (g.files new name) bytes
+      → IsImage (g.files old name) bytes
+  pub others : (name : List ℕ) → IsUnwritten entries name → g.files new name ≡ g.files old name

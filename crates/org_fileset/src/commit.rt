@@ -1,7 +1,7 @@
 //! A record made to count: written to the journal, applied to its files, and done with.
 //!
-//! The order is that of FORMATS: record, sync, gate, sync, files, syncs, gate, sync. What a commit
-//! has to do it does for any entries that fit their files; that they are changes of a set is
+//! The order is that of FORMATS: tries, record, sync, gate, sync, files, syncs, gate, sync. What a
+//! commit has to do it does for any entries that fit their files; that they are changes of a set is
 //! `set`'s matter.
 ghost use Rattle.std.specs.Prelude.{◌≡◌, List, IsErr};
 ghost use Rattle.org_disk.specs.Accounts.{Accounts};
@@ -12,6 +12,7 @@ ghost use Rattle.org_journal.specs.declared.record.Entry.{Entry};
 ghost use Rattle.org_fileset.specs.Replay.{AreApplicableTo, CommitsEntriesOver, IsOpenOver, ReplaysOver, WritesRecord};
 
 use crate::apply::{apply_all, sync_all};
+use crate::trying::try_all;
 use org_disk::{Disk, DiskFault, FileName};
 use org_journal::{Entry, arm, close_gate, open_gate};
 
@@ -48,10 +49,32 @@ fn write_record<D: Disk>(disk: &mut D, journal: &FileName, body: &[u8]) -> Resul
     open_gate(disk, journal)
 }
 
+/// Writes the record of entries that fit their files, and does what it says.
+fn write_and_replay<D: Disk>(
+    disk: &mut D,
+    journal: &FileName,
+    entries: &[Entry],
+    body: &[u8],
+) -> Result<(), DiskFault>
+    requires journal { journal.now ≡ journal_name }
+    requires applicable { D.honest disk.old → AreApplicableTo entries.now (D.files disk.old) }
+    requires body { BeginsWith body.now entries.now }
+    requires gate { D.honest disk.old → HasClosedGate (D.files disk.old journal_name) }
+    ensures commits { D.honest disk.new
+        → CommitsEntriesOver D.Disk entries.now disk.old disk.new result }
+    ensures accounts { Accounts D.Disk disk.old disk.new (IsErr result) }
+{
+    write_record(disk, journal, body)?;
+    replay(disk, journal, entries)
+}
+
 /// Commits entries that fit their files. The body is their record, from the journal's second byte
 /// on. Where all files are on the disk at the start, every image at every moment since recovers to
 /// all files before, or to all files after. No other file is written; and behind the closed gate
 /// the record stays.
+///
+/// Before anything is written, the journal and the files are tried: where one can't be written, the
+/// gate stays closed.
 ///
 /// # Errors
 ///
@@ -70,6 +93,6 @@ pub fn commit_entries<D: Disk>(
         → CommitsEntriesOver D.Disk entries.now disk.old disk.new result }
     ensures accounts { Accounts D.Disk disk.old disk.new (IsErr result) }
 {
-    write_record(disk, journal, body)?;
-    replay(disk, journal, entries)
+    try_all(disk, journal, entries)?;
+    write_and_replay(disk, journal, entries, body)
 }

@@ -14,6 +14,7 @@ mod names;
 mod open;
 mod recover;
 mod set;
+mod trying;
 
 pub use fault::SetFault;
 pub use names::{in_order, with_archives};

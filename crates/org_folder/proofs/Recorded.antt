@@ -1,9 +1,8 @@
 -- What a call that is in the record did to the files and to their past.
-use Rattle.std.proofs.Common.{◌≡◌, ◌≢◌, ℕ, ◌≤◌, List, [], ◌∷◌, length, true, false, is_ok, IsErr, ◌⊎◌, Result, Ok, Err, IfOk, OnOk, OnErr, refl, sym, ◌∙◌, ap, subst, inl, inr, ⊎_elim, arith}
+use Rattle.std.proofs.Common.{◌≡◌, ◌≢◌, ℕ, ◌≤◌, List, ◌∷◌, length, true, false, is_ok, IsErr, ◌⊎◌, Result, Ok, Err, IfOk, OnOk, OnErr, refl, sym, ◌∙◌, ap, subst, inl, inr, ⊎_elim, arith}
 use Rattle.org_disk.specs.Disk.{FileState, IsImage, AreImages, AreLeftBy, IsLeftBy, Passes, write, cut, sync}
 use Rattle.org_disk.specs.declared.disk.DiskFault.{DiskFault}
 use Rattle.org_disk.proofs.Moments.{Image, passes_none, passes_as}
-use Rattle.org_disk.proofs.Ranges.{nothing_written}
 use Rattle.org_folder.specs.Calls.{Event, World, files, changed, reading, AreRight, LeftSince, Looks, Does}
 use Rattle.org_folder.specs.Calls.Event.{Absent, Length, Read, Write, Cut, Sync}
 use Rattle.org_folder.specs.CallsLaws.{changed_here, changed_other, own_image}
@@ -179,19 +178,6 @@ does_nothing world effect name old new (Err fault) failed right looks = record {
 pub does_not_come : (world : World) (effect : FileState → FileState) (name : List ℕ) (old new : List Event) (result : Answer) → IsErr result → AreRight world old × Looks world old new
     → AreRight world old × Does world effect name old new result
 does_not_come world effect name old new result failed looks = (looks.0, does_nothing world effect name old new result failed looks.0 looks.1)
-
--- a write of no bytes makes no call
-pub does_write_nothing : (world : World) (name : List ℕ) (from : ℕ) (bytes : List ℕ) (calls : List Event) (done : Unit {0}) → length bytes ≡ 0 → AreRight world calls
-    → from ≤ length (files world calls name).content → Does world (write from bytes) name calls calls (Ok done)
-does_write_nothing world name from [] calls done empty right within = record {
-  changes = record {
-    ok = sym (nothing_written from (files world calls name) within (own_image world calls right name));
-    err = tt;
-    others = λ other apart. refl;
-  };
-  time = passes_none (length calls) (LeftSince world calls) (AreLeftBy (write from []) name (files world calls));
-}
-does_write_nothing world name from (byte ∷ bytes) calls done empty right within = absurd (omega (arith, empty))
 
 -- a place within a file that was opened under the name
 pub within_called : (world : World) (called name : List ℕ) (n : ℕ) (old mid : List Event) → called ≡ name → mid ≡ old → n ≤ length (files world old name).content

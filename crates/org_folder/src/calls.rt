@@ -7,7 +7,10 @@ ghost use Rattle.org_folder.specs.Calls.{Event, IsWithin, World};
 ghost use Rattle.org_folder.specs.Calls.Event.{Absent, Cut, Length, Read, Sync, Write};
 
 use org_disk::{DiskFault, FileName};
+use seen::Seen;
+use std::cell::Cell;
 
+mod seen;
 mod system;
 
 pub use system::SystemCalls;
@@ -22,6 +25,8 @@ pub struct Opened<F> {
     is_own: bool,
     // its entry in the folder is known to be on the device
     is_entered: bool,
+    // what the system last said of it
+    seen: Cell<Option<Seen>>,
 }
 
 impl<F: Drop> Opened<F> {
@@ -35,6 +40,7 @@ impl<F: Drop> Opened<F> {
                 file,
                 is_own,
                 is_entered: false,
+                seen: Cell::new(None),
             }),
             Err(_) => Err(DiskFault),
         }
@@ -108,7 +114,8 @@ pub trait Calls {
             (history self.new ≡ Read opened.now.name from into.new ∷ history self.old) }
         ensures err { OnErr result (history self.new ≡ history self.old) };
 
-    /// Writes bytes over a file from `from` on, which is at most its length.
+    /// Writes bytes over a file from `from` on, which is at most its length. A write of no bytes
+    /// changes nothing: it fails where the file can't be written, or isn't as these calls left it.
     fn write_at(
         &mut self,
         opened: &Opened<Self::File>,

@@ -19,8 +19,8 @@ use std::fs::Files;
 use std::os::unix::fs::FileExt;
 
 /// The files of a folder, as a disk over the calls of a system. An absent file and an empty one are
-/// the same: a file is made by its first write of at least one byte, and none is ever removed or
-/// renamed. Where a file isn't there, the next call on it doesn't look again. A file stays open
+/// the same: a file is made by its first write, and none is ever removed or renamed. A write of no
+/// bytes tries the file. Where a file isn't there, the next call on it doesn't look again. A file stays open
 /// from its first use on; the first sync of a file also puts its entry in the folder on the device.
 /// A call of the system that fails, and want of memory, is a counted failure.
 ///

@@ -1,8 +1,8 @@
 //! The files of a folder, each opened once and kept open.
 //!
 //! The opened files stand in byte order of their names, each name once. That a file isn't there is
-//! kept for the next call on it, which doesn't look again. Files are made by their first byte, and
-//! never removed or renamed. No fault is counted here.
+//! kept for the next call on it, which doesn't look again. Files are made by their first write,
+//! and never removed or renamed. No fault is counted here.
 ghost use Rattle.std.specs.Prelude.{◌≡◌, ◌⊎◌, ◌≤◌, [], ◌∷◌, length, take, drop, is_ok, IfOk, IfSome, IfNone, IfErr, IsErr, IsFalse, OnOk};
 ghost use Rattle.std.specs.List.{list_any};
 ghost use Rattle.std.specs.Str.{bytes_eq};
@@ -60,15 +60,12 @@ where
         }
     }
 
-    // A write of no bytes makes no file and no call, and changes nothing.
+    // A write of no bytes tries the file, and makes it where there is none.
     pub fn write(&mut self, name: &FileName, from: u64, bytes: &[u8]) -> Result<(), DiskFault>
         requires { LiesWithin C.Calls self.old.calls name.now from }
         ensures { DoesRight C.Calls (write from bytes.now) name.now
             self.old.calls self.new.calls result }
     {
-        if bytes.is_empty() {
-            return Ok(());
-        }
         let at = self.find_or_make(name)?;
         self.calls.write_at(&self.files[at], from, bytes)
     }

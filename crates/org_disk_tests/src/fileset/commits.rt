@@ -208,11 +208,11 @@ fn is_gate_open(is_write: bool, outcome: Outcome) -> bool {
 
 // Whether both files are changed after a crash at this call, the first of the commit being 1.
 fn is_done(call: u64, outcome: Outcome) -> bool {
-    // the body is written and synced, and then the gate
+    // the journal and both files are tried; the body is written and synced, and then the gate
     match call {
-        0..=2 => false,
-        3 => is_gate_open(true, outcome),
-        4 => is_gate_open(false, outcome),
+        0..=5 => false,
+        6 => is_gate_open(true, outcome),
+        7 => is_gate_open(false, outcome),
         _ => true,
     }
 }
@@ -280,7 +280,7 @@ fn failing(rt: &impl Abort, alloc: Global, call: u64) -> MemoryDisk {
 
 // A disk on which a commit left the gate open, and failed to sync it.
 fn open_unsynced(rt: &impl Abort, alloc: Global) -> MemoryDisk {
-    let (disk, answer) = change(rt, alloc, failing(rt, alloc, 4), &BOTH);
+    let (disk, answer) = change(rt, alloc, failing(rt, alloc, 7), &BOTH);
     hold(rt, answer.is_err());
     disk
 }
@@ -310,7 +310,7 @@ fn an_opening_syncs_an_open_gate_first(rt: HostRuntime) {
 #[test]
 fn a_failed_sync_of_the_gate_breaks_the_set(rt: HostRuntime) {
     let alloc = rt.alloc();
-    let mut set = open(&rt, alloc, failing(&rt, alloc, 4), FILES);
+    let mut set = open(&rt, alloc, failing(&rt, alloc, 7), FILES);
     hold(&rt, is_broken_by_commit(&rt, alloc, &mut set));
     let disk = set.into_disk();
     let image = disk.image(alloc).expect(&rt, "memory");

@@ -9,10 +9,11 @@ use std::process::Abort;
 const ABSENT: &[Step] = &[
     Step::Call("a.org", Call::Length, Ok(0), 0),
     Step::Call("a.org", Call::Read, Ok(0), 0),
-    Step::Call("a.org", Call::Write(b""), Ok(0), 0),
     Step::Call("a.org", Call::Cut, Ok(0), 0),
     Step::Call("a.org", Call::Sync, Ok(0), 0),
     Step::IsAbsent("absent/a.org"),
+    Step::Call("a.org", Call::Write(b""), Ok(0), 0),
+    Step::Holds("absent/a.org", b""),
 ];
 
 // That a file isn't there is believed at the next call on it, and then looked at again: what

@@ -7,6 +7,7 @@ ghost use Rattle.std.specs.Prelude.{◌≡◌, [], ◌∷◌, string_bytes, IfOk
 ghost use Rattle.std.specs.Path.{path_buf_bytes, path_join};
 ghost use Rattle.org_folder.specs.Note.{event_of};
 
+use super::seen::Seen;
 use super::{Calls, Opened};
 use crate::absent_names::AbsentNames;
 use crate::record::{Call, Record};
@@ -99,6 +100,17 @@ where
         File::open(&self.rt, folder)?.sync_all()
     }
 
+    // A file that may be written, and to which its name leads, as the calls so far left it.
+    fn try_file(&self, opened: &Opened<R::File>) -> io::Result<()> {
+        opened.file.write_at(&[], 0)?;
+        let path = self.path_of(&opened.name)?;
+        let now = Seen::of(&fs::metadata(&self.rt, path.as_path())?);
+        match opened.seen.get() {
+            Some(seen) if !seen.is_still(&now) => Err(Error::from(ErrorKind::Other)),
+            _ => Ok(()),
+        }
+    }
+
     // Notes a call that was made on the file of this name, which read or wrote these bytes.
     pub(crate) fn note(&mut self, call: Call, name: &FileName, bytes: &[u8])
         ensures { self.new.log.events ≡ event_of call name.now bytes.now ∷ self.old.log.events }
@@ -121,6 +133,31 @@ fn only_empty<F: OpenFile + Drop>(file: F) -> io::Result<F> {
         return Err(Error::from(ErrorKind::AlreadyExists));
     }
     Ok(file)
+}
+
+fn write_all<F: OpenFile + FileExt>(opened: &Opened<F>, from: u64, bytes: &[u8]) -> io::Result<()> {
+    opened.file.write_all_at(bytes, from)?;
+    match opened.seen.get() {
+        Some(seen) => opened.seen.set(Some(seen.written())),
+        // it was made
+        None => {
+            look(opened)?;
+        }
+    }
+    Ok(())
+}
+
+fn cut_off<F: OpenFile>(opened: &Opened<F>, to: u64) -> io::Result<()> {
+    opened.file.set_len(to)?;
+    look(opened)?;
+    Ok(())
+}
+
+// The length of a file; what the system says of it is kept for the next try.
+fn look<F: OpenFile>(opened: &Opened<F>) -> io::Result<u64> {
+    let metadata = opened.file.metadata()?;
+    opened.seen.set(Some(Seen::of(&metadata)));
+    Ok(metadata.len())
 }
 
 fn is_refused(kind: ErrorKind) -> bool {
@@ -168,7 +205,7 @@ where
     }
 
     fn length(&mut self, opened: &Opened<R::File>) -> Result<u64, DiskFault> {
-        let length = answered(opened.file.metadata())?.len();
+        let length = answered(look(opened))?;
         self.note(Call::Length(length), &opened.name, &[]);
         Ok(length)
     }
@@ -190,13 +227,17 @@ where
         from: u64,
         bytes: &[u8],
     ) -> Result<(), DiskFault> {
-        let answer = answered(opened.file.write_all_at(bytes, from));
+        let answer = answered(if bytes.is_empty() {
+            self.try_file(opened)
+        } else {
+            write_all(opened, from, bytes)
+        });
         self.note(Call::Write(from, answer.is_ok()), &opened.name, bytes);
         answer
     }
 
     fn cut(&mut self, opened: &Opened<R::File>, to: u64) -> Result<(), DiskFault> {
-        let answer = answered(opened.file.set_len(to));
+        let answer = answered(cut_off(opened, to));
         self.note(Call::Cut(to, answer.is_ok()), &opened.name, &[]);
         answer
     }

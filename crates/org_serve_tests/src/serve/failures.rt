@@ -97,14 +97,14 @@ fn fail_each(rt: &(impl Abort + AllocGlobal), rows: &[Failed]) {
 }
 
 const CAPTURED: &[Failed] = &[
-    (1, CAPTURES, "show\ta.org\n", 22, TOLD),
-    (2, CAPTURES, "show\ta.org\n", 16, TOLD_OF_A_GROUP),
+    (1, CAPTURES, "show\ta.org\n", 26, TOLD),
+    (2, CAPTURES, "show\ta.org\n", 19, TOLD_OF_A_GROUP),
     // a show of a file that isn't held reads it
     (
         1,
         FIRST,
         "show\tb.org\nshow\ta.org\nnothing\n",
-        13,
+        15,
         TOLD_OF_A_SHOW,
     ),
     // nothing is pending on a fresh store
@@ -134,12 +134,12 @@ fn fail_each_settled(rt: &(impl Abort + AllocGlobal), rows: &[Settled]) {
 }
 
 const MOVED: &[Settled] = &[
-    // Each file is asked for its length and read; the record and the open gate are written with a
+    // Each file is asked for its length and read; the journal and both are tried; the record and the open gate are written with a
     // sync each; each file's patch is written, of which the source's has no bytes, and it is asked
     // for its length; the source is cut; both are synced, and the gate is closed with a sync.
-    (17, &[ACROSS]),
+    (20, &[ACROSS]),
     // one file, of which the made headings and the entry are one insertion
-    (11, &[REFILE_WITHIN, TO_A_HEAD, TO_A_DAY]),
+    (13, &[REFILE_WITHIN, TO_A_HEAD, TO_A_DAY]),
 ];
 
 #[test]
@@ -148,14 +148,14 @@ fn each_failed_call_of_a_move(rt: HostRuntime) {
 }
 
 const CHANGED: &[Settled] = &[
-    (17, &[TO_THE_ARCHIVE]),
-    (11, &[ARCHIVE_WITHIN]),
+    (20, &[TO_THE_ARCHIVE]),
+    (13, &[ARCHIVE_WITHIN]),
     // The files up to that of the clock that runs, three, are asked for their length and read. Of
     // the two that change each is written in one place, and none is cut.
-    (18, &[CLOCK_ELSEWHERE]),
+    (21, &[CLOCK_ELSEWHERE]),
     // The file is written in two places, at its keyword and from its planning line on: one write
     // more than a refile within it takes.
-    (12, &[REPEATED]),
+    (14, &[REPEATED]),
 ];
 
 #[test]
@@ -167,7 +167,7 @@ fn each_failed_call_of_an_archive_a_clock_and_a_repetition(rt: HostRuntime) {
 pub const CAPTURE: &str = "capture\ta.org\ttop\tlast\t2026-07-01 10:00\t* N\t\nshow\ta.org\n";
 
 // The call of a capture that syncs the open gate.
-const GATE_SYNC: u64 = 6;
+const GATE_SYNC: u64 = 8;
 
 // The disk once the sync of the open gate failed in a capture.
 fn gate_unsynced(rt: &(impl Abort + AllocGlobal)) -> MemoryDisk {

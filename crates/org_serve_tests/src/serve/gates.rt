@@ -7,18 +7,19 @@ use org_disk::{MemoryDisk, Outcome};
 use org_fixtures::{OUTCOMES, bytes_of, disk_with, file_name};
 use std::process::Abort;
 
-// A capture reads a length and a text, and writes its record; then its fifth call opens the gate.
-const RECORD: u64 = 3;
+// A capture reads a length and a text, tries the journal and its file, and writes its record; then
+// its seventh call opens the gate.
+const RECORD: u64 = 5;
 
-const GATE: u64 = 5;
+const GATE: u64 = 7;
 
-// An archive asks both files for their length and reads them, though the archive file isn't there;
-// the record is written and synced, and the gate is the seventh call.
-const ARCHIVE_GATE: u64 = 7;
+// An archive asks both files for their length and reads them, though the archive file isn't there,
+// and tries the journal and both; the record is written and synced, and the gate is the tenth call.
+const ARCHIVE_GATE: u64 = 10;
 
 // Behind the gate's sync the source's patch is written, and it is asked for its length and cut;
 // then the archive file's.
-const ARCHIVE_FILE: u64 = 12;
+const ARCHIVE_FILE: u64 = 15;
 
 // What a crash at this call behind the opening leaves, as the lines of a step are served.
 fn left_behind(

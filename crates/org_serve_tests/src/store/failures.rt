@@ -65,21 +65,21 @@ fn fail_at(rt: &(impl Abort + AllocGlobal), call: u64, is_accepted: bool) {
 
 const DONE: &[Row] = &[(Ask::Capture("a.org", "* B"), Answer::Done(1), 1, 1)];
 
-// A capture makes 11 calls, so it goes well where the next one fails.
+// A capture makes 13 calls, so it goes well where the next one fails.
 fn go_well(rt: &(impl Abort + AllocGlobal)) {
-    let mut store = failing(rt, 12);
+    let mut store = failing(rt, 14);
     ask_each(rt, &mut store, DONE);
     let disk = store.into_disk();
     let calls = disk.calls();
     drop(disk);
-    assert!(rt; calls == calls_of_opening(rt).saturating_add(11));
+    assert!(rt; calls == calls_of_opening(rt).saturating_add(13));
 }
 
 // A capture reads a length and a text; then it writes the record, opens the gate, writes the file,
 // asks for its length, and closes the gate, with a sync behind each of the four writes.
 #[test]
 fn a_failing_device(rt: HostRuntime) {
-    for call in 1..12u64 {
+    for call in 1..14u64 {
         fail_at(&rt, call, call > 2);
     }
     go_well(&rt);

@@ -1,82 +1,39 @@
-use Rattle.std.proofs.Common.{inl, inr, ℕ, List, drop, sym, ◌∙◌, ap, subst}
-use Rattle.std.proofs.lemmas.Result.{on_ok_weaker}
-use Rattle.org_disk.specs.Disk.{IsStable}
+use Rattle.std.proofs.Common.{ℕ, List, sym, subst}
+use Rattle.org_disk.specs.Disk.{FileState}
+use Rattle.org_disk.specs.Names.{journal_name}
 use Rattle.org_disk.proofs.Accounting.{accounts_then, accounts_ok}
-use Rattle.org_disk.proofs.Moments.{passes_then}
 use Rattle.org_journal.proofs.Accounted.{accounts_failed}
-use Rattle.org_journal.specs.Reading.{journal_at}
-use Rattle.org_journal.specs.Recovered.{contents, replayed}
-use Rattle.org_fileset.specs.Replay.{IsAtRest, IsReplayable}
-use Rattle.org_fileset.specs.Writes.{IsUnwritten}
-use Rattle.org_fileset.proofs.Writes.{alone_then}
-use Rattle.org_fileset.proofs.Starting.{since_start}
-use Rattle.org_fileset.proofs.Armed.{on_ok_never}
-use Rattle.org_fileset.proofs.Commits.{at_rest_recovers, still_can, still_made, still_takes}
+use Rattle.org_journal.specs.Gate.{HasClosedGate}
+use Rattle.org_fileset.specs.Replay.{AreApplicableTo}
+use Rattle.org_fileset.proofs.Tried.{commits_failed, commits_after}
 use Rattle.org_fileset.proofs.commit.commit_entries.Goals as goal
 
-pub returns-in_err-write_record-clause-commits : goal.returns-in_err-write_record-clause-commits
-returns-in_err-write_record-clause-commits g c ended =
-    let honest = c.write_record.ensures.accounts.was_honest ended in
-    let files = g.D.Disk.files c.args.disk.now in
-    let written = c.write_record.ensures.writes ended c.args.entries.now c.requires.body (c.requires.applicable honest) in
-    record {
-      commits = record {
-        done = on_ok_never _ c.from_residual.result c.from_residual.ensures.0;
-        any_moment = λ rest. since_start (written.any_moment rest) files (g.met.D.Disk.only_now c.args.disk.now) honest (λ image left. inl (at_rest_recovers files rest image left));
-        recoverable = λ rest. inl (λ name not. subst IsStable (sym (written.others name not)) (rest.stable name));
-        alone = written.alone;
-      };
-      closed = on_ok_never _ c.from_residual.result c.from_residual.ensures.0;
-    }
+pub returns-in_err-try_all-clause-commits : goal.returns-in_err-try_all-clause-commits
+returns-in_err-try_all-clause-commits g c ended =
+    let honest = c.try_all.ensures.accounts.was_honest ended in
+    commits_failed g.D.Disk c.args.entries.now c.args.disk.now (λ image left. g.met.D.Disk.only_now c.args.disk.now image honest left)
+    c.try_all.new.disk c.try_all.result (c.try_all.ensures.tries ended) (λ n. g.met.D.Disk.content_is_image c.try_all.new.disk n ended)
+    c.from_residual.result c.from_residual.ensures.0
 
-pub replay-requires-clause-opened : goal.replay-requires-clause-opened
-replay-requires-clause-opened g c ended =
-    let honest = c.write_record.ensures.accounts.was_honest ended in
-    (c.in_ok-write_record.ensures.writes ended c.args.entries.now c.requires.body (c.requires.applicable honest)).opened
+pub write_and_replay-requires-clause-applicable : goal.write_and_replay-requires-clause-applicable
+write_and_replay-requires-clause-applicable g c ended =
+    let looks = (c.in_ok-try_all.ensures.tries ended).ok in
+    subst (λ (f : List ℕ → FileState). AreApplicableTo c.args.entries.now f) (sym looks.same) (c.requires.applicable (c.try_all.ensures.accounts.was_honest ended))
 
-pub replay-requires-clause-applicable : goal.replay-requires-clause-applicable
-replay-requires-clause-applicable g c ended =
-    let can = c.requires.applicable (c.write_record.ensures.accounts.was_honest ended) in
-    let files = g.D.Disk.files in
-    let written = c.write_record.ensures.writes ended c.args.entries.now c.requires.body can in
-    still_can c.args.entries.now (files c.args.disk.now) can (files c.write_record.new.disk) written.others
+pub write_and_replay-requires-clause-gate : goal.write_and_replay-requires-clause-gate
+write_and_replay-requires-clause-gate g c ended =
+    let looks = (c.in_ok-try_all.ensures.tries ended).ok in
+    subst (λ (f : List ℕ → FileState). HasClosedGate (f journal_name)) (sym looks.same) (c.requires.gate (c.try_all.ensures.accounts.was_honest ended))
 
 pub returns-clause-commits : goal.returns-clause-commits
 returns-clause-commits g c ended =
-    let mid = c.replay.ensures.accounts.was_honest ended in
-    let honest = c.write_record.ensures.accounts.was_honest mid in
-    let entries = c.args.entries.now in
-    let can = c.requires.applicable honest in
-    let d = g.D.Disk in
-    let files = d.files c.args.disk.now in
-    let last = d.files c.write_record.new.disk in
-    let written = c.in_ok-write_record.ensures.writes mid entries c.requires.body can in
-    let replayable : IsAtRest files → IsReplayable entries last = λ rest. record {
-      others = λ name not none. subst IsStable (sym (written.others name not)) (rest.stable name);
-      texts = replayed entries (contents files);
-      takes = still_takes entries files can last written.others rest;
-    } in
-    let replays = c.replay.ensures.replays ended in
-    record {
-      commits = record {
-        done = on_ok_weaker c.replay.result (λ done. record {
-          made = λ name not. done.made name not ∙ still_made entries files can last written.others name not;
-          rest = λ rest. done.rest (replayable rest);
-        }) replays.done;
-        any_moment = λ rest. since_start (passes_then (written.any_moment rest) (replays.any_moment (replayable rest)) (λ image stands. inr stands)) files
-            (g.met.D.Disk.only_now c.args.disk.now) honest (λ image left. inl (at_rest_recovers files rest image left));
-        recoverable = λ rest. replays.recoverable (replayable rest);
-        alone = alone_then d (IsUnwritten entries) c.args.disk.now c.write_record.new.disk c.replay.new.disk written.alone replays.alone;
-      };
-      -- the record stays behind the gate
-      closed = on_ok_weaker c.replay.result (λ done. record {
-        gate = done.gate;
-        found = ap (λ (l : List ℕ). journal_at (drop 1 l)) done.journal ∙ written.opened.found;
-      }) replays.done;
-    }
+    let mid = c.write_and_replay.ensures.accounts.was_honest ended in
+    let honest = c.try_all.ensures.accounts.was_honest mid in
+    commits_after g.D.Disk c.args.entries.now c.args.disk.now (λ image left. g.met.D.Disk.only_now c.args.disk.now image honest left)
+    c.try_all.new.disk c.write_and_replay.new.disk (c.in_ok-try_all.ensures.tries mid).ok c.write_and_replay.result (c.write_and_replay.ensures.commits ended)
 
-pub returns-in_err-write_record-clause-accounts : goal.returns-in_err-write_record-clause-accounts
-returns-in_err-write_record-clause-accounts g c = accounts_failed c.from_residual.ensures.0 c.in_err-write_record.ensures.accounts
+pub returns-in_err-try_all-clause-accounts : goal.returns-in_err-try_all-clause-accounts
+returns-in_err-try_all-clause-accounts g c = accounts_failed c.from_residual.ensures.0 c.in_err-try_all.ensures.accounts
 
 pub returns-clause-accounts : goal.returns-clause-accounts
-returns-clause-accounts g c = accounts_then (accounts_ok c.in_ok-write_record.ensures.accounts) c.replay.ensures.accounts
+returns-clause-accounts g c = accounts_then (accounts_ok c.in_ok-try_all.ensures.accounts) c.write_and_replay.ensures.accounts

@@ -1,13 +1,8 @@
-use Rattle.std.proofs.Common.{rules, ◌≡◌, IsErr, length, subst}
+use Rattle.std.proofs.Common.{rules, ◌≡◌, IsErr, subst}
 use Rattle.org_disk.specs.Disk.{write}
 use Rattle.org_folder.specs.Calls.{AreRight}
-use Rattle.org_folder.proofs.Recorded.{does_write, does_write_nothing, does_not_come, looks_at_nothing, within_called}
+use Rattle.org_folder.proofs.Recorded.{does_write, does_not_come, looks_at_nothing, within_called}
 use Rattle.org_folder.proofs.folder.Folder.write.Goals as goal
-
-pub returns-then-is_empty : goal.returns-then-is_empty
-returns-then-is_empty g c = λ right.
-    let empty : length c.args.bytes.now ≡ 0 = search rules in
-    (right, does_write_nothing g.C.Calls.world c.args.name.now c.args.from c.args.bytes.now (g.C.Calls.history c.args.self.now.calls) tt empty right (c.requires right))
 
 pub returns-in_err-at : goal.returns-in_err-at
 returns-in_err-at g c = λ right.

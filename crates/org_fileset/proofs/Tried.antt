@@ -1,0 +1,187 @@
+-- Files that were tried, by writes of no bytes.
+use Rattle.std.proofs.Common.{◌≡◌, ◌≢◌, ◌⊎◌, inl, inr, ⊎_elim, ℕ, suc, ◌+◌, ◌<◌, ◌++◌, List, [], ◌∷◌, length, get_or, take, set, Result, Ok, Err, OnOk, IsErr, sym, ◌∙◌, ap, subst, arith}
+use Rattle.std.proofs.lemmas.Bool.{cases_lt}
+use Rattle.std.proofs.lemmas.List.{get_or-take, get_or_append_left, get_or-set_same, get_or-set_other, length-append, length-set, length-take-le}
+use Rattle.org_disk.specs.declared.disk.Disk.{Ghosts}
+use Rattle.org_disk.specs.declared.disk.DiskFault.{DiskFault}
+use Rattle.org_disk.specs.Accounts.{LooksOver, PassesOver}
+use Rattle.org_disk.specs.Disk.{FileState, IsImage, IsOutside, IsStable, AreImages, AreLeftBy, Changes, write}
+use Rattle.org_disk.proofs.Images.{only_image}
+use Rattle.org_disk.proofs.Moments.{Image, leaves_only, passes_as, passes_then}
+use Rattle.org_disk.proofs.Names.{name_cases}
+use Rattle.org_disk.proofs.Ranges.{nothing_written}
+use Rattle.org_journal.specs.declared.record.Entry.{Entry}
+use Rattle.org_journal.specs.Recovered.{contents, replayed}
+use Rattle.org_fileset.specs.Replay.{CommitsEntriesOver, IsAtRest, IsBeforeOrAfter, IsCommitted}
+use Rattle.org_fileset.specs.Writes.{IsUnwritten, TriesOver}
+use Rattle.org_fileset.proofs.Armed.{on_ok_never}
+use Rattle.org_fileset.proofs.Commits.{at_rest_recovers}
+use Rattle.org_fileset.proofs.Writes.{alone_looks, alone_then}
+
+-- A file that was on the disk, and of which a crash leaves no more than before, is on the disk.
+
+outside_cases : (ranges : List (ℕ × ℕ)) (i : ℕ) → IsOutside ranges i ⊎ (IsOutside ranges i → ⊥)
+outside_cases [] i = inl tt
+outside_cases (range ∷ ranges) i = elim (outside_cases ranges i) [
+  | inr among ↦ inr (λ outside. among outside.1)
+  | inl rest ↦ ⊎_elim
+      (λ before. inl (inl before, rest))
+      (λ from. ⊎_elim
+      (λ within. inr (λ outside. ⊎_elim (λ before. omega (arith, before, from)) (λ behind. omega (arith, behind, within)) outside.0))
+      (λ behind. inl (inr behind, rest))
+      (cases_lt i (range.0 + range.1)))
+      (cases_lt i range.0)
+]
+
+module _ (file : FileState) (own : IsImage file file.content) (only : (bytes : List ℕ) → IsImage file bytes → bytes ≡ file.content) where
+  least_is : file.least ≡ length file.content
+  least_is = ⊎_elim
+      (λ less.
+      let short : length (take file.least file.content) ≡ file.least = length-take-le file.least file.content (omega (arith, less)) in
+      let same = ap length (only (take file.least file.content) (record {
+        no_shorter = omega (arith, short);
+        no_longer = omega (arith, short, less, own.no_longer);
+        fixed = λ i fixed. get_or-take file.least file.content i 0 fixed.0;
+      })) in
+      absurd (omega (arith, short, same, less)))
+      (λ not. omega (arith, not, own.no_shorter))
+      (cases_lt file.least (length file.content))
+
+  greatest_is : file.greatest ≡ length file.content
+  greatest_is = ⊎_elim
+      (λ more.
+      let long : length (file.content ++ 0 ∷ []) ≡ length file.content + 1 = length-append file.content (0 ∷ []) in
+      let same = ap length (only (file.content ++ 0 ∷ []) (record {
+        no_shorter = omega (arith, long, own.no_shorter);
+        no_longer = omega (arith, long, more);
+        fixed = λ i fixed. get_or_append_left file.content (0 ∷ []) 0 i (omega (arith, fixed.0, own.no_shorter));
+      })) in
+      absurd (omega (arith, long, same)))
+      (λ not. omega (arith, not, own.no_longer))
+      (cases_lt (length file.content) file.greatest)
+
+  all_fixed : (i : ℕ) → i < length file.content → IsOutside file.written i
+  all_fixed i within = ⊎_elim
+      (λ outside. outside)
+      (λ among.
+      let other = set file.content i (suc (get_or file.content i 0)) in
+      let long : length other ≡ length file.content = length-set file.content i (suc (get_or file.content i 0)) in
+      let same = only other (record {
+        no_shorter = omega (arith, long, own.no_shorter);
+        no_longer = omega (arith, long, own.no_longer);
+        fixed = λ k fixed. get_or-set_other file.content i k (suc (get_or file.content i 0)) 0
+            (λ is. among (subst (λ (n : ℕ). IsOutside file.written n) is fixed.1));
+      }) in
+      let here : get_or other i 0 ≡ suc (get_or file.content i 0) = get_or-set_same file.content i (suc (get_or file.content i 0)) 0 within in
+      let there : get_or other i 0 ≡ get_or file.content i 0 = ap (λ (l : List ℕ). get_or l i 0) same in
+      absurd (omega (arith, here, there)))
+      (outside_cases file.written i)
+
+  stable_alone : IsStable file
+  stable_alone = record { least = least_is; greatest = greatest_is; fixed = all_fixed }
+
+pub still_stable : (old new : FileState) → IsStable old → IsImage new new.content → ((bytes : List ℕ) → IsImage new bytes → IsImage old bytes) → IsStable new
+still_stable old new stable own images =
+    stable_alone new own (λ bytes image. only_image stable bytes (images bytes image) ∙ sym (only_image stable new.content (images new.content own)))
+
+-- One try, of the file of this name
+
+module _ {D : Type 0} (g : Ghosts D) (name : List ℕ) (old new : D) (own : (n : List ℕ) → IsImage (g.files old n) (g.files old n).content)
+    (result : Result (Unit {0}) DiskFault) (changes : Changes (write 0 []) name (g.files old) (g.files new) result)
+    (time : PassesOver g old new (AreLeftBy (write 0 []) name (g.files old))) where
+  nothing : write 0 [] (g.files old name) ≡ g.files old name
+  nothing = nothing_written 0 (g.files old name) (omega arith) (own name)
+
+  before : (bytes : List ℕ) → IsImage (g.files old name) bytes ⊎ IsImage (write 0 [] (g.files old name)) bytes → IsImage (g.files old name) bytes
+  before bytes may = ⊎_elim (λ image. image) (λ after. subst (λ (f : FileState). IsImage f bytes) nothing after) may
+
+  pub try_passes : PassesOver g old new (AreImages (g.files old))
+  try_passes = passes_as time (λ image left n. elim (name_cases n name) [
+    | inl same ↦ subst (λ (m : List ℕ). IsImage (g.files old m) (image m)) (sym same.0) (before (image name) left.here)
+    | inr apart ↦ left.others n apart.0
+  ])
+
+module _ {D : Type 0} (g : Ghosts D) (name : List ℕ) (old new : D) (own : (n : List ℕ) → IsImage (g.files old n) (g.files old n).content) where
+  -- that was answered by Ok: the files are the same
+  pub try_looks : (done : Unit {0}) → Changes (write 0 []) name (g.files old) (g.files new) (Ok done) → PassesOver g old new (AreLeftBy (write 0 []) name (g.files old))
+      → LooksOver g old new
+  try_looks done changes time = record { same = λ j n. same n j; time = try_passes g name old new own (Ok done) changes time }
+    where
+      same : (n : List ℕ) → g.files new n ≡ g.files old n
+      same n = elim (name_cases n name) [
+        | inl is ↦ ap (λ (m : List ℕ). g.files new m) is.0 ∙ changes.ok ∙ nothing_written 0 (g.files old name) (omega arith) (own name) ∙ ap (λ (m : List ℕ). g.files old m) (sym is.0)
+        | inr apart ↦ changes.others n apart.0
+      ]
+
+  -- whatever is answered, a crash leaves no more of its file
+  here_images : (result : Result (Unit {0}) DiskFault) → Changes (write 0 []) name (g.files old) (g.files new) result → (bytes : List ℕ)
+      → IsImage (g.files new name) bytes → IsImage (g.files old name) bytes
+  here_images (Ok done) changes bytes image =
+      subst (λ (f : FileState). IsImage f bytes) (nothing_written 0 (g.files old name) (omega arith) (own name)) (subst (λ (f : FileState). IsImage f bytes) changes.ok image)
+  here_images (Err fault) changes bytes image =
+      ⊎_elim (λ before. before) (λ after. subst (λ (f : FileState). IsImage f bytes) (nothing_written 0 (g.files old name) (omega arith) (own name)) after) (changes.err.images bytes image)
+
+  pub try_images : (result : Result (Unit {0}) DiskFault) → Changes (write 0 []) name (g.files old) (g.files new) result → (n bytes : List ℕ)
+      → IsImage (g.files new n) bytes → IsImage (g.files old n) bytes
+  try_images result changes n bytes image = elim (name_cases n name) [
+    | inl is ↦ subst (λ (m : List ℕ). IsImage (g.files old m) bytes) (sym is.0) (here_images result changes bytes (subst (λ (m : List ℕ). IsImage (g.files new m) bytes) is.0 image))
+    | inr apart ↦ subst (λ (f : FileState). IsImage f bytes) (changes.others n apart.0) image
+  ]
+
+-- tries that only looked, and then one that failed
+pub tries_failed : {D : Type 0} (g : Ghosts D) (entries : List Entry) (name : List ℕ) (old mid new : D) → ((n : List ℕ) → IsImage (g.files mid n) (g.files mid n).content)
+    → LooksOver g old mid → (answer : Result (Unit {0}) DiskFault) → Changes (write 0 []) name (g.files mid) (g.files new) answer
+    → PassesOver g mid new (AreLeftBy (write 0 []) name (g.files mid)) → ((n : List ℕ) → IsUnwritten entries n → n ≢ name)
+    → (result : Result (Unit {0}) DiskFault) → IsErr result → TriesOver g entries old new result
+tries_failed g entries name old mid new own looks answer changes time apart result failed =
+    let same : (n : List ℕ) → g.files mid n ≡ g.files old n = λ n. ap (λ (f : List ℕ → FileState). f n) looks.same in
+    record {
+      ok = on_ok_never _ result failed;
+      time = passes_then looks.time (try_passes g name mid new own answer changes time) (λ image left n. subst (λ (f : FileState). IsImage f (image n)) (same n) (left n));
+      images = λ n bytes image. subst (λ (f : FileState). IsImage f bytes) (same n) (try_images g name mid new own answer changes n bytes image);
+      others = λ n is. changes.others n (apart n is) ∙ same n;
+    }
+
+-- tries of which none failed
+pub tries_looked : {D : Type 0} (g : Ghosts D) (entries : List Entry) (old new : D) → LooksOver g old new → (done : Unit {0}) → TriesOver g entries old new (Ok done)
+tries_looked g entries old new looks done =
+    let same : (n : List ℕ) → g.files new n ≡ g.files old n = λ n. ap (λ (f : List ℕ → FileState). f n) looks.same in
+    record {
+      ok = looks;
+      time = looks.time;
+      images = λ n bytes image. subst (λ (f : FileState). IsImage f bytes) (same n) image;
+      others = λ n is. same n;
+    }
+
+-- The commit whose files were tried
+
+module _ {D : Type 0} (g : Ghosts D) (entries : List Entry) (old : D) (only_now : (image : Image) → g.left_since old (g.instant old) image → AreImages (g.files old) image) where
+  -- a try failed: nothing was done
+  pub commits_failed : (new : D) (answer : Result (Unit {0}) DiskFault) → TriesOver g entries old new answer → ((n : List ℕ) → IsImage (g.files new n) (g.files new n).content)
+      → (result : Result (Unit {0}) DiskFault) → IsErr result → CommitsEntriesOver g entries old new result
+  commits_failed new answer tries own result failed = record {
+    commits = record {
+      done = on_ok_never _ result failed;
+      any_moment = λ rest. leaves_only (passes_as tries.time (λ image left. inl (at_rest_recovers (g.files old) rest image left)))
+          (λ image left. inl (at_rest_recovers (g.files old) rest image (only_now image left)));
+      recoverable = λ rest. inl (λ n not. still_stable (g.files old n) (g.files new n) (rest.stable n) (own n) (tries.images n));
+      alone = record { same = tries.others; time = passes_as tries.time (λ image left n this. left n) };
+    };
+    closed = on_ok_never _ result failed;
+  }
+
+  -- none failed: the files were as at the start
+  pub commits_after : (mid new : D) → LooksOver g old mid → (result : Result (Unit {0}) DiskFault) → CommitsEntriesOver g entries mid new result → CommitsEntriesOver g entries old new result
+  commits_after mid new looks result commits = record {
+    commits = record {
+      done = subst (λ (f : List ℕ → FileState). OnOk result (IsCommitted (replayed entries (contents f)) f (g.files new))) looks.same commits.commits.done;
+      any_moment = λ rest. leaves_only (passes_then
+          (passes_as looks.time (λ image left. inl (at_rest_recovers (g.files old) rest image left)))
+          (commits.commits.any_moment (subst IsAtRest (sym looks.same) rest)).passes
+          (λ image stands. subst (λ (f : List ℕ → FileState). IsBeforeOrAfter (contents f) (replayed entries (contents f)) image) looks.same stands))
+          (λ image left. inl (at_rest_recovers (g.files old) rest image (only_now image left)));
+      recoverable = λ rest. commits.commits.recoverable (subst IsAtRest (sym looks.same) rest);
+      alone = alone_then g (IsUnwritten entries) old mid new (alone_looks g (IsUnwritten entries) old mid looks) commits.commits.alone;
+    };
+    closed = commits.closed;
+  }
