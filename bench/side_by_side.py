@@ -394,16 +394,21 @@ def sizes(text):
 def options(about):
     parser = argparse.ArgumentParser(description=about)
     parser.add_argument("folder", help="lies on the disk to measure; the files are made in a new folder in it")
-    parser.add_argument("--program", help="the program; without it the one of ./run, proved and built where need be")
+    parser.add_argument("--program", help="the program; without it the one of ./run, built where need be")
     parser.add_argument("--rounds", type=int, default=5, help="by turns of both, of which the medians are told (5)")
     parser.add_argument("--quick", action="store_true", help="small counts and sizes, to try the script; no figures")
     return parser
 
 
 def program_of(chosen):
+    """The program that was chosen, or the one that ./run takes."""
     if chosen is None:
-        subprocess.run([os.path.join(TOP, "run"), "--help"], stdout=subprocess.DEVNULL, stderr=subprocess.DEVNULL)
-        chosen = os.path.join(TOP, "crates", "orgstore", "out", "orgstore")
+        found = subprocess.run([os.path.join(TOP, "packaging", "program")], stdout=subprocess.PIPE, text=True)
+        if found.returncode != 0:
+            fail("there is no program to measure")
+        chosen = found.stdout.rstrip("\n")
+        if "/out/unproved/" in chosen:
+            print("This program isn't proved, and checks indexes and overflows as it runs: ./test proves one without.")
     if not os.access(chosen, os.X_OK):
         fail("no program " + chosen)
     return os.path.realpath(chosen)
