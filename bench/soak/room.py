@@ -49,10 +49,9 @@ class Room:
         self._mount()
         shutil.rmtree(self.notes, ignore_errors=True)
         os.makedirs(self.notes)
-        for source in ("tests/stops.c", "tests/breaks.c", "tests/refuse.c", "bench/soak/late.c"):
-            library = os.path.join(self.place, os.path.basename(source)[:-2] + ".so")
-            subprocess.run(["cc", "-O1", "-shared", "-fPIC", "-o", library, os.path.join(TOP, source), "-ldl", "-lrt"],
-                           check=True)
+        for name in ("stops", "breaks", "refuse", "late"):
+            library, source = os.path.join(self.place, name + ".so"), os.path.join(TOP, "tests", "preload", name + ".c")
+            subprocess.run(["cc", "-O1", "-shared", "-fPIC", "-o", library, source, "-ldl", "-lrt"], check=True)
         words = "'%s'" % self._real
         if self.plant in STORE_FAULTS:
             planted = os.path.join(TOP, "bench", "soak", "planted")

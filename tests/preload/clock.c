@@ -1,13 +1,8 @@
 // Preloaded into a program, it gives the program a clock. The file that CLOCK names begins with a second, counted from 1970:
 // so late it is when the file has changed, and from then on the clock goes as the real one does, so that a pause ends.
-#define _GNU_SOURCE
-#include <dlfcn.h>
-#include <fcntl.h>
-#include <stdlib.h>
-#include <string.h>
+#include "preload.h"
 #include <sys/time.h>
 #include <time.h>
-#include <unistd.h>
 
 typedef int Clock(clockid_t, struct timespec *);
 

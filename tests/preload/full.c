@@ -3,19 +3,7 @@
 //   FULL_AT=N      the call whose number, from 1, is N fails, and each later one, or with FULL_ONCE=1 that one alone; with
 //                  FULL_SHORT=1 a write there writes its first half, and the next call is the one that fails. Counted are
 //                  calls that may need room: those that make, write, cut or sync a file
-#define _GNU_SOURCE
-#include <dlfcn.h>
-#include <errno.h>
-#include <fcntl.h>
-#include <stdarg.h>
-#include <stdlib.h>
-#include <sys/stat.h>
-#include <unistd.h>
-
-static long number_in(const char *name) {
-    const char *text = getenv(name);
-    return text ? atol(text) : -1;
-}
+#include "open.h"
 
 static long made, grown;
 
@@ -32,27 +20,9 @@ static int fails(void) {
     return number_in("FULL_ONCE") == 1 ? made == at : made >= at;
 }
 
-// The call of this type that the library stands before.
-#define REAL(type, name) ((type)dlsym(RTLD_NEXT, name))
-
-static mode_t mode_in(int flags, va_list more) { return flags & O_CREAT ? va_arg(more, mode_t) : 0; }
-
-int open(const char *path, int flags, ...) {
-    va_list more;
-    va_start(more, flags);
-    mode_t mode = mode_in(flags, more);
-    va_end(more);
-    if (flags & O_CREAT && fails()) return refuse();
-    return REAL(int (*)(const char *, int, ...), "open")(path, flags, mode);
-}
-
-int openat(int folder, const char *path, int flags, ...) {
-    va_list more;
-    va_start(more, flags);
-    mode_t mode = mode_in(flags, more);
-    va_end(more);
-    if (flags & O_CREAT && fails()) return refuse();
-    return REAL(int (*)(int, const char *, int, ...), "openat")(folder, path, flags, mode);
+static int opening(int folder, const char *path, int flags) {
+    (void)folder, (void)path;
+    return flags & O_CREAT && fails() ? refuse() : 0;
 }
 
 // How many bytes of a write to this file there is room for.

@@ -1,18 +1,11 @@
 // Preloaded into a program, it kills the program before one of the calls with which it changes the folder KILLS_IN: the one
 // whose number, from 1, is in KILLS_AT. Such a call opens a file for writing, writes or cuts one, renames or deletes. Where
 // KILLS_FROM names a file, calls count from when that one is deleted.
-#define _GNU_SOURCE
-#include <dlfcn.h>
-#include <fcntl.h>
+#include "open.h"
 #include <limits.h>
-#include <signal.h>
-#include <stdarg.h>
 #include <stdio.h>
-#include <stdlib.h>
-#include <string.h>
-#include <unistd.h>
 
-static unsigned long made;
+static long made;
 static int counts;
 
 __attribute__((constructor)) static void start(void) { counts = getenv("KILLS_FROM") == NULL; }
@@ -25,8 +18,7 @@ static int is_below(const char *path) {
 
 // Kills the program, where this call in the folder is the one.
 static void count(void) {
-    const char *at = getenv("KILLS_AT");
-    if (counts && at && ++made == strtoul(at, NULL, 10)) kill(getpid(), SIGKILL);
+    if (counts && getenv("KILLS_AT") && ++made == number_in("KILLS_AT")) kill(getpid(), SIGKILL);
 }
 
 static void count_file(int file) {
@@ -46,31 +38,9 @@ static void count_path(int folder, const char *path) {
     if (is_below(whole)) count();
 }
 
-static void count_opening(int folder, const char *path, int flags) {
+static int opening(int folder, const char *path, int flags) {
     if ((flags & O_ACCMODE) != O_RDONLY) count_path(folder, path);
-}
-
-// The call of this type that the library stands before.
-#define REAL(type, name) ((type)dlsym(RTLD_NEXT, name))
-
-static mode_t mode_in(int flags, va_list more) { return flags & O_CREAT ? va_arg(more, mode_t) : 0; }
-
-int open(const char *path, int flags, ...) {
-    va_list more;
-    va_start(more, flags);
-    mode_t mode = mode_in(flags, more);
-    va_end(more);
-    count_opening(AT_FDCWD, path, flags);
-    return REAL(int (*)(const char *, int, ...), "open")(path, flags, mode);
-}
-
-int openat(int folder, const char *path, int flags, ...) {
-    va_list more;
-    va_start(more, flags);
-    mode_t mode = mode_in(flags, more);
-    va_end(more);
-    count_opening(folder, path, flags);
-    return REAL(int (*)(int, const char *, int, ...), "openat")(folder, path, flags, mode);
+    return 0;
 }
 
 int open64(const char *path, int flags, ...) __attribute__((alias("open")));

@@ -1,7 +1,5 @@
 // Preloaded into a program, it kills it so many microseconds after its start as LATE says.
-#define _GNU_SOURCE
-#include <signal.h>
-#include <stdlib.h>
+#include "preload.h"
 #include <time.h>
 
 __attribute__((constructor)) static void start(void) {

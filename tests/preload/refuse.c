@@ -1,9 +1,7 @@
 // Preloaded into a program, it refuses one of its allocations: the one whose number, from 1, is in REFUSE. With 0 it
 // refuses none, and tells on standard error how many there were.
-#define _GNU_SOURCE
-#include <dlfcn.h>
+#include "preload.h"
 #include <stdio.h>
-#include <stdlib.h>
 
 static unsigned long made, refused;
 

@@ -3,18 +3,9 @@
 //   kill    the program is killed before the call; of a write the first half goes out first
 //   full    this write and each later one fails, as on a full disk; only writes are counted
 // Where STOPS_DENIED names a file, opening it for writing fails, as it does for a user who may only read it.
-#define _GNU_SOURCE
-#include <dlfcn.h>
-#include <errno.h>
-#include <fcntl.h>
-#include <signal.h>
-#include <stdarg.h>
-#include <stdlib.h>
-#include <string.h>
-#include <sys/stat.h>
-#include <unistd.h>
+#include "open.h"
 
-static unsigned long made;
+static long made;
 
 static int is_how(const char *how) {
     const char *wanted = getenv("STOPS_HOW");
@@ -23,10 +14,9 @@ static int is_how(const char *how) {
 
 // Counts a call, and says whether it is the one; where WRITES isn't 0 it is a write.
 static int stops(int writes) {
-    const char *at = getenv("STOPS_AT");
-    if (!at) return 0;
-    unsigned long number = strtoul(at, NULL, 10);
-    return is_how("full") ? writes && ++made >= number : ++made == number;
+    long at = number_in("STOPS_AT");
+    if (at < 0) return 0;
+    return is_how("full") ? writes && ++made >= at : ++made == at;
 }
 
 static void die(void) { kill(getpid(), SIGKILL); }
@@ -38,27 +28,10 @@ static int denied(const char *path, int flags) {
     return 1;
 }
 
-// The call of this type that the library stands before.
-#define REAL(type, name) ((type)dlsym(RTLD_NEXT, name))
-
-static mode_t mode_in(int flags, va_list more) { return flags & O_CREAT ? va_arg(more, mode_t) : 0; }
-
-int open(const char *path, int flags, ...) {
-    va_list more;
-    va_start(more, flags);
-    mode_t mode = mode_in(flags, more);
-    va_end(more);
+static int opening(int folder, const char *path, int flags) {
+    (void)folder;
     if (stops(0)) die();
-    return denied(path, flags) ? -1 : REAL(int (*)(const char *, int, ...), "open")(path, flags, mode);
-}
-
-int openat(int folder, const char *path, int flags, ...) {
-    va_list more;
-    va_start(more, flags);
-    mode_t mode = mode_in(flags, more);
-    va_end(more);
-    if (stops(0)) die();
-    return denied(path, flags) ? -1 : REAL(int (*)(int, const char *, int, ...), "openat")(folder, path, flags, mode);
+    return denied(path, flags);
 }
 
 ssize_t pread(int file, void *into, size_t size, off_t from) {

@@ -1,14 +1,8 @@
 // Preloaded into a program, it tells each sync that succeeds, as a line with the last part of what was synced, behind the
 // file that SYNCS names. The sync whose number, from 1, is in FAIL fails; with 0 none does.
-#define _GNU_SOURCE
-#include <dlfcn.h>
-#include <errno.h>
-#include <fcntl.h>
+#include "preload.h"
 #include <limits.h>
 #include <stdio.h>
-#include <stdlib.h>
-#include <string.h>
-#include <unistd.h>
 
 static unsigned long made;
 

@@ -1,0 +1,158 @@
+"""What the scripts of this folder share: their words, the program that they try, and their end.
+
+A Python script begins with
+
+    sys.dont_write_bytecode = True
+    from common import given  # noqa: E402
+    given(__doc__)
+
+and finds its program in sys.argv[1], and its further words behind it. A shell script sources common.sh, which calls this
+file. `--help` prints the script's own text. A first word with a slash is the program; without one it is the program that
+./run takes, which is built where need be.
+
+The script goes on in a child of this process. However it ends, also by a signal, what it started ends with it: this process
+adopts what loses its parent, and kills what is left. What root mounts there is seen by these processes alone, and goes with
+them.
+"""
+import argparse
+import contextlib
+import ctypes
+import os
+import signal
+import subprocess
+import sys
+import time
+from typing import List, Optional, Tuple
+
+TOP = os.path.dirname(os.path.dirname(os.path.abspath(__file__)))
+PARENT_ENDS, ADOPT = 1, 36  # PR_SET_PDEATHSIG, PR_SET_CHILD_SUBREAPER
+NEW_MOUNTS, ALL_PRIVATE = 0x20000, 0x44000  # CLONE_NEWNS, MS_REC | MS_PRIVATE
+ENDING = signal.SIGTERM, signal.SIGHUP, signal.SIGINT
+SECONDS_TO_END = 5
+
+
+def given(about: Optional[str], words: str = "", flags: Tuple[str, ...] = (), takes_program: bool = True) -> None:
+    """Reads a script's command line, and has it end as it is said above. `words` says what its further words are for; flags
+    stand between the program and these."""
+    script = os.path.relpath(os.path.realpath(sys.argv[0]), TOP)
+    parser = argparse.ArgumentParser(prog=script, description=about, formatter_class=argparse.RawDescriptionHelpFormatter)
+    if takes_program:
+        parser.add_argument("program", nargs="?", metavar="PROGRAM", help="its path, with a slash; without it that of ./run")
+    if words:
+        parser.add_argument("words", nargs="*", default=[], metavar="WORD", help=words)
+    for flag in flags:
+        parser.add_argument(flag, action="store_true")
+    found = parser.parse_intermixed_args()
+    named, more = getattr(found, "program", None), getattr(found, "words", [])
+    if named and "/" not in named:
+        if not words:
+            parser.error("a program is a path with a slash, and this is none: " + named)
+        named, more = None, [named, *more]
+    if named and not os.access(named, os.X_OK):
+        parser.error("there is no program " + named)
+    supervise()
+    program = [os.path.abspath(named) if named else the_program()] if takes_program else []
+    sys.argv[1:] = [*program, *(flag for flag in flags if getattr(found, flag.lstrip("-"))), *more]
+
+
+def the_program() -> str:
+    """The program that ./run takes."""
+    made = subprocess.run([TOP + "/packaging/program"], stdout=subprocess.PIPE, text=True, check=False)
+    if made.returncode != 0:
+        print("0 passed, 1 failed")
+        sys.exit(1)
+    return made.stdout.rstrip("\n")
+
+
+def supervise() -> None:
+    """Goes on in a child. Here it waits until the child has ended, kills what is left of it, and ends as it did."""
+    libc = ctypes.CDLL(None)
+    libc.prctl(ADOPT, 1, 0, 0, 0)
+    if os.geteuid() == 0 and libc.unshare(NEW_MOUNTS) == 0:
+        libc.mount(None, b"/", None, ALL_PRIVATE, None)
+    sys.stdout.flush()
+    child = os.fork()
+    if child == 0:
+        # In a group of its own: a Ctrl-C reaches it once, by way of the parent.
+        os.setpgid(0, 0)
+        libc.prctl(PARENT_ENDS, signal.SIGTERM, 0, 0, 0)
+        for number in ENDING:
+            signal.signal(number, end_once)
+        return
+    status = wait_for(child)
+    signal.setitimer(signal.ITIMER_REAL, 0)
+    while left := children(os.getpid()):
+        for process in left:
+            kill_tree(process)
+            os.waitpid(process, 0)
+    os._exit(status)
+
+
+def end_once(number: int, _: object) -> None:
+    """Ends a script with its `finally` parts, which no second signal breaks off."""
+    for each in ENDING:
+        signal.signal(each, signal.SIG_IGN)
+    sys.exit(128 + number)
+
+
+def wait_for(child: int) -> int:
+    """The status of the child, once it has ended. A signal goes on to the child's group. Where that isn't enough, what the
+    child waits for is killed some seconds later, and in the end the child. Whatever else ends meanwhile is no zombie."""
+    asked: List[float] = []
+
+    def ask(number: int, _: object) -> None:
+        if not asked:
+            asked.append(time.monotonic())
+            os.killpg(child, number)
+            signal.setitimer(signal.ITIMER_REAL, SECONDS_TO_END, SECONDS_TO_END)
+
+    def insist(_: int, __: object) -> None:
+        for process in children(child):
+            kill_tree(process)
+        if time.monotonic() - asked[0] > 2 * SECONDS_TO_END:
+            os.kill(child, signal.SIGKILL)
+
+    with contextlib.suppress(OSError):
+        os.setpgid(child, child)
+    for number in ENDING:
+        signal.signal(number, ask)
+    signal.signal(signal.SIGALRM, insist)
+    while True:
+        ended, status = os.wait()
+        if ended == child:
+            return os.WEXITSTATUS(status) if os.WIFEXITED(status) else 128 + os.WTERMSIG(status)
+
+
+def children(process: int) -> List[int]:
+    """The processes that have this parent."""
+    found = []
+    for name in os.listdir("/proc"):
+        if name.isdigit():
+            try:
+                with open("/proc/%s/stat" % name, "rb") as file:
+                    if int(file.read().rpartition(b")")[2].split()[1]) == process:
+                        found.append(int(name))
+            except OSError:
+                continue
+    return found
+
+
+def kill_tree(process: int) -> None:
+    """Kills a process and all below it."""
+    for child in children(process):
+        kill_tree(child)
+    with contextlib.suppress(ProcessLookupError, PermissionError):
+        os.kill(process, signal.SIGKILL)
+
+
+def main() -> None:
+    """Runs a command as a script of this folder: common.py COMMAND.."""
+    supervise()
+    os.environ["SUPERVISOR"] = str(os.getppid())
+    for number in ENDING:
+        signal.signal(number, signal.SIG_DFL)
+    os.execvp(sys.argv[1], sys.argv[1:])
+
+
+if __name__ == "__main__":
+    main()
