@@ -1,47 +1,28 @@
 """How a text is read: rows worked by hand from docs/MODEL.md, and random texts against the program's own lookup."""
+import codecs
+import os
 import random
 import unittest
-from typing import List, Sequence, Tuple, Union
+from typing import Iterator, List, Sequence, Tuple, Union
 
 import orgstore
 from orgstore import Archive, Heading, NotFound, NotUnique, Refused, States, Store, headings, lookup, titles
 
 from .support import M, FolderTest, closed
 
-# A heading line; its keyword, priority, title and tags.
-PARTS: List[Tuple[bytes, Tuple[str, str, str, Tuple[str, ...]]]] = [
-    (b"* TODO [#A] Call Ann :work:phone:", ("TODO", "[#A]", "Call Ann", ("work", "phone"))),
-    (b"* TODO", ("TODO", "", "", ())),
-    (b"* TODO[#A] x", ("", "", "TODO[#A] x", ())),
-    (b"* [#a]x", ("", "[#a]", "x", ())),
-    (b"* TODO :x:", ("TODO", "", "", ("x",))),
-    (b"* :x:", ("", "", "", ("x",))),
-    (b"* [#A]:x:", ("", "[#A]", ":x:", ())),
-    (b"* [#A] :x:", ("", "[#A]", "", ("x",))),
-    (b"* A :a::b:", ("", "", "A :a::b:", ())),
-    (b"* A\r ", ("", "", "A", ())),
-    (b"* A\r :x:", ("", "", "A\r", ("x",))),
-    (b"* \r", ("", "", "", ())),
-    (b"* TODO\r", ("TODO", "", "", ())),
-    (b"* TODO\r x", ("", "", "TODO\r x", ())),
-    (b"*  \t TODO\tA\t:x:\t", ("TODO", "", "A", ("x",))),
-    (b"* todo A", ("", "", "todo A", ())),
-    (b"* DONE TODO A", ("DONE", "", "TODO A", ())),
-    (b"* COMMENT A", ("", "", "COMMENT A", ())),
-    (b"* [#A] [#B] A", ("", "[#A]", "[#B] A", ())),
-    (b"* [#AB] A", ("", "", "[#AB] A", ())),
-    (b"* [#A] TODO A", ("", "[#A]", "TODO A", ())),
-    (b"* A :a b:", ("", "", "A :a b:", ())),
-    (b"* A:x:", ("", "", "A:x:", ())),
-    (b"* A :x", ("", "", "A :x", ())),
-    (b"* A ::", ("", "", "A ::", ())),
-    (b"* A :", ("", "", "A :", ())),
-    (b"* A :x: :y:", ("", "", "A :x:", ("y",))),
-    (b"* A :a_@#%9:\xc3\xa9\xff:", ("", "", "A", ("a_@#%9", "\u00e9\udcff"))),
-    (b"* A :a-b:", ("", "", "A :a-b:", ())),
-    (b"* \xff\x00\x0b", ("", "", "\udcff\x00\x0b", ())),
-    (b"* \xc2\xa0A\xc2\xa0", ("", "", "\u00a0A\u00a0", ())),
-]
+# Of each row a heading's line, its keyword, priority, title and tags; tests/rows/headings.txt says more.
+ROWS = os.path.join(os.path.dirname(os.path.abspath(__file__)), "../../../tests/rows/headings.txt")
+
+
+def parts() -> Iterator[Tuple[bytes, Tuple[str, str, str, Tuple[str, ...]]]]:
+    with open(ROWS, encoding="ascii") as file:
+        for row in file:
+            if not row.startswith("#"):
+                line, *columns = (codecs.decode(column, "unicode_escape").encode("latin-1")
+                                  for column in row.rstrip("\n").split("|"))
+                keyword, priority, title, tags = (it.decode("utf-8", "surrogateescape") for it in columns[:4])
+                yield line, (keyword, priority, title, tuple(tags.split(":")[1:-1]))
+
 
 SKIPPED = b"p\n*\n*\tx\n* A\n*** X\n** Y\n**** Z\n#+BEGIN_SRC\n* A\n#+END_SRC\n*bold*\n* A"
 
@@ -54,11 +35,11 @@ class Rows(unittest.TestCase):
     """Texts by hand."""
 
     def test_parts(self) -> None:
-        for line, parts in PARTS:
+        for line, wanted in parts():
             for text in (line, line + b"\n", b"x\n" + line + b"\ny"):
                 with self.subTest(text=text):
                     (heading,) = headings(text)
-                    self.assertEqual((heading.keyword, heading.priority, heading.title, heading.tags), parts)
+                    self.assertEqual((heading.keyword, heading.priority, heading.title, heading.tags), wanted)
 
     def test_trees(self) -> None:
         self.assertEqual([row(heading) for heading in headings(SKIPPED)], [
