@@ -1,5 +1,6 @@
 """A folder that can't be opened, a disk that fails, a program that ends: what is raised, and what it says."""
 import os
+import shutil
 import subprocess
 import sys
 import threading
@@ -7,7 +8,7 @@ import time
 from typing import Callable, List, Optional, Tuple, Type
 
 import orgstore
-from orgstore import CannotOpen, Capture, Closed, Died, Done, Error, Fault, Locked, NoProgram, Store
+from orgstore import CannotOpen, Capture, Closed, Died, Done, Error, Fault, Locked, NoProgram, Store, process
 
 from .support import M, FolderTest
 
@@ -253,20 +254,19 @@ class Places(FolderTest):
     """Where the program is looked for, and the version."""
 
     def test_version(self) -> None:
-        """A checkout has it in the file VERSION, and an installed module in itself."""
+        """A checkout has it in the file VERSION, and an installed package in itself."""
         top = self.folder({})
         place = os.path.join(top, "clients", "python")
-        os.makedirs(place)
-        with open(orgstore.__file__, encoding="utf-8") as file:
-            module = file.read()
+        package = os.path.join(place, "orgstore")
+        shutil.copytree(os.path.dirname(orgstore.__file__), package)
+        module = self.read(package, "version.py")
         ask = [sys.executable, "-c", "import orgstore; print(orgstore.__version__)"]
-        for files, wanted in (
-            ([(place, "orgstore.py", module)], "0"),
-            ([(top, "VERSION", "1.2.3\n")], "1.2.3"),
-            ([(place, "orgstore.py", module.replace('_INSTALLED = ""', '_INSTALLED = "1.2.4"'))], "1.2.4"),
+        for folder, name, text, wanted in (
+            (package, "version.py", module, "0"),
+            (top, "VERSION", b"1.2.3\n", "1.2.3"),
+            (package, "version.py", module.replace(b'_INSTALLED = ""', b'_INSTALLED = "1.2.4"'), "1.2.4"),
         ):
-            for folder, name, text in files:
-                write(folder, name, text.encode())
+            write(folder, name, text)
             said = subprocess.run(ask, cwd=place, stdout=subprocess.PIPE, check=True, text=True).stdout
             self.assertEqual(said, wanted + "\n")
 
@@ -275,21 +275,19 @@ class Places(FolderTest):
         self.addCleanup(os.environ.__setitem__, "ORGSTORE_PROGRAM", given)
         self.assertEqual(orgstore.program(), given)
         prefix = self.folder({})
-        for folder in ("bin", "lib", "lib/python3", "lib/python3/site-packages"):
-            os.mkdir(os.path.join(prefix, folder))
-        places = orgstore._program_places(os.path.join(prefix, "lib/python3/site-packages"))
-        self.assertIn(os.path.join(prefix, "bin/orgstore"), places)
+        for way in ("lib/python3/dist-packages", "lib/python3.11/site-packages", "lib/orgstore"):
+            package = os.path.join(prefix, way, "orgstore")
+            self.assertIn(os.path.join(prefix, "bin/orgstore"), process.program_places(package))
         here = os.path.dirname(os.path.dirname(os.path.abspath(__file__)))
         top = os.path.dirname(os.path.dirname(here))
-        self.assertEqual(orgstore._program_places(here), [os.path.join(top, "run")])
+        self.assertEqual(process.program_places(os.path.join(here, "orgstore")), [os.path.join(top, "run")])
 
     def test_none(self) -> None:
         for name, value in (("ORGSTORE_PROGRAM", ""), ("PATH", self.folder({}))):
             self.addCleanup(os.environ.__setitem__, name, os.environ[name])
             os.environ[name] = value
-        places = orgstore._program_places
-        self.addCleanup(setattr, orgstore, "_program_places", places)
-        orgstore._program_places = lambda folder: ["/nowhere/bin/orgstore"]
+        self.addCleanup(setattr, process, "program_places", process.program_places)
+        process.program_places = lambda folder: ["/nowhere/bin/orgstore"]
         with self.assertRaises(NoProgram) as caught:
             orgstore.many("x", [Capture("a.org", "* N")])
         self.assertEqual(str(caught.exception), "there is no program orgstore on the PATH, and none at "

@@ -1,0 +1,51 @@
+"""A client of `orgstore`, the crash-safe store for a folder of Org files.
+
+A `Store` holds one process of the program, open on one folder. Its methods are the program's commands:
+
+    >>> import datetime, os, tempfile
+    >>> folder = tempfile.mkdtemp()
+    >>> with open(os.path.join(folder, "work.org"), "w") as file:
+    ...     _ = file.write("* Work\\n** TODO Pay rent\\n")
+    >>> ten = datetime.datetime(2026, 7, 1, 10, 0)
+    >>> with Store(folder) as store:
+    ...     done = store.capture("work.org", "* TODO Call Ann\\nask for 50% off\\n", to=Under("Work"), moment=ten)
+    ...     done = store.todo("work.org", "Work/Pay rent", "DONE", moment=ten)
+    ...     print(store.acknowledged, "commands are safe")
+    ...     print(store.show("work.org").decode(), end="")
+    2 commands are safe
+    * Work
+    ** DONE Pay rent
+    CLOSED: [2026-07-01 Wed 10:00]
+    ** TODO Call Ann
+    ask for 50% off
+
+A command that was answered `safe` outlives a crash, a power cut and a kill; any other is then done whole or not at all.
+What the program refuses is raised as a `Refused`: it changed nothing, and its text says what to do.
+
+The module reads no file of the folder and writes none: all goes through the program. While a store is open, nobody
+else should write its folder. What another program wrote between two commands is noticed, and the store is opened anew.
+A store isn't for several threads at once.
+"""
+from __future__ import annotations
+
+from .commands import Archive, Capture, CaptureTemplate, ClockIn, ClockOut, Command, Done, Refile, Todo
+from .errors import (AlreadyArchive, BadEntry, BadLine, BadLocation, BadRepeat, BadTemplate, CannotOpen, CannotRead,
+                     Changed, ClockBackwards, Closed, DateRange, Died, Error, Fault, InsideItself, Locked, NoClock,
+                     NoProgram, NoSuchFile, NotFound, NotUnique, OddPlanning, Refused, TooLarge, UnknownState)
+from .heading import Heading, States, headings, lookup
+from .lines import Moment, Path, Text, titles
+from .process import program
+from .store import Store, many
+from .targets import Date, Head, Target, Top, Under
+from .version import version
+
+__all__ = [
+    "AlreadyArchive", "Archive", "BadEntry", "BadLine", "BadLocation", "BadRepeat", "BadTemplate", "CannotOpen",
+    "CannotRead", "Capture", "CaptureTemplate", "Changed", "ClockBackwards", "ClockIn", "ClockOut", "Closed", "Command",
+    "Date", "DateRange", "Died", "Done", "Error", "Fault", "Head", "Heading", "InsideItself", "Locked", "Moment",
+    "NoClock", "NoProgram", "NoSuchFile", "NotFound", "NotUnique", "OddPlanning", "Path", "Refile", "Refused", "States",
+    "Store", "Target", "Text", "Todo", "TooLarge", "Top", "Under", "UnknownState", "headings", "lookup", "many",
+    "program", "titles",
+]
+
+__version__ = version()

@@ -1,0 +1,1 @@
+"""The command `orgs`: a module a group of subcommands, over the package."""

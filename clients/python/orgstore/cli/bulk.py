@@ -1,0 +1,125 @@
+"""Commands over many entries, under one lock."""
+from __future__ import annotations
+
+import signal
+from dataclasses import dataclass
+from typing import Any, Callable, Dict, List, Optional, Tuple
+
+from ..commands import Command
+from ..errors import Error, Refused
+from ..store import Store
+from .entries import Entry, twin
+from .explain import stop_of
+from .report import Progress, ask, at_terminal, counted
+from .run import Run
+from .stops import INTERRUPTED, OK, REFUSED, Stop
+
+BULK_GROUP = 100
+
+
+@dataclass(frozen=True)
+class Step:
+    """One command of many: the entry, why it is among them, and what is sent."""
+
+    entry: Entry
+    note: str
+    command: Command
+
+
+@dataclass
+class Plan:
+    """What a command over many entries will do, and the entries that it leaves, each with the reason."""
+
+    steps: List[Step]
+    left: List[Tuple[Entry, str]]
+
+
+def bulk(run: Run, plan: Callable[[Dict[str, bytes]], Plan], names: Optional[List[str]], verb: str, past: str) -> int:
+    """Says what a command over many entries will do, asks at a terminal, and does it under one lock."""
+    folder, options = run.folder, run.options
+    names = names or folder.names(archives=False)
+    asked = not options.yes and not options.dry_run and at_terminal()
+    shown: Optional[Plan] = None
+    if options.dry_run or asked:
+        shown = plan(folder.snapshot(names))
+        say_plan(run, shown, verb)
+        if options.dry_run:
+            return REFUSED if twins(shown) else OK
+        question = "%s %s? [y/N] " % (verb.capitalize(), counted(len(shown.steps), "heading"))
+        if not shown.steps or ask(question).lower() not in ("y", "yes"):
+            run.report.warn("nothing was changed")
+            return REFUSED if twins(shown) else OK
+    with folder.open(group=BULK_GROUP) as store:
+        now = plan({name: folder.read(name) for name in names})
+        if shown is not None:
+            agreed = {(step.entry.file, step.entry.heading.path) for step in shown.steps}
+            now.steps = [step for step in now.steps if (step.entry.file, step.entry.heading.path) in agreed]
+            now.left = []
+        if getattr(options, "first", False):
+            now.steps.reverse()
+        return send(run, store, now, past) or (REFUSED if shown and twins(shown) else OK)
+
+
+def twins(plan: Plan) -> List[Entry]:
+    """The entries that no path leads to alone."""
+    return [entry for entry, reason in plan.left if reason == "NotUnique"]
+
+
+def say_plan(run: Run, plan: Plan, verb: str) -> None:
+    """Says what would be done."""
+    for step in plan.steps:
+        note = "  (%s)" % step.note if step.note else ""
+        run.report.say(step.entry.line() + note, reply="would", command=run.options.command, **step.entry.fields())
+    say_left(run, plan)
+    if not run.report.as_json:
+        run.report.warn("%d to %s%s" % (len(plan.steps), verb, ", nothing was changed" if run.options.dry_run else ""))
+
+
+def say_left(run: Run, plan: Plan) -> None:
+    """Says what is left, and why."""
+    for entry, reason in plan.left:
+        if reason == "NotUnique":
+            run.report.stopped(twin(entry))
+        else:
+            run.report.say("%s  (left: %s)" % (entry.line(), reason), reply="left", reason=reason, **entry.fields())
+
+
+def send(run: Run, store: Store, plan: Plan, past: str) -> int:
+    """Sends the commands in groups through one process, and says how many are safe when Ctrl-C comes between."""
+    stop_asked, total = catch_interrupt(), len(plan.steps)
+    progress = Progress(past, total)
+    refused: List[Tuple[Step, Refused]] = []
+    sent = 0
+    try:
+        while sent < total and not stop_asked():
+            part = plan.steps[sent:sent + BULK_GROUP]
+            replies = store.many([step.command for step in part])
+            refused += [(step, reply) for step, reply in zip(part, replies) if isinstance(reply, Refused)]
+            sent += len(part)
+            progress.show(sent, store.acknowledged)
+    except Error as fault:
+        stop = stop_of(fault, run.folder.path)
+        raise Stop(stop.status, "%s; %d were to be %s" % (stop, total, past), total=total, **stop.fields) from None
+    finally:
+        progress.end()
+    for step, reply in refused:
+        run.report.stopped(run.refused(reply, step.entry.file, step.entry.heading.path))
+    say_left(run, plan)
+    safe = store.acknowledged
+    if sent < total:
+        raise Stop(INTERRUPTED, "interrupted: %d of %d %s, and safe; the same command does the rest"
+                   % (safe, total, past), reply="interrupted", safe=safe, total=total)
+    run.report.say("%d %s" % (safe, past), reply="ok", command=run.options.command, accepted=store.accepted, safe=safe)
+    return REFUSED if refused or twins(plan) else OK
+
+
+def catch_interrupt() -> Callable[[], bool]:
+    """From now on the first Ctrl-C is noted, and a second one ends the run at once."""
+    noted: List[int] = []
+
+    def note(number: int, _: Any) -> None:
+        noted.append(number)
+        signal.signal(signal.SIGINT, signal.default_int_handler)
+
+    signal.signal(signal.SIGINT, note)
+    return lambda: bool(noted)

@@ -1,0 +1,173 @@
+"""`orgs capture`."""
+from __future__ import annotations
+
+import argparse
+import os
+import re
+import sys
+from typing import List, Tuple
+
+from ..errors import Refused
+from ..folder import Folder
+from ..heading import headings
+from ..names import is_file_name, own_name
+from ..section import BLANKS
+from ..stamp import stamp
+from ..store import Store
+from ..targets import Date, Head, Target, Top, Under
+from .entries import Entry, named, names_file
+from .finding import entries_of, file_of
+from .parsing import AT_OPTION, FILE_OPTION, Command, flag, option
+from .run import Run, check_state
+from .stops import Stop, Titles, Usage, refusal
+
+INBOX = "inbox.org"
+CAPTURE_OPTIONS = (
+    FILE_OPTION, AT_OPTION,
+    option("--todo", metavar="STATE", help="its state"),
+    option("--priority", metavar="A", help="its priority, a letter or digit"),
+    option("--tag", action="append", default=[], metavar="TAG", help="a tag; may be given again"),
+    option("--scheduled", metavar="DATE", help="2026-07-03, '2026-07-03 10:00 +1w', today, tomorrow, +3d"),
+    option("--deadline", metavar="DATE", help="likewise"),
+    option("--head", metavar="TITLE", help="below the one heading of this title, made where there is none"),
+    option("--under", metavar="HEADING", help="below a heading that is there"),
+    flag("--date", help="into the date tree, at the top level or --under a heading"),
+    flag("--first", help="before the other entries there, not behind them"),
+    option("--body", metavar="TEXT", help="the text below the heading; - is standard input"),
+    flag("--indent", help="two blanks before each line of the body"))
+TAG = re.compile(r"[A-Za-z0-9_@#%\x80-\U0010ffff]+")
+
+
+def body_of(options: argparse.Namespace) -> bytes:
+    """--body, standard input where it is '-', with every line indented where that is asked for."""
+    if options.body is None:
+        return b""
+    return sys.stdin.buffer.read() if options.body == "-" else os.fsencode(options.body)
+
+
+def title_and_body(run: Run) -> Tuple[str, bytes]:
+    """The title, a word, else the first line of the body that isn't blank, without its stars; and the body's rest."""
+    given = body = body_of(run.options)
+    if run.words:
+        title = run.words.pop(0)
+    else:
+        first, _, body = body.lstrip(b" \t\r\n").partition(b"\n")
+        title = re.sub(r"^\*+ ", "", os.fsdecode(first.rstrip(b"\r")))
+    body = judged_body(body, given.count(b"\n") - body.count(b"\n"), run.options.indent)
+    if re.search(r"[\n\r]", title):
+        raise refusal("BadEntry", "the title has a newline; put what follows its first line into --body")
+    title = title.strip(" \t")
+    if not title:
+        raise Usage("no title: give it as a word, or as the first line of --body")
+    return title, body
+
+
+def entry_text(run: Run, title: str, body: bytes) -> bytes:
+    """The bytes of a new entry: its heading line, its planning line, its body."""
+    options, states = run.options, run.folder.states
+    if options.todo is not None:
+        check_state(options.todo, states)
+    if options.priority is not None and not re.fullmatch("[A-Za-z0-9]", options.priority):
+        raise Usage("--priority '%s' isn't one letter or digit" % options.priority)
+    tags = [tag for given in options.tag for tag in given.split(":")]
+    for tag in tags:
+        if not TAG.fullmatch(tag):
+            raise Usage("--tag '%s': a tag is made of letters, digits and _ @ # %%" % tag)
+    priority = "[#%s]" % options.priority if options.priority else None
+    parts = [options.todo, priority, title, ":%s:" % ":".join(tags) if tags else None]
+    plans = ["%s: %s" % (word, stamp_of("--" + word.lower(), text, run))
+             for word, text in (("SCHEDULED", options.scheduled), ("DEADLINE", options.deadline)) if text is not None]
+    lines = ["* " + " ".join(part for part in parts if part), " ".join(plans)]
+    return os.fsencode("".join(line + "\n" for line in lines if line)) + body
+
+
+def stamp_of(option: str, text: str, run: Run) -> str:
+    """The stamp that an option gives."""
+    try:
+        return stamp(text, run.moment)
+    except ValueError as fault:
+        raise Usage("%s %s" % (option, fault)) from None
+
+
+def judged_body(body: bytes, above: int, indent: bool) -> bytes:
+    """The body as it goes in: indented, or with no line that would begin a second entry. Some lines stood above it."""
+    lines = body.split(b"\n")
+    if indent:
+        return b"\n".join(b"  " + line if line.strip(BLANKS) else line for line in lines)
+    for number, line in enumerate(lines, above + 1):
+        if line.startswith(b"* "):
+            raise refusal("BadEntry", "line %d of the body, '%s', would be an entry of its own; --indent keeps it as "
+                          "text" % (number, os.fsdecode(line.rstrip(BLANKS))[:60]))
+    return body
+
+
+def capture_file(run: Run) -> Tuple[str, List[str]]:
+    """The file to capture into, and the names that are new: --file, the first word, else inbox.org."""
+    given = run.options.file
+    if given is None and run.words and names_file(run.words[0]):
+        given = run.words.pop(0)
+    name = file_of(run.folder, given) if given else INBOX
+    if not is_file_name(name):
+        raise Usage("'%s' can't be a file's name: it ends in .org, and has no slash and no dot in front" % name)
+    base = own_name(name)
+    return name, [] if base in run.folder.names() else [base]
+
+
+def capture(run: Run) -> int:
+    """`orgs capture`."""
+    options = run.options
+    file, new = capture_file(run)
+    title, body = title_and_body(run)
+    run.no_more_words()
+    if options.head is not None and (options.under is not None or options.date):
+        raise Usage("--head goes with neither --under nor --date")
+    text = entry_text(run, title, body)
+    title = headings(text, run.folder.states)[0].title
+    moment, place = run.moment, "first" if options.first else "last"
+
+    def act(store: Store, found: List[Entry]) -> int:
+        above = found[0].heading.path if found else ()
+        target: Target = Under(above) if found else Top()
+        if options.date:
+            target, above = Date(above), (*above, moment.strftime("%Y-%m-%d"))
+        elif options.head is not None:
+            target, above = Head(options.head), head_path(run.folder, file, options.head)
+        path = (*above, title)
+        try:
+            done = store.capture(file, text, to=target, place=place, moment=moment)
+        except Refused as refused:
+            raise capture_refused(run, refused, file, path) from None
+        return run.done(done, "%s: captured" % named(file, path), file=file, title=title,
+                        path=None if options.date else list(path))
+
+    places = [run.place_of(options.under, file)] if options.under is not None else []
+    return run.with_headings(places, act, new)
+
+
+def head_path(folder: Folder, file: str, title: str) -> Titles:
+    """Where a heading of this title is, or will be made."""
+    found = [entry.heading.path for entry in entries_of(folder, file) if entry.heading.title == title]
+    return found[0] if found else (title,)
+
+
+def capture_refused(run: Run, refused: Refused, file: str, path: Titles) -> Stop:
+    """Why an entry wasn't put in."""
+    head = run.options.head
+    if refused.name == "NotFound" and head is not None:
+        return refusal("NotFound", "%s: a heading '%s' can't be made: it would read as a state, a priority or a tag; "
+                       "give another --head" % (file, head), file, path)
+    if refused.name == "NotUnique" and head is not None:
+        return refusal("NotUnique", "%s: several headings have the title '%s'; name one with --under FILE:LINE"
+                       % (file, head), file, path)
+    return run.refused(refused, file, path)
+
+
+COMMANDS = {
+    "capture": Command(
+        "[FILE] TITLE", "puts in a new entry", capture,
+        "The entry goes to the end of FILE, else of inbox.org; a file that isn't there is made. Without TITLE the "
+        "body's first line is the title. A title has no newline. A line of the body that begins with '* ' is refused, "
+        "and one with more stars is a heading below the entry; --indent keeps both as text.",
+        "orgs capture inbox.org 'Call Ann' --todo TODO --scheduled 2026-07-03 --tag phone\n"
+        "echo \"$mail\" | orgs capture inbox.org --head Mail --body -", CAPTURE_OPTIONS),
+}

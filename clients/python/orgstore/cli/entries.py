@@ -1,0 +1,135 @@
+"""Headings as the shell names them: a path, a part of a title, FILE:LINE, a line of `ls` or `grep -n`."""
+from __future__ import annotations
+
+import os
+import re
+import sys
+from dataclasses import dataclass
+from typing import Any, Callable, Dict, List, Optional, Sequence
+
+from ..heading import Heading
+from ..lines import path_text, titles
+from ..names import is_file_name
+from .report import ask, shown
+from .stops import Stop, Titles, refusal
+
+# FILE:LINE as editors and grep -n print it, with a column or the line's text behind it
+FILE_LINE = re.compile(r"(.*?\.org(?:_archive)?):([0-9]+)(?::(?:[0-9]+(?::|$))?(.*))?", re.DOTALL)
+# a line of `orgs ls --porcelain`
+LISTED = re.compile(r"([^\t]*\.org(?:_archive)?):[0-9]+\t[0-9]+\t[^\t]*\t[^\t]*\t[^\t]*\t([^\t]*)")
+
+
+def named(file: str, path: Sequence[str]) -> str:
+    """A heading as messages name it."""
+    return "%s: %s" % (file, shown(path_text(path)))
+
+
+@dataclass(frozen=True)
+class Entry:
+    """A heading of one of the folder's files."""
+
+    file: str
+    heading: Heading
+
+    @property
+    def place(self) -> str:
+        """FILE:LINE."""
+        return "%s:%d" % (self.file, self.heading.line)
+
+    @property
+    def name(self) -> str:
+        """The heading as messages name it."""
+        return named(self.file, self.heading.path)
+
+    def line(self) -> str:
+        """The heading as lists have it."""
+        return "%s  %s" % (self.place, shown(path_text(self.heading.path)))
+
+    def fields(self) -> Dict[str, Any]:
+        """The fields of its object."""
+        heading = self.heading
+        return {"file": self.file, "line": heading.line, "level": heading.level, "state": heading.keyword,
+                "priority": heading.priority, "title": heading.title, "tags": list(heading.tags),
+                "path": list(heading.path)}
+
+    def porcelain(self) -> str:
+        """Its line of `ls --porcelain`."""
+        heading = self.heading
+        return "\t".join((self.place, str(heading.level), heading.keyword, heading.priority.strip("[#]"),
+                          ":".join(heading.tags), path_text(heading.path)))
+
+
+def names_file(word: str) -> bool:
+    """Whether a word is a file's name, or the way to one."""
+    way, name = os.path.split(word)
+    return is_file_name(name) and (not way or os.path.isdir(way))
+
+
+@dataclass(frozen=True)
+class Place:
+    """Where a heading is looked for: in a file or in all, by a text, by a line and what stood there, or by its path."""
+
+    file: Optional[str]
+    text: str = ""
+    line: Optional[int] = None
+    stood: str = ""
+    path: Optional[Titles] = None
+
+    def among(self, found: List[Entry]) -> List[Entry]:
+        """The headings that are meant: those at the path, else of the title, else whose title has the text in it."""
+        if self.path is not None:
+            return [entry for entry in found if entry.heading.path == self.path]
+        if self.line is not None:
+            above = [entry for entry in found if entry.heading.line <= self.line]
+            return above[-1:]
+        exact, text = titles(self.text, strict=False), self.text.casefold()
+        ways: List[Callable[[Heading], bool]] = [
+            lambda heading: heading.path == exact, lambda heading: heading.title == self.text,
+            lambda heading: text in heading.title.casefold(), lambda heading: reaches(heading, text)]
+        fitting = ([entry for entry in found if fits(entry.heading)] for fits in ways)
+        return next(filter(None, fitting), [])
+
+
+def reaches(heading: Heading, text: str) -> bool:
+    """Whether a part of a path, with slashes, is in the heading's path and ends in its own title."""
+    if "/" not in text:
+        return False
+    whole = path_text(heading.path).casefold()
+    at = whole.rfind(text)
+    return at >= 0 and at + len(text) > whole.rfind("/") + 1
+
+
+class Ambiguous(Exception):
+    """Several headings fit what was asked for."""
+
+    def __init__(self, place: Place, found: List[Entry]) -> None:
+        super().__init__(place.text)
+        self.place = place
+        self.found = found
+
+    def refused(self) -> Stop:
+        """The refusal, with all that fit."""
+        lines = ["'%s' fits %d headings; name one by its FILE:LINE:" % (self.place.text, len(self.found))]
+        lines += ["  " + entry.line() for entry in self.found]
+        return refusal("NotUnique", "\n".join(lines), self.place.file,
+                       candidates=[entry.fields() for entry in self.found])
+
+
+def choose(several: Ambiguous) -> Place:
+    """Asks which of several headings is meant."""
+    offered = several.found[:30]
+    for number, entry in enumerate(offered, 1):
+        sys.stderr.write("%3d  %s\n" % (number, entry.line()))
+    answer = ask("'%s' fits %d headings. Which one? " % (several.place.text, len(several.found)))
+    if not answer.isdigit() or not 1 <= int(answer) <= len(offered):
+        raise several.refused()
+    entry = offered[int(answer) - 1]
+    if not entry.heading.unique:
+        raise twin(entry)
+    return Place(entry.file, several.place.text, path=entry.heading.path)
+
+
+def twin(entry: Entry) -> Stop:
+    """The refusal of a heading that no path leads to alone."""
+    return refusal("NotUnique", "%s has a twin of the same path, '%s'; change the title of one, and try again"
+                   % (entry.place, shown(path_text(entry.heading.path))), entry.file, entry.heading.path)

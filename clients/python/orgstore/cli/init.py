@@ -1,0 +1,45 @@
+"""`orgs init`."""
+from __future__ import annotations
+
+import os
+
+from ..folder import Folder
+from ..heading import States
+from ..settings import SETTINGS
+from .parsing import Command
+from .run import Run, read_states, settings_of
+from .status import states_field
+from .stops import OK, Usage, cannot, refusal
+
+
+def init(run: Run) -> int:
+    """`orgs init`. Begins a folder: makes it where it isn't there, writes its states down, and makes its journal."""
+    options, words = run.options, run.words
+    if len(words) > 1:
+        raise Usage("a word too many, '%s'" % words[1])
+    path = words[0] if words else options.directory or "."
+    try:
+        os.makedirs(path, exist_ok=True)
+    except OSError as fault:
+        raise cannot("Device", "%s: %s" % (path, fault.strerror)) from None
+    old = settings_of(path).get("states")
+    states = read_states(path, options.states)
+    if old is not None and str(States.parse(old)) != str(states):
+        raise refusal("UnknownState", "%s has the states %s already; edit it" % (os.path.join(path, SETTINGS), old))
+    folder = Folder(path, states, options.wait)
+    with folder.open() as store:
+        store.settle()
+    if old is None:
+        with open(os.path.join(path, SETTINGS), "w", encoding="utf-8") as file:
+            file.write("# read by orgs: the states of this folder, active | done\nstates = %s\n" % states)
+    run.report.say("%s: begun, with the states %s" % (path, states), reply="ok", command="init",
+                   folder=os.path.abspath(path), states=states_field(states))
+    return OK
+
+
+COMMANDS = {
+    "init": Command(
+        "[DIR]", "begins a folder and writes its states to .orgstore", init,
+        "Makes DIR, else takes the folder that one stands in; --states gives the states.",
+        "orgs init ~/org --states 'TODO WAIT | DONE CANCELLED'", begins=True),
+}

@@ -1,0 +1,115 @@
+"""The command `orgs`: reads its words, runs a subcommand, and says how that ended."""
+from __future__ import annotations
+
+import argparse
+import importlib
+import io
+import os
+import signal
+import sys
+from typing import Dict, List, Optional
+
+from ..errors import Error
+from ..version import version
+from .entries import Ambiguous
+from .explain import stop_of
+from .parsing import USAGE_LINE, Command, command_parser, top_parser, words_of
+from .report import Report
+from .run import Run
+from .stops import FAULT, INTERRUPTED, OK, Stop, Usage
+
+MODULES = {
+    "capture": "capture", "refile": "moving", "done": "states", "todo": "states", "archive": "moving", "in": "clocks",
+    "out": "clocks", "time": "clocks", "ls": "reading", "find": "reading", "show": "reading", "status": "status",
+    "init": "init",
+}
+"""The subcommands in the order of the help, and the module that has each in its `COMMANDS`: only what is called is
+loaded."""
+
+ABOUT = """usage: %s
+
+%s
+
+  -C DIR            the folder; else $ORGSTORE_DIR, else the nearest from here upward that has a journal
+  --states STATES   as 'TODO WAIT | DONE'; else $ORGSTORE_STATES, else the folder's .orgstore, else 'TODO | DONE'
+  --json            each reply as an object on a line
+  --wait SECONDS    how long to wait for another store on the folder (5)
+  -q, --quiet       say only what went wrong
+  --version, --help
+
+`orgs COMMAND --help` has its options and an example. Statuses: 0 done, 1 refused, 2 usage, 3 the folder can't be
+opened, 4 a fault of the disk."""
+
+
+def command_of(name: str) -> Command:
+    """A subcommand by its name."""
+    commands: Dict[str, Command] = importlib.import_module("." + MODULES[name], __package__).COMMANDS
+    return commands[name]
+
+
+def about() -> str:
+    """The help on `orgs`."""
+    return ABOUT % (USAGE_LINE, "\n".join("  %-9s %s" % (name, command_of(name).brief) for name in MODULES))
+
+
+def help_on(name: Optional[str]) -> str:
+    """The help on a subcommand, else on `orgs`."""
+    return command_parser(name, command_of(name)).format_help().rstrip() if name in MODULES else about()
+
+
+def execute(options: argparse.Namespace, report: Report) -> int:
+    """Runs the subcommand that the options name."""
+    command = command_of(options.command)
+    parser = command_parser(options.command, command)
+    run = Run(options, words_of(parser, options, options.rest), report)
+    report.as_json, report.quiet = options.json, options.quiet
+    where = options.directory or "."
+    try:
+        if not command.begins:
+            where = run.folder.path
+        return command.act(run)
+    except Usage as fault:
+        parser.error(str(fault))
+    except Stop as stop:
+        return report.stopped(stop)
+    except Ambiguous as several:
+        return report.stopped(several.refused())
+    except Error as fault:
+        return report.stopped(stop_of(fault, where))
+
+
+def main(arguments: Optional[List[str]] = None) -> int:
+    """Runs `orgs` with these words, else with those of the process, and answers its status."""
+    arguments = sys.argv[1:] if arguments is None else arguments
+    for stream in (sys.stdout, sys.stderr):
+        if isinstance(stream, io.TextIOWrapper):
+            stream.reconfigure(errors="surrogateescape")
+    parser = top_parser()
+    options = argparse.Namespace(directory=None, states=None, json=False, wait=5.0, quiet=False, at=None)
+    # A '--' directly behind the command would be taken for the end of the options before it.
+    cut = arguments.index("--") if "--" in arguments else len(arguments)
+    parser.parse_args(arguments[:cut], options)
+    options.rest += arguments[cut:]
+    if options.version:
+        print("orgs %s" % version())
+        return OK
+    if options.help or options.command == "help":
+        print(help_on(options.rest[0] if options.rest else None))
+        return OK
+    if options.command not in MODULES:
+        given = "no command '%s'" % options.command if options.command else "no command"
+        parser.error(given + "; `orgs --help` lists them")
+    report = Report(options.json)
+    try:
+        status = execute(options, report)
+        sys.stdout.flush()
+        return status
+    except KeyboardInterrupt:
+        return report.stopped(Stop(INTERRUPTED, "interrupted; nothing is torn, and `orgs status` says what is there",
+                                   reply="interrupted"))
+    except OSError as fault:
+        os.dup2(os.open(os.devnull, os.O_WRONLY), sys.stdout.fileno())
+        if isinstance(fault, BrokenPipeError):
+            return 128 + signal.SIGPIPE
+        print("orgs: %s" % fault, file=sys.stderr)
+        return FAULT

@@ -1,0 +1,105 @@
+"""What a run of `orgs` says: lines for people, or objects."""
+from __future__ import annotations
+
+import os
+import re
+import sys
+from dataclasses import dataclass, field
+from typing import Any, Dict
+
+from .stops import Stop
+
+
+def shown(text: str) -> str:
+    """A text of a file for people: a terminal gets no control characters from it."""
+    if sys.stdout.isatty() or sys.stderr.isatty():
+        return re.sub(r"[\x00-\x08\x0a-\x1f\x7f-\x9f]", "?", text)
+    return text
+
+
+@dataclass
+class Report:
+    """Says what happened: lines for people, or with --json one object a line on standard output."""
+
+    as_json: bool
+    quiet: bool = False
+
+    def say(self, text: str, /, **fields: Any) -> None:
+        """Says what was done or found: a text for people, and the fields of its object."""
+        if self.as_json:
+            self.print_object(fields)
+        elif not (self.quiet and fields.get("reply") in ("ok", "left")):
+            print(text)
+
+    def warn(self, text: str) -> None:
+        """Tells people something more, on standard error."""
+        if not self.as_json:
+            print("orgs: " + text, file=sys.stderr)
+
+    def stopped(self, stop: Stop) -> int:
+        """Says how the run, or one of its commands, ended early, and answers the status."""
+        if self.as_json:
+            self.print_object(stop.fields)
+        else:
+            print("orgs: %s" % stop, file=sys.stderr)
+        return stop.status
+
+    def print_object(self, fields: Dict[str, Any]) -> None:
+        """Prints an object on a line; fields of None are left out."""
+        import json  # rarely needed
+
+        print(json.dumps({name: clean(value) for name, value in fields.items() if value is not None}))
+
+
+def clean(value: Any) -> Any:
+    """A value as JSON may hold it: bytes that are no UTF-8 become U+FFFD."""
+    if isinstance(value, str):
+        return os.fsencode(value).decode("utf-8", "replace")
+    if isinstance(value, (list, tuple)):
+        return [clean(part) for part in value]
+    if isinstance(value, dict):
+        return {name: clean(part) for name, part in value.items()}
+    return value
+
+
+def counted(number: int, word: str) -> str:
+    """A number of things, as "2 headings"."""
+    return "%d %s%s" % (number, word, "" if number == 1 else "s")
+
+
+def at_terminal() -> bool:
+    """Whether somebody can be asked."""
+    return sys.stdin.isatty() and sys.stderr.isatty()
+
+
+def ask(question: str) -> str:
+    """A line from the terminal; an end of input is no answer."""
+    sys.stderr.write(question)
+    sys.stderr.flush()
+    return sys.stdin.readline().strip()
+
+
+def colours() -> bool:
+    """Whether what is printed may have colours."""
+    return sys.stdout.isatty() and not os.environ.get("NO_COLOR")
+
+
+@dataclass
+class Progress:
+    """A bar on standard error, at a terminal alone."""
+
+    verb: str
+    total: int
+    shown: bool = field(default_factory=sys.stderr.isatty)
+
+    def show(self, done: int, safe: int) -> None:
+        """Draws how many are done, and how many of them are safe."""
+        if self.shown:
+            bar = "#" * (30 * done // max(self.total, 1))
+            sys.stderr.write("\r[%-30s] %d of %d %s, %d safe\033[K" % (bar, done, self.total, self.verb, safe))
+            sys.stderr.flush()
+
+    def end(self) -> None:
+        """Takes the bar away."""
+        if self.shown:
+            sys.stderr.write("\r\033[K")

@@ -1,0 +1,193 @@
+"""One run of a command of `orgs`: its options, its words, and where it works."""
+from __future__ import annotations
+
+import argparse
+import datetime
+import functools
+import os
+from dataclasses import dataclass
+from typing import Any, Callable, Dict, List, Optional, Sequence, Tuple, TypeVar
+
+from ..commands import Done
+from ..errors import Refused
+from ..folder import Folder
+from ..heading import States
+from ..journal import JOURNAL
+from ..lines import titles
+from ..settings import SETTINGS, settings
+from ..store import Store
+from .entries import FILE_LINE, LISTED, Ambiguous, Entry, Place, choose, named, names_file
+from .finding import existing, file_of, find
+from .report import Report, at_terminal, shown
+from .stops import OK, Stop, Titles, Usage, cannot, refusal
+
+Result = TypeVar("Result")
+
+
+def moment_of(text: Optional[str]) -> datetime.datetime:
+    """--at, else this minute."""
+    if text is None:
+        return datetime.datetime.now().replace(second=0, microsecond=0)
+    try:
+        return datetime.datetime.strptime(text, "%Y-%m-%d %H:%M")
+    except ValueError:
+        raise Usage("--at '%s' is no moment: write '2026-07-01 10:00'" % text) from None
+
+
+def hours(span: datetime.timedelta) -> str:
+    """A span of time as a clock line has it."""
+    minutes = int(span.total_seconds()) // 60
+    return "%d:%02d" % (minutes // 60, minutes % 60)
+
+
+def advice(refused: Refused, entry: str, states: States, more: str = "") -> str:
+    """What a refusal of the store means for people, and what to do next."""
+    says = {
+        "NoSuchFile": "%s: its archive file%s isn't in the folder; make it with `touch`",
+        "NotFound": "%s: there is no such heading%s any more; look with `orgs ls`",
+        "NotUnique": "%s: several headings fit%s; change the title of one, and try again",
+        "InsideItself": "%s: the target%s is the entry itself or lies in it; name another one",
+        "AlreadyArchive": "%s: it is in its archive already%s; `orgs refile` moves it elsewhere",
+        "UnknownState": "%s: that is no state of the folder, which are " + str(states) + "%s; see --states",
+        "OddPlanning": "%s: its planning line can't be read%s; correct the dates under the heading",
+        "BadRepeat": "%s: it repeats in hours and has no single time of day%s; correct its stamp",
+        "DateRange": "%s: its next date is past the year 9999%s; correct its repeater",
+        "NoClock": "%sno clock runs%s; `orgs in HEADING` starts one",
+        "ClockBackwards": "%s: the clock%s started later than that; give a later --at",
+        "TooLarge": "%s: the file would have more than 64 MiB%s; archive something first",
+        "BadLocation": "%s: its archive location can't be read%s; correct its ARCHIVE property or the #+ARCHIVE line",
+        "BadEntry": "%s: the text is no single entry%s; --indent keeps lines with stars as text",
+        "BadTemplate": "%s: the template has an escape that isn't served%s",
+        "BadLine": "%s: a command has at most 1 MiB%s; shorten the text",
+    }
+    return says[refused.name] % (entry, more)
+
+
+@dataclass
+class Run:
+    """One run of a command: its options, the words that are left, and where it works."""
+
+    options: argparse.Namespace
+    words: List[str]
+    report: Report
+
+    @functools.cached_property
+    def folder(self) -> Folder:
+        """The folder that is meant, with its states."""
+        path = find_folder(self.options.directory)
+        return Folder(path, read_states(path, self.options.states), self.options.wait)
+
+    @functools.cached_property
+    def moment(self) -> datetime.datetime:
+        """--at, else this minute."""
+        return moment_of(self.options.at)
+
+    def take_file(self) -> Optional[str]:
+        """--file, else the first word where it names a file and isn't the only one."""
+        if getattr(self.options, "file", None):
+            name, self.options.file = self.options.file, None
+            return existing(self.folder, name)
+        if self.words and names_file(self.words[0]):
+            if len(self.words) > 1 or os.path.basename(self.words[0]) in self.folder.names():
+                return existing(self.folder, self.words.pop(0))
+        return None
+
+    def place_of(self, word: str, file: Optional[str]) -> Place:
+        """A place from one word: FILE:LINE, a line of `ls --porcelain`, or a text."""
+        if not word:
+            raise Usage("an empty HEADING; name one that has no title by its FILE:LINE")
+        line, listed = FILE_LINE.fullmatch(word), LISTED.fullmatch(word)
+        found = listed or line
+        if found and names_file(found[1]) and file_of(self.folder, found[1]) in self.folder.names():
+            name = file_of(self.folder, found[1])
+            if file is not None and name != file:
+                raise Usage("%s isn't in %s" % (shown(word), file))
+            if listed:
+                return Place(name, listed[2], path=titles(listed[2], strict=False))
+            if line:
+                return Place(name, line[0], line=int(line[2]), stood=line[3] or "")
+        return Place(file, word)
+
+    def take_place(self, what: str = "HEADING") -> Place:
+        """FILE HEADING or HEADING, from the words that are left."""
+        file = self.take_file()
+        if not self.words:
+            raise Usage("no %s" % what)
+        return self.place_of(self.words.pop(0), file)
+
+    def take_file_and_place(self) -> Tuple[Optional[str], Optional[Place]]:
+        """A file, a heading, both or neither, for what reads."""
+        file = self.take_file()
+        place = self.place_of(self.words.pop(0), file) if self.words else None
+        self.no_more_words()
+        return place.file if place else file, place
+
+    def no_more_words(self) -> None:
+        """Raises `Usage` where a word is left."""
+        if self.words:
+            raise Usage("a word too many, '%s'; quote titles that have blanks" % self.words[0])
+
+    def refused(self, refused: Refused, file: Optional[str], path: Optional[Titles], more: str = "") -> Stop:
+        """The end of a run whose command the store refused."""
+        entry = named(file, path) if file and path else file or ""
+        message = advice(refused, entry, self.folder.states, more)
+        return refusal(refused.name, message, file, path)
+
+    def with_headings(self, places: List[Place], act: Callable[[Store, List[Entry]], Result],
+                      new: Sequence[str] = ()) -> Result:
+        """Opens the store, finds the headings under its lock, and acts; it asks with the store closed again."""
+        while True:
+            try:
+                with self.folder.open(new=new) as store:
+                    return act(store, [find(self.folder, place) for place in places])
+            except Ambiguous as several:
+                if not at_terminal():
+                    raise several.refused() from None
+                places = [choose(several) if place == several.place else place for place in places]
+
+    def done(self, done: Done, text: str, **fields: Any) -> int:
+        """Says what was done."""
+        self.report.say(text, reply="ok", command=self.options.command, accepted=done.accepted, safe=done.safe,
+                        **fields)
+        return OK
+
+
+def find_folder(given: Optional[str]) -> str:
+    """-C DIR, else $ORGSTORE_DIR, else the nearest folder from here upward that has a journal or settings."""
+    folder = given or os.environ.get("ORGSTORE_DIR")
+    if folder:
+        if not os.path.isdir(folder):
+            raise cannot("NoFolder", "%s is no folder; make it with `orgs init %s`" % (folder, folder))
+        return folder
+    at = os.getcwd()
+    while True:
+        if any(os.path.exists(os.path.join(at, name)) for name in (JOURNAL, SETTINGS)):
+            return at
+        if at == os.path.dirname(at):
+            raise cannot("NoFolder", "no %s here or above; name the folder with -C DIR, or begin one with `orgs init`"
+                         % JOURNAL)
+        at = os.path.dirname(at)
+
+
+def read_states(folder: str, given: Optional[str]) -> States:
+    """--states, else $ORGSTORE_STATES, else the folder's settings, else TODO and DONE."""
+    text = given or os.environ.get("ORGSTORE_STATES") or settings_of(folder).get("states") or "TODO | DONE"
+    try:
+        return States.parse(text)
+    except ValueError as fault:
+        raise Usage("bad states '%s': %s" % (text, fault)) from None
+
+
+def settings_of(folder: str) -> Dict[str, str]:
+    """What the folder's .orgstore says."""
+    try:
+        return settings(folder)
+    except ValueError as fault:
+        raise Usage(str(fault)) from None
+
+
+def check_state(state: str, states: States) -> None:
+    """Refuses what is no state of the folder."""
+    if state not in states.active + states.done:
+        raise refusal("UnknownState", "'%s' is none of the folder's states, %s; --states gives others"
+                      % (state, states))

@@ -1,0 +1,73 @@
+"""`orgs done` and `orgs todo`."""
+from __future__ import annotations
+
+import os
+from typing import List, Tuple
+
+from ..errors import Refused
+from ..folder import Folder
+from ..section import BLANKS, planning
+from ..store import Store
+from .entries import Entry, Place
+from .parsing import AT_OPTION, FILE_OPTION, NAMING, Command
+from .run import Run, check_state
+from .stops import Usage
+
+
+def change_state(run: Run, place: Place, state: str) -> int:
+    """Changes the state of a heading, and says which one it has then."""
+    moment = run.moment
+
+    def act(store: Store, found: List[Entry]) -> int:
+        entry = found[0]
+        path = entry.heading.path
+        try:
+            done = store.todo(entry.file, path, state, moment=moment)
+        except Refused as refused:
+            raise run.refused(refused, entry.file, path) from None
+        # only a task that repeats gets another state than the one that was asked for
+        keyword, dates = state_now(run.folder, entry) if state in run.folder.states.done else (state, "")
+        says = keyword or "no state"
+        if keyword != state:
+            says = "%s, and %s again, %s" % (state, keyword, dates)
+        return run.done(done, "%s: %s" % (entry.name, says), file=entry.file, path=list(path), state=keyword)
+
+    return run.with_headings([place], act)
+
+
+def state_now(folder: Folder, entry: Entry) -> Tuple[str, str]:
+    """The state of a heading as the files have it now, and its planning line."""
+    outline = folder.outline(entry.file)
+    for number, heading in enumerate(outline.headings):
+        if heading.path == entry.heading.path:
+            return heading.keyword, os.fsdecode(planning(outline.section(number)).strip(BLANKS))
+    return "", ""
+
+
+def done(run: Run) -> int:
+    """`orgs done`."""
+    place = run.take_place()
+    run.no_more_words()
+    return change_state(run, place, run.folder.states.done[0])
+
+
+def todo(run: Run) -> int:
+    """`orgs todo`."""
+    if len(run.words) < 2:
+        raise Usage("todo takes a HEADING and a STATE; '' is no state")
+    state = run.words.pop()
+    place = run.take_place()
+    run.no_more_words()
+    if state:
+        check_state(state, run.folder.states)
+    return change_state(run, place, state)
+
+
+COMMANDS = {
+    "done": Command(
+        "[FILE] HEADING", "marks an entry as done", done, NAMING + " A task that repeats gets its next date.",
+        "orgs done work.org 'Pay rent'", (FILE_OPTION, AT_OPTION)),
+    "todo": Command(
+        "[FILE] HEADING STATE", "changes an entry's state", todo, NAMING + " An empty STATE, '', takes the state away.",
+        "orgs todo work.org 'Pay rent' WAIT", (FILE_OPTION, AT_OPTION)),
+}

@@ -1,0 +1,36 @@
+"""How a run of `orgs` ends early: its status, and what it says."""
+from __future__ import annotations
+
+from typing import Any, Optional, Tuple
+
+from ..errors import REFUSALS
+
+OK, REFUSED, USAGE, CANNOT_OPEN, FAULT, INTERRUPTED = 0, 1, 2, 3, 4, 130
+
+CODES = {kind.name: code for code, kind in REFUSALS.items()}
+
+Titles = Tuple[str, ...]
+
+
+class Usage(Exception):
+    """The words of the command line make no command."""
+
+
+class Stop(Exception):
+    """The command ends here: its status, one line for people, and the object that --json prints."""
+
+    def __init__(self, status: int, message: str, /, **fields: Any) -> None:
+        super().__init__(message)
+        self.status = status
+        self.fields = {**fields, "message": message}
+
+
+def refusal(name: str, message: str, file: Optional[str] = None, path: Optional[Titles] = None, **more: Any) -> Stop:
+    """A command that was refused, by the store or before it was asked; nothing changed."""
+    return Stop(REFUSED, message, reply="refused", code=CODES[name], name=name, file=file,
+                path=None if path is None else list(path), **more)
+
+
+def cannot(name: str, message: str, **more: Any) -> Stop:
+    """The folder can't be opened or read; nothing changed."""
+    return Stop(CANNOT_OPEN, message, reply="cannot-open", name=name, **more)

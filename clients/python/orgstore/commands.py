@@ -1,0 +1,241 @@
+"""The commands of a store, and the answers to them."""
+from __future__ import annotations
+
+from dataclasses import dataclass
+from typing import List, Optional, Tuple
+
+from .errors import (REFUSALS, BadEntry, BadLine, BadRepeat, BadTemplate, DateRange, InsideItself, NoSuchFile, NotFound,
+                     NotUnique, OddPlanning, Refused, UnknownState)
+from .lines import Moment, Path, Text, as_bytes, field_of, line_of, moment_field, path_field, place_field, titles
+from .names import name_fault
+from .phrases import short_path
+from .refusals import ADVICE, Files, entry_fault, no_file, template_fault
+from .targets import Date, Target, Top, Under
+
+
+class Command:
+    """A changing command: one of the classes below, for `Store.many`."""
+
+    def line(self) -> bytes:
+        """The line that gives this command to the program, its newline with it; a moment of None is that of the call.
+
+        Raises `BadLine` where it would be past the limit, and `NotFound` for a path without a title.
+        """
+        raise NotImplementedError
+
+    def places(self) -> List[Tuple[str, Optional[Target]]]:
+        """The files that the command names, and where in each."""
+        return []
+
+    def _why(self, code: int, files: Files) -> Optional[str]:
+        """What this command alone knows of a refusal."""
+        return None
+
+
+@dataclass(frozen=True)
+class Capture(Command):
+    r"""Puts in an entry, from its stars on. Its text is taken as it is, whatever percent signs it has.
+
+    >>> import datetime
+    >>> Capture("a.org", "* 50%\n", moment=datetime.datetime(2026, 7, 1, 10, 0)).line()
+    b'capture\ta.org\ttop\tlast\t2026-07-01 10:00\t%i\t* 50%\\n\n'
+    """
+
+    file: str
+    text: Text
+    to: Target = Top()
+    place: str = "last"
+    moment: Moment = None
+
+    def line(self) -> bytes:
+        # The template `%i` is the initial text and nothing else: nothing stands in front of it, to be repeated after
+        # each of its newlines, and what was filled in isn't read again.
+        return CaptureTemplate(self.file, "%i", self.text, self.to, self.place, self.moment).line()
+
+    def places(self) -> List[Tuple[str, Optional[Target]]]:
+        return [(self.file, self.to)]
+
+    def _why(self, code: int, files: Files) -> Optional[str]:
+        return "the text isn't one entry: " + entry_fault(as_bytes(self.text)) if code == BadEntry.code else None
+
+
+@dataclass(frozen=True)
+class CaptureTemplate(Command):
+    """Puts in the entry that a template makes, in which `%t %T %u %U` are the moment, `%i` the initial text, and `%?`
+    is nothing."""
+
+    file: str
+    template: Text
+    initial: Text = ""
+    to: Target = Top()
+    place: str = "last"
+    moment: Moment = None
+
+    def line(self) -> bytes:
+        return line_of(b"capture", field_of(self.file), self.to.field(), place_field(self.place),
+                       moment_field(self.moment), field_of(self.template), field_of(self.initial))
+
+    def places(self) -> List[Tuple[str, Optional[Target]]]:
+        return [(self.file, self.to)]
+
+    def _why(self, code: int, files: Files) -> Optional[str]:
+        return template_fault(as_bytes(self.template)) if code == BadTemplate.code else None
+
+
+@dataclass(frozen=True)
+class _AtHeading(Command):
+    """A command on the heading at a path of a file."""
+
+    file: str
+    path: Path
+
+    def places(self) -> List[Tuple[str, Optional[Target]]]:
+        return [(self.file, Under(self.path))]
+
+
+@dataclass(frozen=True)
+class Refile(_AtHeading):
+    """Moves the subtree at a path below another heading."""
+
+    to_file: str
+    to_path: Path
+    place: str = "last"
+
+    def line(self) -> bytes:
+        return line_of(b"refile", field_of(self.file), path_field(self.path), field_of(self.to_file),
+                       path_field(self.to_path), place_field(self.place))
+
+    def places(self) -> List[Tuple[str, Optional[Target]]]:
+        return [(self.file, Under(self.path)), (self.to_file, Under(self.to_path))]
+
+
+@dataclass(frozen=True)
+class Archive(_AtHeading):
+    """Moves the subtree at a path to its archive."""
+
+    moment: Moment = None
+
+    def line(self) -> bytes:
+        return line_of(b"archive", field_of(self.file), path_field(self.path), moment_field(self.moment))
+
+    def _why(self, code: int, files: Files) -> Optional[str]:
+        if code == InsideItself.code:
+            return "its archive location is the entry itself, or lies in it: archive what is below it"
+        if code not in (NoSuchFile.code, NotUnique.code) or not files.has(self.file, self.path):
+            return None
+        named = "a file that the store doesn't have" if code == NoSuchFile.code else "a heading that is there twice"
+        return "its archive location names %s: mend its ARCHIVE property, or the file's #+ARCHIVE: line" % named
+
+
+@dataclass(frozen=True)
+class Todo(_AtHeading):
+    """Changes the state of a heading; an empty one, or None, is none."""
+
+    state: Optional[str]
+    moment: Moment = None
+
+    def line(self) -> bytes:
+        return line_of(b"todo", field_of(self.file), path_field(self.path), field_of(self.state or ""),
+                       moment_field(self.moment))
+
+    def _why(self, code: int, files: Files) -> Optional[str]:
+        if code == UnknownState.code:
+            sentence = "'%s' isn't one of the states %s: choose one, or open the store with others"
+            return sentence % (self.state, files.states)
+        if code in (OddPlanning.code, BadRepeat.code, DateRange.code):
+            return ADVICE[code] + files.planning(self.file, self.path)
+        return None
+
+
+@dataclass(frozen=True)
+class ClockIn(_AtHeading):
+    """Starts the clock at a heading, and stops one that runs elsewhere."""
+
+    moment: Moment = None
+
+    def line(self) -> bytes:
+        return line_of(b"clock-in", field_of(self.file), path_field(self.path), moment_field(self.moment))
+
+
+@dataclass(frozen=True)
+class ClockOut(Command):
+    """Stops the clock."""
+
+    moment: Moment = None
+
+    def line(self) -> bytes:
+        return line_of(b"clock-out", moment_field(self.moment))
+
+
+@dataclass(frozen=True)
+class Time(_AtHeading):
+    def line(self) -> bytes:
+        return line_of(b"time", field_of(self.file), path_field(self.path))
+
+
+@dataclass(frozen=True)
+class Show(Command):
+    file: str
+
+    def line(self) -> bytes:
+        return line_of(b"show", field_of(self.file))
+
+    def places(self) -> List[Tuple[str, Optional[Target]]]:
+        return [(self.file, None)]
+
+
+@dataclass(frozen=True)
+class Settle(Command):
+    def line(self) -> bytes:
+        return line_of(b"settle")
+
+
+@dataclass(frozen=True)
+class Done:
+    """A command was accepted, the `accepted`-th of this store. `safe` says how many are on the disk, where that has
+    risen with it; it is None where the command waits for others of its group."""
+
+    accepted: int
+    safe: Optional[int] = None
+
+
+def _of_place(command: Command, code: int, files: Files) -> Optional[Refused]:
+    """The refusal of the first place that the command can't find, where that is why it was refused."""
+    for file, target in command.places():
+        refused = files.fault(file, target)
+        if refused and refused.code == code:
+            refused.file = file
+            refused.args = ("%s: %s" % (file, refused),)
+            return refused
+    return None
+
+
+def _of_command(command: Command, code: int, files: Files) -> str:
+    """What is said of a refusal that isn't of a place, or whose place can't be looked into."""
+    said = command._why(code, files)
+    if said:
+        return said
+    names = [file for file, _ in command.places()]
+    if code == NoSuchFile.code and len(names) == 1 and not isinstance(command, Archive):
+        return no_file(names[0])
+    if code == BadLine.code:
+        faults = [fault for fault in map(name_fault, names) if fault]
+        return faults[0] if faults else ADVICE[code]
+    return ADVICE.get(code, "the program refused it")
+
+
+def refusal(reply: bytes, command: Command, files: Files) -> Refused:
+    """The refusal that a reply tells, with what it is about."""
+    number, _, name = reply.partition(b" ")
+    code = int(number)
+    found = _of_place(command, code, files) if code in (NoSuchFile.code, NotFound.code, NotUnique.code) else None
+    if found:
+        return found
+    file, target = (command.places() or [("", None)])[0]
+    path = titles(target.path) if isinstance(target, (Under, Date)) else ()
+    place = [file] if file else []
+    if path:
+        place.append(short_path(path))
+    refused = REFUSALS.get(code, Refused)(": ".join(place + [_of_command(command, code, files)]))
+    refused.code, refused.name, refused.file, refused.path = code, name.decode(), file, path
+    return refused

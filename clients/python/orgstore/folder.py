@@ -1,0 +1,87 @@
+"""A folder of Org files, read without a lock, and opened as a store for what changes it."""
+from __future__ import annotations
+
+import os
+import time
+from dataclasses import dataclass, field
+from typing import Dict, Iterable, List, Optional, Sequence, Tuple
+
+from .errors import CannotRead
+from .heading import States
+from .journal import JOURNAL, holder
+from .names import ARCHIVE, is_archive, is_file_name
+from .outline import Outline
+from .store import Store
+
+# A closed gate before and after, and the same journal: no commit was under way while the files were read.
+READ_TRIES = 50
+
+
+@dataclass
+class Folder:
+    """A folder of Org files, read without a lock, and opened as a store for what changes it."""
+
+    path: str
+    states: States
+    wait: float
+    cut_short: bool = field(default=False, init=False)
+
+    def names(self, archives: bool = True) -> List[str]:
+        """The store's files that are there, in byte order; an archive file counts beside its file alone."""
+        try:
+            there = {entry.name for entry in os.scandir(self.path) if is_file_name(entry.name) and entry.is_file()}
+        except OSError as fault:
+            raise CannotRead("%s: %s; name the folder with -C DIR" % (self.path, fault.strerror)) from None
+        own = [name for name in there if not is_archive(name)]
+        both = [name + ARCHIVE for name in own if name + ARCHIVE in there] if archives else []
+        return sorted(own + both, key=os.fsencode)
+
+    def read(self, name: str) -> bytes:
+        """The bytes of a file; none where it isn't there."""
+        try:
+            with open(os.path.join(self.path, name), "rb") as file:
+                return file.read()
+        except FileNotFoundError:
+            return b""
+        except OSError as fault:
+            raise CannotRead("%s: %s" % (name, fault.strerror), name) from None
+
+    def outline(self, file: str, text: Optional[bytes] = None) -> Outline:
+        """The outline of a file, or of these bytes in its place."""
+        return Outline(file, self.read(file) if text is None else text, self.states)
+
+    def snapshot(self, names: Iterable[str]) -> Dict[str, bytes]:
+        """The bytes of files, all of one moment between two commits, without a lock."""
+        names = list(names)
+        for _ in range(READ_TRIES):
+            before = self.journal_mark()
+            texts = {name: self.read(name) for name in names}
+            if not self.gate_is_open() and self.journal_mark() == before:
+                return texts
+            if holder(self.path) is None:
+                break
+            time.sleep(0.02)
+        self.cut_short = self.gate_is_open() and holder(self.path) is None
+        return texts
+
+    def journal_mark(self) -> Tuple[int, int, bytes]:
+        """What changes with each commit: when the journal was written, its length, and the front of its record."""
+        try:
+            with open(os.path.join(self.path, JOURNAL), "rb") as file:
+                known = os.fstat(file.fileno())
+                return known.st_mtime_ns, known.st_size, file.read(4096)[1:]
+        except OSError:
+            return 0, 0, b""
+
+    def gate_is_open(self) -> bool:
+        """Whether a commit is under way, or was cut short."""
+        try:
+            with open(os.path.join(self.path, JOURNAL), "rb") as file:
+                head = file.read(16)
+        except OSError:
+            return False
+        return len(head) == 16 and head[0] == 1
+
+    def open(self, group: int = 1, new: Sequence[str] = ()) -> Store:
+        """A store on the folder."""
+        return Store(self.path, states=self.states, group=group, wait=self.wait, new=new)

@@ -1,0 +1,202 @@
+"""The headings of a text, by the store's own rules: their parts, their paths, their subtrees."""
+from __future__ import annotations
+
+import bisect
+import collections
+import re
+from dataclasses import dataclass
+from typing import FrozenSet, List, Sequence, Tuple, Union
+
+from .errors import NotFound, NotUnique, Refused
+from .lines import Path, as_bytes, as_string, titles
+from .phrases import listed, quoted, short
+
+
+@dataclass(frozen=True)
+class States:
+    """The keywords of headings: the active ones and the done ones.
+
+    >>> str(States.parse("TODO WAIT | DONE CANCELLED"))
+    'TODO WAIT | DONE CANCELLED'
+    """
+
+    active: Tuple[str, ...] = ("TODO",)
+    done: Tuple[str, ...] = ("DONE",)
+
+    def __post_init__(self) -> None:
+        words = self.active + self.done
+        if not self.active or not self.done:
+            raise ValueError("states need one active word and one done word at least")
+        if len(words) > 32 or len(set(words)) < len(words):
+            raise ValueError("states are 32 different words at most: %s" % self)
+        for word in words:
+            if not re.fullmatch("[A-Za-z0-9_-]{1,24}", word):
+                raise ValueError("a state is 1 to 24 letters, digits, _ and -, not %r" % word)
+
+    @classmethod
+    def parse(cls, text: str) -> States:
+        """The states of a text as an Org file's `#+TODO:` line has it: without a `|` the last word alone is done, and
+        what stands in parentheses behind a word is passed over.
+
+        >>> States.parse("TODO(t) WAIT(w@/!) DONE(d)")
+        States(active=('TODO', 'WAIT'), done=('DONE',))
+
+        Raises `ValueError` where the words aren't states.
+        """
+        words = re.sub(r"\([^()\s]*\)", " ", text.replace("|", " | ")).split()
+        if words.count("|") > 1:
+            raise ValueError("states have one | at most: %r" % text)
+        bar = words.index("|") if "|" in words else len(words) - 1
+        return cls(tuple(words[:bar]), tuple(word for word in words[bar:] if word != "|"))
+
+    def __str__(self) -> str:
+        return "%s | %s" % (" ".join(self.active), " ".join(self.done))
+
+
+@dataclass(frozen=True)
+class Heading:
+    """A heading of a text, by the store's own rules.
+
+    `line` counts from 1. `priority` is `[#X]` or empty, `tags` are without colons. `path` has the titles from the top
+    level to this one. The subtree is the bytes from `start` to `end`. `unique` says that `path` leads to it alone, so
+    that a command can name it. Bytes that are no UTF-8 stand in the texts as surrogateescape has them.
+    """
+
+    line: int
+    level: int
+    keyword: str
+    priority: str
+    title: str
+    tags: Tuple[str, ...]
+    path: Tuple[str, ...]
+    start: int
+    end: int
+    unique: bool
+
+
+_HEADING = re.compile(rb"^(\*+) ([^\n]*)", re.MULTILINE)
+_PRIORITY = re.compile(rb"\[#[A-Za-z0-9]\]")
+_TAGS = re.compile(rb"(?::[A-Za-z0-9_@#%\x80-\xff]+)+:")
+
+
+def _parts(rest: bytes, states: FrozenSet[bytes]) -> Tuple[str, str, str, Tuple[str, ...]]:
+    """Keyword, priority, title and tags of what stands behind a heading's stars and their space."""
+    title = rest.lstrip(b" \t").rstrip(b" \t\r")
+    keyword = priority = b""
+    tags: Tuple[str, ...] = ()
+    after_blank = True
+    run = title.partition(b" ")[0].partition(b"\t")[0]
+    if run in states:
+        keyword, title = run, title[len(run):].lstrip(b" \t")
+    found = _PRIORITY.match(title)
+    if found:
+        priority, behind = found[0], title[found.end():]
+        title = behind.lstrip(b" \t")
+        after_blank = len(title) < len(behind)
+    if title.endswith(b":"):
+        start = max(title.rfind(b" "), title.rfind(b"\t")) + 1
+        if (start > 0 or after_blank) and _TAGS.fullmatch(title, start):
+            tags, title = tuple(as_string(title[start + 1:-1]).split(":")), title[:start].rstrip(b" \t")
+    return as_string(keyword), as_string(priority), as_string(title), tags
+
+
+@dataclass
+class _Node:
+    """A heading while its text is read."""
+
+    line: int
+    level: int
+    start: int
+    end: int
+    parts: Tuple[str, str, str, Tuple[str, ...]]
+    parent: int
+
+
+def _nodes(text: bytes, states: States) -> List[_Node]:
+    """The headings of a text, each with the number of its parent, or -1."""
+    nodes: List[_Node] = []
+    words = frozenset(as_bytes(word) for word in states.active + states.done)
+    open_nodes: List[int] = []
+    line, counted = 1, 0
+    for found in _HEADING.finditer(text):
+        line, counted = line + text.count(b"\n", counted, found.start()), found.start()
+        level = len(found[1])
+        while open_nodes and nodes[open_nodes[-1]].level >= level:
+            nodes[open_nodes.pop()].end = found.start()
+        parent = open_nodes[-1] if open_nodes else -1
+        open_nodes.append(len(nodes))
+        nodes.append(_Node(line, level, found.start(), len(text), _parts(found[2], words), parent))
+    return nodes
+
+
+def headings(text: bytes, states: Union[States, str] = States()) -> List[Heading]:
+    r"""The headings of a text, in its order.
+
+    >>> for heading in headings(b"* Work :job:\n** TODO Pay rent\n** TODO Pay rent\n"):
+    ...     print(heading.line, heading.path, heading.keyword, heading.tags, heading.unique)
+    1 ('Work',)  ('job',) True
+    2 ('Work', 'Pay rent') TODO () False
+    3 ('Work', 'Pay rent') TODO () False
+    """
+    nodes = _nodes(text, States.parse(states) if isinstance(states, str) else states)
+    alike = collections.Counter((node.parent, node.parts[2]) for node in nodes)
+    found: List[Heading] = []
+    for node in nodes:
+        keyword, priority, title, tags = node.parts
+        path: Tuple[str, ...] = (title,)
+        unique = alike[node.parent, title] == 1
+        if node.parent >= 0:
+            above = found[node.parent]
+            path, unique = above.path + path, above.unique and unique
+        found.append(Heading(node.line, node.level, keyword, priority, title, tags, path, node.start, node.end, unique))
+    return found
+
+
+def lookup(found: Sequence[Heading], path: Path) -> Heading:
+    r"""The one heading at a path, as the store finds it among the headings of a text.
+
+    >>> lookup(headings(b"* Work\n** TODO Pay rent\n"), "Work/Pay rent").line
+    2
+
+    Raises `NotFound`, with what is there, and `NotUnique`, with the headings that have the title.
+    """
+    starts = [heading.start for heading in found]
+    first, last, way = 0, len(found), titles(path)
+    for depth, title in enumerate(way):
+        children = [heading for heading in found[first:last] if len(heading.path) == depth + 1]
+        alike = [heading for heading in children if heading.title == title]
+        if len(alike) != 1:
+            raise _not_one(way[:depth + 1], alike, children, found)
+        first, last = bisect.bisect_right(starts, alike[0].start), bisect.bisect_left(starts, alike[0].end)
+    if not way:
+        raise NotFound("a path needs one title at least; the list is empty")
+    return alike[0]
+
+
+def _not_one(path: Tuple[str, ...], alike: List[Heading], children: List[Heading], found: Sequence[Heading]) -> Refused:
+    """Why the last title of a path leads to no heading, or to several."""
+    where = "below %s" % quoted(path[:-1]) if path[:-1] else "at the top level"
+    if alike:
+        several = NotUnique("%d headings %s have the title '%s', in the lines %s: give all but one another title"
+                            % (len(alike), where, short(path[-1]), listed([str(heading.line) for heading in alike])))
+        several.path, several.candidates = path, alike
+        return several
+    missing = NotFound("no heading %s has the title '%s': %s"
+                       % (where, short(path[-1]), _instead(path[-1], children, found)))
+    missing.path = path
+    return missing
+
+
+def _instead(title: str, children: List[Heading], found: Sequence[Heading]) -> str:
+    """What may have been meant by a title that isn't among the children."""
+    elsewhere = ["%s in line %d" % (quoted(heading.path), heading.line) for heading in found if heading.title == title]
+    if elsewhere:
+        return "there is %s" % listed(elsewhere)
+    import difflib  # rarely needed, and slow to load
+
+    # long ones would take long to compare
+    others = [heading.title for heading in children[:1000] if len(heading.title) < 200]
+    near = difflib.get_close_matches(title[:200], others, 3, 0.5)
+    if near:
+        return "there is %s" % listed(["'%s'" % short(other) for other in near])
+    return "a path has the titles from the top level on, without keywords, priorities and tags"

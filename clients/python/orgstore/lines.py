@@ -1,0 +1,102 @@
+"""The program's command lines: fields with their escapes, paths of titles, moments."""
+from __future__ import annotations
+
+import datetime
+import re
+from typing import Optional, Sequence, Tuple, Union
+
+from .errors import BadLine, NotFound
+
+Text = Union[str, bytes]
+"""What is put into a file: bytes, or a str, which stands for its UTF-8 (with surrogateescape)."""
+
+Path = Union[str, Sequence[str]]
+"""A heading: its titles from the top level on, as a list, or as a text with `/` between them. In a text `\\s` is a
+slash, `\\t` a tab and `\\\\` a backslash."""
+
+Moment = Optional[datetime.datetime]
+"""A civil minute; one with a time zone is taken in the local one. None is now."""
+
+LINE_LIMIT = 1_048_576
+"""Bytes of a line, its newline aside, that the program takes."""
+
+
+def as_bytes(text: Text) -> bytes:
+    """A text as bytes: a str's UTF-8, where bytes that are none stand as surrogateescape has them."""
+    return text if isinstance(text, bytes) else text.encode("utf-8", "surrogateescape")
+
+
+def as_string(text: bytes) -> str:
+    """Bytes as a str; `as_bytes` gives them back."""
+    return text.decode("utf-8", "surrogateescape")
+
+
+def field_of(text: Text) -> bytes:
+    """A text as a field of a line has it."""
+    return as_bytes(text).replace(b"\\", b"\\\\").replace(b"\t", b"\\t").replace(b"\n", b"\\n")
+
+
+def path_field(path: Path) -> bytes:
+    """A path of one title or more as a field."""
+    given = titles(path)
+    if not given:
+        raise NotFound("a path needs one title at least; the list is empty")
+    return b"/".join(field_of(title).replace(b"/", b"\\s") for title in given)
+
+
+_ESCAPED = {"n": "\n", "t": "\t", "\\": "\\", "s": "/"}
+
+
+def titles(path: Path, strict: bool = True) -> Tuple[str, ...]:
+    r"""The titles of a path, from the top level on.
+
+    >>> titles("Work/Pay rent"), titles(r"a\sb"), titles(["a/b"])
+    (('Work', 'Pay rent'), ('a/b',), ('a/b',))
+
+    Raises `BadLine` where a text has a backslash that stands for nothing; one that isn't strict takes it as it is.
+    """
+    if not isinstance(path, str):
+        return tuple(path)
+
+    def meant(found: re.Match[str]) -> str:
+        if found[1] in _ESCAPED:
+            return _ESCAPED[found[1]]
+        if not strict:
+            return found[0]
+        raise BadLine("the path '%s' has a backslash that stands for nothing: write \\\\ for a backslash, \\s for a "
+                      "slash, or give a list of titles" % path)
+
+    return tuple(re.sub(r"\\(.?)", meant, title, flags=re.DOTALL) for title in path.split("/"))
+
+
+def path_text(path: Sequence[str]) -> str:
+    """A path as it is written: `titles` reads it back."""
+    written = (title.replace("\\", "\\\\").replace("\t", "\\t").replace("/", "\\s") for title in path)
+    return "/".join(written)
+
+
+def moment_field(moment: Moment) -> bytes:
+    """A moment as a field."""
+    if moment is None:
+        moment = datetime.datetime.now()
+    if not isinstance(moment, datetime.datetime):
+        raise TypeError("a moment is a datetime, or None for now, not %r" % (moment,))
+    if moment.tzinfo is not None:
+        moment = moment.astimezone().replace(tzinfo=None)
+    return b"%04d-%02d-%02d %02d:%02d" % (moment.year, moment.month, moment.day, moment.hour, moment.minute)
+
+
+def place_field(place: str) -> bytes:
+    """A place among the entries of a heading as a field."""
+    if place not in ("first", "last"):
+        raise ValueError("the place is 'first' or 'last', not %r" % (place,))
+    return place.encode()
+
+
+def line_of(*fields: bytes) -> bytes:
+    """The line of these fields, its newline with it."""
+    line = b"\t".join(fields)
+    if len(line) > LINE_LIMIT:
+        raise BadLine("as a line the command has %d bytes, and the program takes %d (a newline, a tab and a backslash "
+                      "count twice): capture less at once" % (len(line), LINE_LIMIT))
+    return line + b"\n"

@@ -1,0 +1,38 @@
+"""Names of files: which ones the store takes, and which file an archive belongs to."""
+from __future__ import annotations
+
+import re
+from typing import Optional
+
+from .lines import as_bytes
+
+ARCHIVE = "_archive"
+"""What the name of an archive file has behind that of its file."""
+
+
+def is_archive(name: str) -> bool:
+    """Whether a name is that of an archive file."""
+    return name.endswith(ARCHIVE)
+
+
+def own_name(name: str) -> str:
+    """The name of the file that an archive file belongs to; any other name as it is."""
+    return name[:-len(ARCHIVE)] if is_archive(name) else name
+
+
+def is_file_name(name: str) -> bool:
+    """Whether the store can have a file of this name."""
+    return name_fault(name) is None
+
+
+def name_fault(file: str) -> Optional[str]:
+    """Why a name is no file name of a store."""
+    if "/" in file:
+        return "'%s' has a folder: a file is named without one" % file
+    if not re.search(r"\.org(_archive)?\Z", file) or file.startswith("."):
+        return "'%s' is no file name: one ends in .org or .org_archive, and doesn't begin with a dot" % file
+    if re.search("[\0-\x1f\x7f\ud800-\udfff]", file):
+        return "'%s' is no file name: it has control characters, or bytes that are no UTF-8" % ascii(file)[1:-1]
+    if len(as_bytes(own_name(file))) > 200:
+        return "'%s..' is no file name: it has more than 200 bytes" % file[:40]
+    return None

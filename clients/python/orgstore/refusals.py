@@ -1,0 +1,117 @@
+"""What a refusal is about, as far as the files tell it, and what to do next."""
+from __future__ import annotations
+
+import re
+from typing import Callable, Dict, List, Optional
+
+from .errors import Error, NoSuchFile, NotFound, NotUnique, Refused
+from .heading import Heading, States, headings, lookup
+from .lines import Path, as_string, titles
+from .phrases import listed, short
+from .targets import Date, Head, Target, Under
+
+ADVICE: Dict[int, str] = {
+    1: "the store lacks a file that the command, or an archive location, names: check the name, or give it to the "
+       "store with new=[..]",
+    3: "what the template makes isn't one entry: that is one heading, and below it only deeper ones",
+    4: "no heading has the title that a step of the path asks for",
+    5: "several headings have the title that a step of the path asks for: give all but one another title",
+    6: "the subtree would be moved into itself: choose a target that isn't below it",
+    7: "it is in its archive already: refile it, to move it elsewhere",
+    9: "the planning line must be SCHEDULED, DEADLINE or CLOSED, each once and with a timestamp: mend it",
+    10: "a repeater in hours needs a timestamp with one time: give it a time, or repeat it by another unit",
+    11: "a timestamp would repeat past the year 9999: mend its date or its repeater",
+    12: "no clock runs in the store's files: clock in first",
+    13: "the running clock was started behind the moment: give a later one, or mend the clock's line",
+    14: "a file would grow past 64 MiB: archive or refile something from it first",
+    15: "its archive location can't be read: the ARCHIVE property, or the file's #+ARCHIVE: line, is a file or "
+        "nothing, then '::', then a heading or nothing",
+    20: "the program doesn't take the line",
+}
+
+
+class Files:
+    """The files of a store, to look into where a command was refused; without `show` nothing can be looked into."""
+
+    def __init__(self, states: States, show: Optional[Callable[[str], bytes]] = None) -> None:
+        self.states, self._show = states, show
+
+    def headings(self, file: str) -> List[Heading]:
+        """The headings of a file; raises `NoSuchFile`, and `Error` where it can't be looked into."""
+        return headings(self.text(file), self.states)
+
+    def text(self, file: str) -> bytes:
+        """The bytes of a file; raises what `headings` does."""
+        if not self._show:
+            raise Error("the file can't be looked into")
+        return self._show(file)
+
+    def fault(self, file: str, target: Optional[Target]) -> Optional[Refused]:
+        """Why this place of a command can't be found, where it can't."""
+        try:
+            try:
+                found = self.headings(file)
+            except NoSuchFile:
+                return NoSuchFile(no_file(file))
+            if isinstance(target, Head):
+                return _headed(found, target.title)
+            if isinstance(target, (Under, Date)) and titles(target.path):
+                lookup(found, target.path)
+        except Refused as refused:
+            return refused
+        except Error:
+            pass  # what the files say is left out
+        return None
+
+    def has(self, file: str, path: Path) -> bool:
+        """Whether a heading is known to be at a path."""
+        try:
+            return bool(lookup(self.headings(file), path))
+        except Error:
+            return False
+
+    def planning(self, file: str, path: Path) -> str:
+        """The line below a heading, as the end of a sentence; nothing where it can't be looked into."""
+        try:
+            text = self.text(file)
+            lines = text[lookup(headings(text, self.states), path).start:].split(b"\n", 2)
+        except Error:
+            return ""
+        return "; it is '%s'" % short(as_string(lines[1]).strip()) if len(lines) > 1 else ""
+
+
+def no_file(file: str) -> str:
+    return "the store has no such file: check the name, or give it to the store as a new one, with new=['%s']" % file
+
+
+def _headed(found: List[Heading], title: str) -> Refused:
+    """Why no heading of this title was taken or made."""
+    alike = [heading for heading in found if heading.title == title]
+    if alike:
+        several = NotUnique("%d headings have the title '%s', in the lines %s: name one by its path, with Under"
+                            % (len(alike), short(title), listed([str(heading.line) for heading in alike])))
+        several.path, several.candidates = (title,), alike
+        return several
+    missing = NotFound("no heading has the title '%s', and none can be made, since it would read as a keyword, a "
+                       "priority, tags, blanks or a second line: choose a title that is a title alone" % short(title))
+    missing.path = (title,)
+    return missing
+
+
+def entry_fault(text: bytes) -> str:
+    """Why a text isn't one entry."""
+    found = headings(text)
+    if not found:
+        return "it has no heading: an entry begins with a star and a space"
+    if found[0].start > 0:
+        return "it has text before its first heading, which is in line %d" % found[0].line
+    roots = [str(heading.line) for heading in found if len(heading.path) == 1]
+    return "it has several headings of the highest level, in the lines %s: capture each alone" % listed(roots)
+
+
+def template_fault(template: bytes) -> str:
+    """Which `%` of a template isn't served."""
+    escapes = [found[1] for found in re.finditer(rb"%([A-Za-z(\[<^:*\\])", template)]
+    wrong = next((escape.decode() for escape in escapes if escape not in (b"t", b"T", b"u", b"U", b"i")), "..")
+    return "the template's %%%s isn't served: %%t, %%T, %%u, %%U, %%i and %%? are; a text that isn't to be read as a " \
+           "template can be captured as it is" % wrong

@@ -1,0 +1,31 @@
+"""The settings of a folder: what its file .orgstore says."""
+from __future__ import annotations
+
+import os
+from typing import Dict
+
+SETTINGS = ".orgstore"
+
+
+def settings(folder: str) -> Dict[str, str]:
+    """What the folder's .orgstore says: lines NAME = VALUE; a line from '#' on is a comment.
+
+    Raises `ValueError` where it can't be read, or has another line.
+    """
+    found: Dict[str, str] = {}
+    try:
+        with open(os.path.join(folder, SETTINGS), encoding="utf-8") as file:
+            lines = file.read().splitlines()
+    except FileNotFoundError:
+        return {}
+    except (OSError, UnicodeDecodeError) as fault:
+        raise ValueError("%s: %s" % (SETTINGS, fault)) from None
+    for number, line in enumerate(lines, 1):
+        name, equals, value = (part.strip() for part in line.partition("="))
+        if name.startswith("#") or not line.strip():
+            continue
+        if name != "states" or not equals:
+            raise ValueError("%s:%d: '%s' is no setting; it has lines like: states = TODO | DONE"
+                             % (SETTINGS, number, line.strip()))
+        found[name] = value
+    return found

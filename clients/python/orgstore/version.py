@@ -1,0 +1,23 @@
+"""The version of the store that the package belongs to."""
+from __future__ import annotations
+
+import os
+
+# ./install writes the version here; a checkout has it in the file VERSION.
+_INSTALLED = ""
+
+
+def version() -> str:
+    """The version of the store that the package belongs to; "0" where none is told."""
+    if _INSTALLED:
+        return _INSTALLED
+    try:
+        with open(os.path.join(here(), "..", "..", "..", "VERSION"), encoding="utf-8") as file:
+            return file.read().strip()
+    except OSError:
+        return "0"
+
+
+def here() -> str:
+    """The folder of this package, links followed."""
+    return os.path.dirname(os.path.realpath(__file__))
