@@ -151,8 +151,9 @@ def call_of(command: Command, zoned: bool) -> orgstore.Command:
     targets: Dict[str, orgstore.Target] = {"top": orgstore.Top(), "head": orgstore.Head("".join(under)),
                                            "path": orgstore.Under(under), "date": orgstore.Date(under)}
     file, path, target = command.file, command.path, targets[command.target]
-    return {"capture": orgstore.Capture(file, command.entry, target, command.place, moment),
-            "refile": orgstore.Refile(file, path, command.into, command.under, command.place),
+    place: orgstore.Order = "first" if command.place == "first" else "last"
+    return {"capture": orgstore.Capture(file, command.entry, target, place, moment),
+            "refile": orgstore.Refile(file, path, command.into, command.under, place),
             "archive": orgstore.Archive(file, path, moment), "todo": orgstore.Todo(file, path, command.state, moment),
             "clock-in": orgstore.ClockIn(file, path, moment), "clock-out": orgstore.ClockOut(moment)}[command.word]
 

@@ -24,16 +24,20 @@ What the program refuses is raised as a `Refused`: it changed nothing, and its t
 
 The module reads no file of the folder and writes none: all goes through the program. While a store is open, nobody
 else should write its folder. What another program wrote between two commands is noticed, and the store is opened anew.
-A store isn't for several threads at once.
+A store is used by the thread and the process that opened it.
 """
-from __future__ import annotations
+import sys
+
+if sys.version_info < (3, 9):
+    raise ImportError("orgstore needs Python 3.9 or newer; this is %d.%d" % sys.version_info[:2])
 
 from .commands import Archive, Capture, CaptureTemplate, ClockIn, ClockOut, Command, Done, Refile, Todo
 from .errors import (AlreadyArchive, BadEntry, BadLine, BadLocation, BadRepeat, BadTemplate, CannotOpen, CannotRead,
-                     Changed, ClockBackwards, Closed, DateRange, Died, Error, Fault, InsideItself, Locked, NoClock,
-                     NoProgram, NoSuchFile, NotFound, NotUnique, OddPlanning, Refused, TooLarge, UnknownState)
+                     CannotWrite, Changed, ClockBackwards, Closed, DateRange, Died, Error, Fault, InsideItself, Locked,
+                     Misused, NoClock, NoProgram, NoSuchFile, NotFound, NotUnique, OddPlanning, Refused, TimedOut,
+                     TooLarge, UnknownState)
 from .heading import Heading, States, headings, lookup
-from .lines import Moment, Path, Text, titles
+from .lines import Moment, Order, Path, Text, titles
 from .process import program
 from .store import Store, many
 from .targets import Date, Head, Target, Top, Under
@@ -41,11 +45,11 @@ from .version import version
 
 __all__ = [
     "AlreadyArchive", "Archive", "BadEntry", "BadLine", "BadLocation", "BadRepeat", "BadTemplate", "CannotOpen",
-    "CannotRead", "Capture", "CaptureTemplate", "Changed", "ClockBackwards", "ClockIn", "ClockOut", "Closed", "Command",
-    "Date", "DateRange", "Died", "Done", "Error", "Fault", "Head", "Heading", "InsideItself", "Locked", "Moment",
-    "NoClock", "NoProgram", "NoSuchFile", "NotFound", "NotUnique", "OddPlanning", "Path", "Refile", "Refused", "States",
-    "Store", "Target", "Text", "Todo", "TooLarge", "Top", "Under", "UnknownState", "headings", "lookup", "many",
-    "program", "titles",
+    "CannotRead", "CannotWrite", "Capture", "CaptureTemplate", "Changed", "ClockBackwards", "ClockIn", "ClockOut",
+    "Closed", "Command", "Date", "DateRange", "Died", "Done", "Error", "Fault", "Head", "Heading", "InsideItself",
+    "Locked", "Misused", "Moment", "NoClock", "NoProgram", "NoSuchFile", "NotFound", "NotUnique", "OddPlanning",
+    "Order", "Path", "Refile", "Refused", "States", "Store", "Target", "Text", "TimedOut", "Todo", "TooLarge", "Top",
+    "Under", "UnknownState", "headings", "lookup", "many", "program", "titles",
 ]
 
 __version__ = version()

@@ -6,7 +6,7 @@ from typing import List, Optional, Tuple
 
 from .errors import (REFUSALS, BadEntry, BadLine, BadRepeat, BadTemplate, DateRange, InsideItself, NoSuchFile, NotFound,
                      NotUnique, OddPlanning, Refused, UnknownState)
-from .lines import Moment, Path, Text, as_bytes, field_of, line_of, moment_field, path_field, place_field, titles
+from .lines import Moment, Order, Path, Text, as_bytes, field_of, line_of, moment_field, path_field, place_field, titles
 from .names import name_fault
 from .phrases import short_path
 from .refusals import ADVICE, Files, entry_fault, no_file, template_fault
@@ -15,6 +15,12 @@ from .targets import Date, Target, Top, Under
 
 class Command:
     """A changing command: one of the classes below, for `Store.many`."""
+
+    changes = True
+    """Whether it may write files; it is False for what only asks."""
+
+    elsewhere = False
+    """Whether it may write a file that it doesn't name."""
 
     def line(self) -> bytes:
         """The line that gives this command to the program, its newline with it; a moment of None is that of the call.
@@ -44,7 +50,7 @@ class Capture(Command):
     file: str
     text: Text
     to: Target = Top()
-    place: str = "last"
+    place: Order = "last"
     moment: Moment = None
 
     def line(self) -> bytes:
@@ -68,7 +74,7 @@ class CaptureTemplate(Command):
     template: Text
     initial: Text = ""
     to: Target = Top()
-    place: str = "last"
+    place: Order = "last"
     moment: Moment = None
 
     def line(self) -> bytes:
@@ -99,7 +105,7 @@ class Refile(_AtHeading):
 
     to_file: str
     to_path: Path
-    place: str = "last"
+    place: Order = "last"
 
     def line(self) -> bytes:
         return line_of(b"refile", field_of(self.file), path_field(self.path), field_of(self.to_file),
@@ -112,6 +118,8 @@ class Refile(_AtHeading):
 @dataclass(frozen=True)
 class Archive(_AtHeading):
     """Moves the subtree at a path to its archive."""
+
+    elsewhere = True
 
     moment: Moment = None
 
@@ -151,6 +159,8 @@ class Todo(_AtHeading):
 class ClockIn(_AtHeading):
     """Starts the clock at a heading, and stops one that runs elsewhere."""
 
+    elsewhere = True
+
     moment: Moment = None
 
     def line(self) -> bytes:
@@ -161,6 +171,8 @@ class ClockIn(_AtHeading):
 class ClockOut(Command):
     """Stops the clock."""
 
+    elsewhere = True
+
     moment: Moment = None
 
     def line(self) -> bytes:
@@ -169,12 +181,20 @@ class ClockOut(Command):
 
 @dataclass(frozen=True)
 class Time(_AtHeading):
+    """Asks for the time that was clocked at a heading and below it."""
+
+    changes = False
+
     def line(self) -> bytes:
         return line_of(b"time", field_of(self.file), path_field(self.path))
 
 
 @dataclass(frozen=True)
 class Show(Command):
+    """Asks for the bytes of a file."""
+
+    changes = False
+
     file: str
 
     def line(self) -> bytes:
@@ -186,6 +206,10 @@ class Show(Command):
 
 @dataclass(frozen=True)
 class Settle(Command):
+    """Puts pending commands on the disk."""
+
+    changes = False
+
     def line(self) -> bytes:
         return line_of(b"settle")
 
@@ -204,9 +228,7 @@ def _of_place(command: Command, code: int, files: Files) -> Optional[Refused]:
     for file, target in command.places():
         refused = files.fault(file, target)
         if refused and refused.code == code:
-            refused.file = file
-            refused.args = ("%s: %s" % (file, refused),)
-            return refused
+            return refused.of(file)
     return None
 
 
@@ -236,6 +258,5 @@ def refusal(reply: bytes, command: Command, files: Files) -> Refused:
     place = [file] if file else []
     if path:
         place.append(short_path(path))
-    refused = REFUSALS.get(code, Refused)(": ".join(place + [_of_command(command, code, files)]))
-    refused.code, refused.name, refused.file, refused.path = code, name.decode(), file, path
-    return refused
+    message = ": ".join(place + [_of_command(command, code, files)])
+    return REFUSALS.get(code, Refused)(message, file=file, path=path, code=code, name=name.decode())

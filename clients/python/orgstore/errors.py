@@ -1,14 +1,20 @@
 """What the package raises: faults of the machine, of the folder and of other programs, and the program's refusals."""
 from __future__ import annotations
 
-from typing import TYPE_CHECKING, Dict, List, Tuple, Type
+from typing import TYPE_CHECKING, Any, Dict, List, Literal, Optional, Sequence, Tuple, Type
 
 if TYPE_CHECKING:
     from .heading import Heading
 
+Cause = Literal["no-folder", "permission", "name", "link", "kind", "full", "read-only", "device", ""]
+"""Why the machine failed, as far as the folder tells it: there is no such folder; a file or the folder may not be read
+or written; an entry's name isn't UTF-8; a link leads in a circle or nowhere, or gives a file a second name; what has a
+file's name is none; the disk is full; it is mounted read-only; a call of the disk failed, and nothing of that is seen.
+It is empty where nothing was looked for."""
+
 
 class Error(Exception):
-    """What this module raises; its text is one sentence, or a few, that say what to do."""
+    """What this package raises; its text is one sentence, or a few, that say what to do."""
 
 
 class NoProgram(Error):
@@ -19,23 +25,28 @@ class Closed(Error):
     """A command was given to a store that is closed."""
 
 
+class Misused(Error):
+    """A store was used by another thread or process than the one that opened it, or in the middle of a command."""
+
+
 class CannotOpen(Error):
     """The program didn't open the folder, and no command was run.
 
     `name` is the program's word for it (`Locked`, `BadJournal`, `Device`, `SameFile NAME`, `TooLarge NAME`,
     `TooManyFiles`, `OutOfMemory`, `bad name NAME`, `bad states`, `usage`), `said` its line on standard error, `status`
-    its exit status.
+    its exit status. Of a `Device`, `cause` and `file` tell why, and `why` is a sentence on it.
     """
 
-    name: str = ""
-    said: str = ""
-    status: int = 3
+    def __init__(self, message: str, *, name: str = "", said: str = "", status: int = 3, cause: Cause = "",
+                 file: str = "", why: str = "") -> None:
+        super().__init__(message)
+        self.name, self.said, self.status = name, said, status
+        self.cause: Cause = cause
+        self.file, self.why = file, why
 
 
 class Locked(CannotOpen):
     """Another store was open on the folder all the time that `wait` allowed."""
-
-    name = "Locked"
 
 
 class CannotRead(Error):
@@ -50,10 +61,19 @@ class CannotRead(Error):
 
 class Fault(Error):
     """The machine failed, not the command. `name` is `OutOfMemory` (nothing changed; go on), `Device` (a call of the
-    disk failed), `Broken` (one failed before), or how the program ended. The first `safe` commands are on the disk."""
+    disk failed), `Broken` (one failed before), or how the program ended. The first `safe` commands are on the disk.
 
-    name: str = ""
-    safe: int = 0
+    Of a `Device`, `cause` and `file` tell why, and `why` is a sentence on it. `done` says what became of the commands
+    behind the safe ones: False where nothing of them was written, True where opening the folder again finishes them,
+    None where it finishes or forgets each.
+    """
+
+    def __init__(self, message: str, *, name: str = "", safe: int = 0, cause: Cause = "", file: str = "", why: str = "",
+                 done: Optional[bool] = None) -> None:
+        super().__init__(message)
+        self.name, self.safe = name, safe
+        self.cause: Cause = cause
+        self.file, self.why, self.done = file, why, done
 
 
 class Died(Error):
@@ -61,17 +81,31 @@ class Died(Error):
     folder again finishes each of the others whole, or forgets it. `said` is what it wrote on standard error, `status`
     its exit status, or the negative number of a signal."""
 
-    safe: int = 0
-    said: str = ""
-    status: int = 0
+    def __init__(self, message: str, *, safe: int = 0, said: str = "", status: int = 0) -> None:
+        super().__init__(message)
+        self.safe, self.said, self.status = safe, said, status
+
+
+class TimedOut(Error):
+    """The program didn't answer for `timeout` seconds, and was killed. The first `safe` commands are on the disk;
+    opening the folder again finishes each of the others whole, or forgets it."""
+
+    def __init__(self, message: str, *, safe: int = 0) -> None:
+        super().__init__(message)
+        self.safe = safe
 
 
 class Changed(Error):
-    """Another program wrote a file of the store while accepted commands waited to be put on the disk. They are given
-    up, so that nothing is written over what that program wrote. The first `safe` commands are on the disk."""
+    """Another program wrote or replaced a file of the store. The first `safe` commands are on the disk.
 
-    safe: int = 0
-    file: str = ""
+    Commands that were accepted and not safe are given up, so that nothing is written over what that program wrote.
+    `lost` says that the file may lack safe commands too: it was replaced while they were put on the disk, and isn't
+    what the store wrote.
+    """
+
+    def __init__(self, message: str, *, safe: int = 0, file: str = "", lost: bool = False) -> None:
+        super().__init__(message)
+        self.safe, self.file, self.lost = safe, file, lost
 
 
 class Refused(Error):
@@ -80,8 +114,33 @@ class Refused(Error):
 
     code: int = 0
     name: str = ""
-    file: str = ""
-    path: Tuple[str, ...] = ()
+
+    def __init__(self, message: str, *, file: str = "", path: Tuple[str, ...] = (), code: Optional[int] = None,
+                 name: Optional[str] = None) -> None:
+        super().__init__(message)
+        self.file, self.path = file, path
+        if code is not None:
+            self.code = code
+        if name is not None:
+            self.name = name
+
+    def of(self, file: str) -> Refused:
+        """The same refusal with the name of its file."""
+        details: Dict[str, Any] = {**vars(self), "file": file}
+        return type(self)("%s: %s" % (file, self), **details)
+
+
+class CannotWrite(Refused):
+    """A file of the command can't be written or made, so the command wasn't given to the program. `cause` tells why,
+    and `why` is a sentence on it."""
+
+    code, name = 0, "CannotWrite"
+
+    def __init__(self, message: str, *, cause: Cause = "", why: str = "", file: str = "",
+                 path: Tuple[str, ...] = ()) -> None:
+        super().__init__(message, file=file, path=path)
+        self.cause: Cause = cause
+        self.why = why
 
 
 class NoSuchFile(Refused):
@@ -113,9 +172,10 @@ class NotUnique(Refused):
 
     code, name = 5, "NotUnique"
 
-    def __init__(self, *args: object) -> None:
-        super().__init__(*args)
-        self.candidates: List[Heading] = []
+    def __init__(self, message: str, *, file: str = "", path: Tuple[str, ...] = (),
+                 candidates: Sequence[Heading] = (), code: Optional[int] = None, name: Optional[str] = None) -> None:
+        super().__init__(message, file=file, path=path, code=code, name=name)
+        self.candidates: List[Heading] = list(candidates)
 
 
 class InsideItself(Refused):
@@ -184,6 +244,9 @@ class BadLine(Refused):
     code, name = 20, "BadLine"
 
 
-REFUSALS: Dict[int, Type[Refused]] = {kind.code: kind for kind in (
+_KINDS: Tuple[Type[Refused], ...] = (
     NoSuchFile, BadTemplate, BadEntry, NotFound, NotUnique, InsideItself, AlreadyArchive, UnknownState, OddPlanning,
-    BadRepeat, DateRange, NoClock, ClockBackwards, TooLarge, BadLocation, BadLine)}
+    BadRepeat, DateRange, NoClock, ClockBackwards, TooLarge, BadLocation, BadLine)
+
+REFUSALS = {kind.code: kind for kind in _KINDS}
+"""The program's refusals by their codes."""

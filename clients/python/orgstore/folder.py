@@ -4,11 +4,12 @@ from __future__ import annotations
 import os
 import time
 from dataclasses import dataclass, field
-from typing import Dict, Iterable, List, Optional, Sequence, Tuple
+from typing import Dict, Iterable, List, Optional, Sequence
 
 from .errors import CannotRead
 from .heading import States
-from .journal import JOURNAL, holder
+from .journal import gate_is_open, holder
+from .marks import look_at_journal
 from .names import ARCHIVE, is_archive, is_file_name
 from .outline import Outline
 from .store import Store
@@ -25,6 +26,9 @@ class Folder:
     states: States
     wait: float
     cut_short: bool = field(default=False, init=False)
+    """Whether what was read is half of a change, which the next opening finishes."""
+    torn: bool = field(default=False, init=False)
+    """Whether what was read isn't of one moment, since a store wrote all the time."""
 
     def names(self, archives: bool = True) -> List[str]:
         """The store's files that are there, in byte order; an archive file counts beside its file alone."""
@@ -51,36 +55,21 @@ class Folder:
         return Outline(file, self.read(file) if text is None else text, self.states)
 
     def snapshot(self, names: Iterable[str]) -> Dict[str, bytes]:
-        """The bytes of files, all of one moment between two commits, without a lock."""
+        """The bytes of files, all of one moment between two commits, without a lock; where they aren't, `cut_short` or
+        `torn` is set."""
         names = list(names)
+        self.cut_short = self.torn = False
         for _ in range(READ_TRIES):
-            before = self.journal_mark()
+            before = look_at_journal(self.path)
             texts = {name: self.read(name) for name in names}
-            if not self.gate_is_open() and self.journal_mark() == before:
+            if not gate_is_open(self.path) and look_at_journal(self.path) == before:
                 return texts
-            if holder(self.path) is None:
-                break
+            if gate_is_open(self.path) and holder(self.path) is None:
+                self.cut_short = True
+                return texts
             time.sleep(0.02)
-        self.cut_short = self.gate_is_open() and holder(self.path) is None
+        self.torn = True
         return texts
-
-    def journal_mark(self) -> Tuple[int, int, bytes]:
-        """What changes with each commit: when the journal was written, its length, and the front of its record."""
-        try:
-            with open(os.path.join(self.path, JOURNAL), "rb") as file:
-                known = os.fstat(file.fileno())
-                return known.st_mtime_ns, known.st_size, file.read(4096)[1:]
-        except OSError:
-            return 0, 0, b""
-
-    def gate_is_open(self) -> bool:
-        """Whether a commit is under way, or was cut short."""
-        try:
-            with open(os.path.join(self.path, JOURNAL), "rb") as file:
-                head = file.read(16)
-        except OSError:
-            return False
-        return len(head) == 16 and head[0] == 1
 
     def open(self, group: int = 1, new: Sequence[str] = ()) -> Store:
         """A store on the folder."""

@@ -177,14 +177,11 @@ def _not_one(path: Tuple[str, ...], alike: List[Heading], children: List[Heading
     """Why the last title of a path leads to no heading, or to several."""
     where = "below %s" % quoted(path[:-1]) if path[:-1] else "at the top level"
     if alike:
-        several = NotUnique("%d headings %s have the title '%s', in the lines %s: give all but one another title"
-                            % (len(alike), where, short(path[-1]), listed([str(heading.line) for heading in alike])))
-        several.path, several.candidates = path, alike
-        return several
-    missing = NotFound("no heading %s has the title '%s': %s"
-                       % (where, short(path[-1]), _instead(path[-1], children, found)))
-    missing.path = path
-    return missing
+        lines = listed([str(heading.line) for heading in alike])
+        return NotUnique("%d headings %s have the title '%s', in the lines %s: give all but one another title"
+                         % (len(alike), where, short(path[-1]), lines), path=path, candidates=alike)
+    instead = _instead(path[-1], children, found)
+    return NotFound("no heading %s has the title '%s': %s" % (where, short(path[-1]), instead), path=path)
 
 
 def _instead(title: str, children: List[Heading], found: Sequence[Heading]) -> str:

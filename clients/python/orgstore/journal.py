@@ -54,6 +54,16 @@ class Record:
         return name
 
 
+def gate_is_open(folder: str) -> bool:
+    """Whether a commit is under way, or was cut short."""
+    try:
+        with open(os.path.join(folder, JOURNAL), "rb") as file:
+            head = file.read(16)
+    except OSError:
+        return False
+    return len(head) == 16 and head[0] == 1
+
+
 def recorded(journal: bytes, read: Read) -> List[str]:
     """The files that a journal's open record changes, as docs/FORMATS.md has it."""
     version, size = journal[5], int.from_bytes(journal[8:16], "big")
@@ -64,6 +74,21 @@ def recorded(journal: bytes, read: Read) -> List[str]:
     if record.left or not names or len(set(names)) < len(names):
         raise Damaged
     return names
+
+
+def unfinished(folder: str) -> List[str]:
+    """The files of a change that is half written; none where there is no such change, or where it can't be read."""
+    def read(name: str) -> bytes:
+        try:
+            with open(os.path.join(folder, name), "rb") as file:
+                return file.read()
+        except OSError:
+            return b""
+
+    try:
+        return recorded(read(JOURNAL), read) if gate_is_open(folder) else []
+    except Damaged:
+        return []
 
 
 def journal_state(read: Read, process: Optional[int]) -> Tuple[str, str, List[str]]:
@@ -80,7 +105,7 @@ def journal_state(read: Read, process: Optional[int]) -> Tuple[str, str, List[st
     except Damaged:
         says = "damaged, with a change cut short; copy the folder, look through its files, and take %s away" % JOURNAL
         return "damaged", says, []
-    says = "a crash left a change of %s half written; the next command finishes it" % ", ".join(names)
+    says = "a change of %s is half written; the next command finishes it" % ", ".join(names)
     return "unfinished", says, names
 
 

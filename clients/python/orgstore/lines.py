@@ -3,7 +3,7 @@ from __future__ import annotations
 
 import datetime
 import re
-from typing import Optional, Sequence, Tuple, Union
+from typing import Literal, Optional, Sequence, Tuple, Union
 
 from .errors import BadLine, NotFound
 
@@ -16,6 +16,9 @@ slash, `\\t` a tab and `\\\\` a backslash."""
 
 Moment = Optional[datetime.datetime]
 """A civil minute; one with a time zone is taken in the local one. None is now."""
+
+Order = Literal["first", "last"]
+"""Where among the entries of a heading one is put."""
 
 LINE_LIMIT = 1_048_576
 """Bytes of a line, its newline aside, that the program takes."""
@@ -86,7 +89,7 @@ def moment_field(moment: Moment) -> bytes:
     return b"%04d-%02d-%02d %02d:%02d" % (moment.year, moment.month, moment.day, moment.hour, moment.minute)
 
 
-def place_field(place: str) -> bytes:
+def place_field(place: Order) -> bytes:
     """A place among the entries of a heading as a field."""
     if place not in ("first", "last"):
         raise ValueError("the place is 'first' or 'last', not %r" % (place,))

@@ -3,10 +3,9 @@ from __future__ import annotations
 
 import os
 import selectors
-import shutil
 import socket
 import subprocess
-from typing import IO, List, Optional, Tuple, cast
+from typing import IO, List, Optional, Sequence, Tuple, Union, cast
 
 from .errors import NoProgram
 from .lines import LINE_LIMIT
@@ -27,6 +26,8 @@ def program() -> str:
     for path in tried:
         if os.path.isfile(path) and os.access(path, os.X_OK):
             return path
+    import shutil  # rarely needed
+
     found = shutil.which("orgstore")
     if found:
         return found
@@ -47,32 +48,97 @@ def program_places(folder: str) -> List[str]:
     return places
 
 
+class Stuck(Exception):
+    """The program neither answered nor took anything for as long as was to be waited."""
+
+
+class _Buffer:
+    """Bytes that were read. What it holds is one value, and a read is one call, so that an interrupt between two steps
+    takes nothing away."""
+
+    def __init__(self) -> None:
+        # the bytes; where in them the last line begins, and what wasn't taken yet; what was read since
+        self._held: Tuple[bytes, int, int, List[bytes]] = (b"", 0, 0, [])
+
+    def read(self, stream: IO[bytes]) -> bool:
+        """Reads what is there; says whether the stream has ended."""
+        fresh = self._held[3]
+        try:
+            fresh.extend(map(os.read, (stream.fileno(),), (1 << 16,)))
+        except BlockingIOError:
+            return False
+        return not fresh[-1]
+
+    def line(self) -> Optional[bytes]:
+        """Takes the next line, without its newline, where it is there."""
+        whole, start = self._joined()
+        end = whole.find(b"\n", start)
+        if end < 0:
+            return None
+        self._held = whole, start, end + 1, []
+        return whole[start:end]
+
+    def take(self, length: int) -> Optional[bytes]:
+        """Takes so many bytes, where they are there."""
+        whole, _, start, fresh = self._held
+        if len(whole) - start + sum(map(len, fresh)) < length:
+            return None
+        whole, start = self._joined()
+        end = start + length
+        self._held = whole, end, end, []
+        return whole[start:end]
+
+    def again(self) -> None:
+        """Puts the last line back."""
+        whole, last, _, fresh = self._held
+        self._held = whole, last, last, fresh
+
+    def whole(self) -> bytes:
+        """All that wasn't taken."""
+        whole, start = self._joined()
+        return whole[start:]
+
+    def _joined(self) -> Tuple[bytes, int]:
+        """The bytes with what was read since, and where in them begins what wasn't taken yet."""
+        whole, last, start, fresh = self._held
+        if fresh:
+            whole, last, start = whole[last:] + b"".join(fresh), 0, start - last
+            self._held = whole, last, start, []
+        return whole, start
+
+
 class Process:
     """The program on one folder. Lines go in and bytes come out, and neither waits for the other.
 
     Its standard input is a socket, since a write to one whose other end is gone can be kept from raising SIGPIPE. It
-    has a session of its own, so that Ctrl-C at a terminal reaches this process alone.
+    has a session of its own, so that Ctrl-C at a terminal reaches this process alone. Where nothing moves for `timeout`
+    seconds, `Stuck` is raised; None waits without end.
     """
 
-    def __init__(self, words: List[str]) -> None:
+    def __init__(self, words: Sequence[Union[str, bytes]], timeout: Optional[float] = None) -> None:
+        self.timeout = timeout
         self._input, theirs = socket.socketpair()
         try:
-            self._popen = subprocess.Popen(words, stdin=theirs.fileno(), stdout=subprocess.PIPE, stderr=subprocess.PIPE,
-                                           bufsize=0, start_new_session=True)
+            self._popen = subprocess.Popen(words, stdin=theirs.fileno(), bufsize=0,
+                                           stdout=subprocess.PIPE, stderr=subprocess.PIPE, start_new_session=True)
         except BaseException:
             self._input.close()
             raise
         finally:
             theirs.close()
         self._outgoing = bytearray()
-        self._incoming = bytearray()
-        self._said = bytearray()
+        self._incoming, self._said = _Buffer(), _Buffer()
         self._ended = False
         self._selector = selectors.DefaultSelector()
         self._input.setblocking(False)
         for stream, read in ((self._popen.stdout, self._read), (self._popen.stderr, self._read_error)):
             os.set_blocking(cast(IO[bytes], stream).fileno(), False)
             self._selector.register(cast(IO[bytes], stream), selectors.EVENT_READ, read)
+
+    @property
+    def id(self) -> int:
+        """The number of the process."""
+        return self._popen.pid
 
     def send(self, line: bytes) -> None:
         """Sends a line, at once or while replies are read."""
@@ -82,27 +148,23 @@ class Process:
 
     def line(self) -> Optional[bytes]:
         """The next line of its output, without the newline; None at the end."""
-        looked = 0
         while True:
-            end = self._incoming.find(b"\n", looked)
-            if end >= 0:
-                line = bytes(self._incoming[:end])
-                del self._incoming[:end + 1]
+            line = self._incoming.line()
+            if line is not None or self._ended:
                 return line
-            if self._ended:
-                return None
-            looked = len(self._incoming)
             self._pump()
+
+    def again(self) -> None:
+        """Puts the last line back, to be read again."""
+        self._incoming.again()
 
     def take(self, length: int) -> Optional[bytes]:
         """So many bytes of its output; None where it ends before."""
-        while len(self._incoming) < length:
-            if self._ended:
-                return None
+        while True:
+            taken = self._incoming.take(length)
+            if taken is not None or self._ended:
+                return taken
             self._pump()
-        taken = bytes(self._incoming[:length])
-        del self._incoming[:length]
-        return taken
 
     def hang_up(self) -> None:
         """Ends its input; what wasn't sent is given up."""
@@ -115,18 +177,25 @@ class Process:
 
     def wait(self) -> Tuple[int, str]:
         """Its status and what it said on standard error, once its output has ended."""
-        status = self._popen.wait()
+        try:
+            status = self._popen.wait(self.timeout)
+        except subprocess.TimeoutExpired:
+            raise Stuck from None
         self._read_error()
-        self._close()
-        return status, self._said.decode("utf-8", "replace").strip()
+        self.leave()
+        return status, self._said.whole().decode("utf-8", "replace").strip()
 
     def kill(self) -> None:
-        """Ends it at once, where it hasn't ended."""
+        """Ends it at once, where it hasn't ended. One that waits for the disk ends when that answers."""
         self._popen.kill()
-        self._popen.wait()
-        self._close()
+        try:
+            self._popen.wait(1)
+        except subprocess.TimeoutExpired:
+            pass
+        self.leave()
 
-    def _close(self) -> None:
+    def leave(self) -> None:
+        """Closes this end of its streams."""
         self._selector.close()
         self._input.close()
         for stream in (self._popen.stdout, self._popen.stderr):
@@ -138,7 +207,10 @@ class Process:
             self._write()
         self._watch_input(bool(self._outgoing))
         if not self._ended:
-            for key, _ in self._selector.select():
+            ready = self._selector.select(self.timeout)
+            if not ready:
+                raise Stuck
+            for key, _ in ready:
                 key.data()
 
     def _watch_input(self, writing: bool) -> None:
@@ -158,21 +230,12 @@ class Process:
             self._outgoing.clear()  # it is gone; what it answered before is still to be read
 
     def _read(self) -> None:
-        self._ended = self._read_into(self._incoming, cast(IO[bytes], self._popen.stdout))
+        self._ended = self._incoming.read(cast(IO[bytes], self._popen.stdout))
 
     def _read_error(self) -> None:
         stream = cast(IO[bytes], self._popen.stderr)
-        if self._read_into(self._said, stream) and stream in self._selector.get_map():
+        if self._said.read(stream) and stream in self._selector.get_map():
             self._selector.unregister(stream)
-
-    def _read_into(self, into: bytearray, stream: IO[bytes]) -> bool:
-        """Reads what is there; says whether the stream has ended."""
-        try:
-            read = os.read(stream.fileno(), 1 << 16)
-        except BlockingIOError:
-            return False
-        into += read
-        return not read
 
 
 def ended_by(status: int, said: str) -> str:

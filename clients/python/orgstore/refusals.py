@@ -88,14 +88,12 @@ def _headed(found: List[Heading], title: str) -> Refused:
     """Why no heading of this title was taken or made."""
     alike = [heading for heading in found if heading.title == title]
     if alike:
-        several = NotUnique("%d headings have the title '%s', in the lines %s: name one by its path, with Under"
-                            % (len(alike), short(title), listed([str(heading.line) for heading in alike])))
-        several.path, several.candidates = (title,), alike
-        return several
-    missing = NotFound("no heading has the title '%s', and none can be made, since it would read as a keyword, a "
-                       "priority, tags, blanks or a second line: choose a title that is a title alone" % short(title))
-    missing.path = (title,)
-    return missing
+        lines = listed([str(heading.line) for heading in alike])
+        return NotUnique("%d headings have the title '%s', in the lines %s: name one by its path, with Under"
+                         % (len(alike), short(title), lines), path=(title,), candidates=alike)
+    return NotFound("no heading has the title '%s', and none can be made, since it would read as a keyword, a "
+                    "priority, tags, blanks or a second line: choose a title that is a title alone" % short(title),
+                    path=(title,))
 
 
 def entry_fault(text: bytes) -> str:

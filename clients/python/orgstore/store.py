@@ -5,19 +5,25 @@ import collections
 import datetime
 import os
 import re
+import threading
 import time
+import warnings
 from types import TracebackType
-from typing import Callable, Deque, Dict, Iterable, Iterator, List, Optional, Tuple, Type, Union, cast
+from typing import Callable, Deque, Dict, Iterable, Iterator, List, Optional, Set, Tuple, Type, Union, cast
 
+from .causes import Why, why_failed, why_not_opened, why_not_written
 from .commands import (Archive, Capture, CaptureTemplate, ClockIn, ClockOut, Command, Done, Refile, Settle, Show, Time,
                        Todo, refusal)
-from .errors import CannotOpen, Changed, Closed, Died, Error, Fault, Locked, NoProgram, Refused
+from .errors import (CannotOpen, CannotWrite, Changed, Closed, Died, Error, Fault, Locked, Misused, NoProgram, Refused,
+                     TimedOut)
 from .heading import Heading, States, headings
-from .lines import Moment, Path, Text
+from .journal import gate_is_open
+from .lines import Moment, Order, Path, Text, as_bytes, titles
+from .marks import Marks, differing, doubtful, look, look_at_journal, replaced
 from .names import is_archive, is_file_name, own_name
-from .process import Process, ended_by, program
+from .process import Process, Stuck, ended_by, program
 from .refusals import Files
-from .targets import Target, Top
+from .targets import Date, Target, Top, Under
 
 _OPENING: Dict[str, str] = {
     "Locked": "another store is open on it: try again when that has ended",
@@ -31,25 +37,26 @@ _OPENING: Dict[str, str] = {
 }
 
 
-def cannot_open(folder: str, program: str, status: int, said: str) -> Error:
-    """Why the program didn't open a folder."""
+def cannot_open(folder: str, program: str, status: int, said: str, new: Iterable[str] = ()) -> Error:
+    """Why the program didn't open a folder, with these new files."""
     if status < 0 or status == 1 and said.startswith("orgstore: "):
-        died = Died("orgstore ended while it opened '%s' (%s): open it again, which finishes or forgets what was begun"
-                    % (folder, ended_by(status, said)))
-        died.said, died.status = said, status
-        return died
+        return Died("orgstore ended while it opened '%s' (%s): open it again, which finishes or forgets what was begun"
+                    % (folder, ended_by(status, said)), said=said, status=status)
     if status not in (2, 3):
         return NoProgram("%s isn't orgstore: it ended with %s" % (program, ended_by(status, said)))
     name = re.sub(r"\Aorgstore: (open: )?", "", said) if said.startswith("orgstore: ") else "usage"
-    why = _OPENING.get(name.split(" ")[0], "its words aren't taken")
-    if name == "Device" and not os.path.isdir(folder):
-        why = "there is no such folder"
-    elif name.startswith("bad name"):
-        why = "a new file's name ends in .org, and has no folder"
+    why = why_not_opened(folder, new) if name == "Device" else None
+    sentence = why.sentence if why else _OPENING.get(name.split(" ")[0], "its words aren't taken")
+    if name.startswith("bad name"):
+        sentence = "a new file's name ends in .org, and has no folder"
     kind = Locked if name == "Locked" else CannotOpen
-    fault = kind("the folder '%s' can't be opened: %s (%s)" % (folder, why, said))
-    fault.name, fault.said, fault.status = name, said, status
-    return fault
+    return kind("the folder '%s' can't be opened: %s (%s)" % (folder, sentence, said), name=name, said=said,
+                status=status, cause=why.cause if why else "device" if name == "Device" else "",
+                file=why.file if why else "", why=sentence)
+
+
+_UNKNOWN = ("a call of the disk failed: close the store, find out what is wrong with the disk, and unmount it or "
+            "restart the machine before you open the folder again")
 
 
 class Store:
@@ -62,16 +69,20 @@ class Store:
                 before `settle`, or `close`
     `wait`      for how many seconds a folder that another store has open is tried again
     `new`       names of files that the folder lacks yet, for captures to begin
+    `timeout`   for how many seconds the program may neither answer nor take anything before it is killed, and
+                `TimedOut` is raised; None waits without end. `many` has its own
 
-    Raises `NoProgram`, `CannotOpen`, and `ValueError` where the states are none.
+    Raises `NoProgram`, `CannotOpen`, `TimedOut`, and `ValueError` where the states are none.
 
     Ctrl-C, or another exception while a command is on its way, closes the store: what was sent is finished, and
     `acknowledged` says how many commands are safe.
+
+    A store is used by the thread and the process that opened it: others get `Misused`.
     """
 
     def __init__(self, folder: Union[str, os.PathLike[str]], program: Union[None, str, os.PathLike[str]] = None,
                  states: Union[States, str] = States(), group: int = 1, wait: float = 5.0,
-                 new: Iterable[str] = ()) -> None:
+                 new: Iterable[str] = (), timeout: Optional[float] = 30.0) -> None:
         if not 1 <= group <= 1000:
             raise ValueError("a group has 1 to 1,000 commands, not %d" % group)
         self.folder = os.fspath(folder)
@@ -82,23 +93,31 @@ class Store:
         self.acknowledged = 0
         """How many of them are on the disk."""
         self._process: Optional[Process] = None
-        self._busy = self._broken = False
-        self._wait = wait
+        self._owner = os.getpid(), threading.get_ident()
+        self._busy = self._many = self._broken = self._in_text = self._again = False
+        self._why: Optional[Why] = None
+        self._wait, self._timeout = wait, timeout
         self._before = 0  # how many commands were accepted by processes before this one
         self._names = {new} if isinstance(new, str) else set(new)
         self._place = os.path.abspath(self.folder)
-        self._words = [_program_of(program), self._place, "--todo=" + ",".join(self.states.active),
-                       "--done=" + ",".join(self.states.done), "--group=%d" % group]
+        self._program = _program_of(program)
+        self._marks: Marks = {}
+        self._journal = look_at_journal(self._place)
+        self._sent: Set[str] = set()  # the files that commands named since the last look
+        self._writable: Set[str] = set()  # those of them that were seen to be writable
+        self._sent_size, self._elsewhere = 0, False
         self._open()
 
     def _open(self) -> None:
         """Opens the folder; one that is locked is tried again."""
         end, pause = time.monotonic() + self._wait, 0.01
         while True:
+            # before the opening: a file that is replaced meanwhile is another program's
+            marks = look(self._place)
             try:
-                self._process = self._try_open(self._words + ["--new=" + name for name in sorted(self._names)])
-                self._marks = self._look()
-                self._names |= {name for name in self._marks if not is_archive(name) and is_file_name(name)}
+                self._process = self._try_open()
+                self._marks, self._journal = marks, look_at_journal(self._place)
+                self._names |= {name for name in marks if not is_archive(name) and is_file_name(name)}
                 return
             except Locked:
                 left = end - time.monotonic()
@@ -107,23 +126,35 @@ class Store:
                 time.sleep(min(pause, left))
                 pause = min(2 * pause, 0.2)
 
-    def _try_open(self, words: List[str]) -> Process:
+    def _try_open(self) -> Process:
+        options = ["--todo=" + ",".join(self.states.active), "--done=" + ",".join(self.states.done),
+                   "--group=%d" % self.group, *("--new=" + name for name in sorted(self._names))]
         try:
-            process = Process(words)
+            process = Process([self._program, self._place, *map(as_bytes, options)], self._timeout)
         except OSError as fault:
-            raise NoProgram("the program %s can't be started: %s" % (words[0], fault.strerror)) from fault
+            raise NoProgram("the program %s can't be started: %s" % (self._program, fault.strerror)) from fault
         try:
             process.send(b"settle\n")
             reply = process.line()
             if reply == b"safe 0":
                 return process
             if reply is None:  # it has ended
-                raise cannot_open(self.folder, words[0], *process.wait())
+                raise cannot_open(self.folder, self._program, *process.wait(), sorted(self._names))
+        except Stuck:
+            process.kill()
+            raise TimedOut("orgstore didn't open '%s' in %g seconds, and was killed: nothing was given to it" % (
+                self.folder, self._timeout or 0), safe=self.acknowledged) from None
         except BaseException:
             process.kill()
             raise
         process.kill()
-        raise NoProgram("%s isn't orgstore: it answered %r" % (words[0], reply[:40]))
+        raise NoProgram("%s isn't orgstore: it answered %r" % (self._program, reply[:40]))
+
+    def _open_again(self) -> None:
+        """Opens the folder again, since another program wrote a file; counts go on."""
+        self._finish()
+        self._before, self._broken, self._why = self.accepted, False, None
+        self._open()
 
     @property
     def closed(self) -> bool:
@@ -134,11 +165,18 @@ class Store:
         return "<Store on %r, %s, %d accepted, %d safe>" % (self.folder, "closed" if self.closed else "open",
                                                             self.accepted, self.acknowledged)
 
+    def __del__(self) -> None:
+        if getattr(self, "_process", None) is not None and self._owner[0] == os.getpid():
+            warnings.warn("%r is open, and nobody has it any more: close it" % self, ResourceWarning, source=self)
+            self.abandon()
+
     def __enter__(self) -> Store:
         return self
 
     def __exit__(self, kind: Optional[Type[BaseException]], value: Optional[BaseException],
                  trace: Optional[TracebackType]) -> None:
+        if os.getpid() != self._owner[0]:
+            return  # a process that was forked in the block ends: the store is its parent's
         if isinstance(value, (Fault, Died)):
             self._finish()  # it says already what close would
         else:
@@ -147,40 +185,62 @@ class Store:
     def close(self) -> None:
         """Puts what is pending on the disk, and ends the program. A closed store may be closed again.
 
-        Raises `Fault` or `Died` where that failed.
+        Raises `Fault`, `Died` or `TimedOut` where that failed.
         """
         if self.closed:
             return
+        self._check_owner()
         if self.accepted > self.acknowledged:
             self._check()
-        status, said = self._finish()
-        if status == 0 and self.acknowledged == self.accepted:
-            return
+        try:
+            status, said = self._finish()
+        except Stuck:
+            raise self._timed_out() from None
+        if self.acknowledged == self.accepted and not self._broken:
+            return  # all is on the disk, however the program ended
         if status != 1:
             raise self._died(status, said)
         raise self._fault(said.split(": ")[-1])
 
-    def _finish(self, listening: bool = True) -> Tuple[int, str]:
-        """Ends the input, reads the replies to what was sent, and answers how the program ended. Where it doesn't
-        listen, replies count no more: it was interrupted in the middle of a text, which may hold anything."""
+    def abandon(self) -> None:
+        """Closes the store without waiting for the program: it finishes what it was sent, or dies of it. For one that
+        gives up a disk that doesn't answer."""
+        process, self._process = self._process, None
+        if process:
+            process.hang_up()
+            process.leave()
+
+    def _finish(self, interrupted: bool = False) -> Tuple[int, str]:
+        """Ends the input, reads the replies to what was sent, and answers how the program ended. Where it was
+        interrupted in the middle of a text, which may hold anything, no reply counts any more."""
         process, self._process = self._process, None
         if process is None:
             return 0, ""
         try:
             process.hang_up()
+            if interrupted:
+                process.again()
             while True:
                 reply = process.line()
                 if reply is None:
                     return process.wait()
-                if listening:
+                if not self._in_text:
                     self._note(*reply.partition(b" ")[::2])
         except BaseException:
             process.kill()
             raise
 
+    def _interrupted(self) -> None:
+        """Finishes what was sent, as far as the program answers."""
+        try:
+            self._finish(interrupted=True)
+        except Stuck:
+            pass
+
     # -- commands -------------------------------------------------------------------------------------------------
 
-    def capture(self, file: str, text: Text, *, to: Target = Top(), place: str = "last", moment: Moment = None) -> Done:
+    def capture(self, file: str, text: Text, *, to: Target = Top(), place: Order = "last",
+                moment: Moment = None) -> Done:
         """Puts in an entry: a heading from its stars on, and what belongs to it, at any level.
 
         Its bytes stand in the file as they are, but for the number of stars of its headings, which are those of its
@@ -191,12 +251,12 @@ class Store:
         return self._run(Capture(file, text, to, place, moment))
 
     def capture_template(self, file: str, template: Text, initial: Text = "", *, to: Target = Top(),
-                         place: str = "last", moment: Moment = None) -> Done:
+                         place: Order = "last", moment: Moment = None) -> Done:
         """Puts in the entry that a template makes: `%t %T %u %U` are the moment as a timestamp, `%i` is the initial
         text, `%?` nothing. Raises `BadTemplate` for what else Emacs has."""
         return self._run(CaptureTemplate(file, template, initial, to, place, moment))
 
-    def refile(self, file: str, path: Path, to_file: str, to_path: Path, place: str = "last") -> Done:
+    def refile(self, file: str, path: Path, to_file: str, to_path: Path, place: Order = "last") -> Done:
         """Moves the subtree at a path below another heading, as its `first` child or its `last`."""
         return self._run(Refile(file, path, to_file, to_path, place))
 
@@ -235,87 +295,122 @@ class Store:
         self._ask(Settle())
         return self.acknowledged
 
-    def many(self, commands: Iterable[Command],
-             progress: Optional[Callable[[int, int], None]] = None) -> List[Union[Done, Refused]]:
+    def many(self, commands: Iterable[Command], progress: Optional[Callable[[int, int], None]] = None, *,
+             timeout: Optional[float] = None) -> List[Union[Done, Refused]]:
         """Runs commands without waiting for each reply, and then settles them; answers what became of each.
 
         A refusal is a value of the list, and the commands behind it are run all the same. A fault is raised.
         `progress` is called after each reply, and at the end, with how many commands were answered, and how many are
-        safe.
+        safe. `timeout` is that of `Store`, here without end where none is given.
 
         An exception, Ctrl-C among them, closes the store: the commands that were sent are finished, some two groups at
         most, and `acknowledged` says how many are safe.
         """
         process = self._ready()
         answers: List[Union[Done, Refused]] = []
-        self._busy = True
+        self._busy = self._many = True
+        process.timeout = timeout
         try:
             for answer in self._streamed(process, commands):
                 answers.append(answer)
                 if progress:
                     progress(len(answers), self.acknowledged)
-            process.send(Settle().line())
-            self._reply(Settle())
+            if self.accepted > self.acknowledged:  # else a program that ends now has lost nothing
+                process.send(Settle().line())
+                self._reply(Settle())
+            self._keep_marks()
+        except Stuck:
+            raise self._timed_out() from None
         except BaseException:
-            self._finish()
+            self._interrupted()
             raise
         finally:
-            self._busy = False
-        self._keep_marks()
+            self._busy = self._many = False
+            process.timeout = self._timeout
         if progress and answers:
             progress(len(answers), self.acknowledged)
         return answers
 
-    # -- lines and replies ----------------------------------------------------------------------------------------
+    # -- other programs -------------------------------------------------------------------------------------------
+
+    def _check_owner(self) -> None:
+        """Raises `Misused` in another thread or process than the one that opened the store."""
+        if self._owner != (os.getpid(), threading.get_ident()):
+            which = "thread" if self._owner[0] == os.getpid() else "process"
+            raise Misused("the store on '%s' was opened by another %s, and is used by that alone: open one of your own "
+                          "here" % (self.folder, which))
 
     def _ready(self) -> Process:
         """The process, where a command may be given to it; a new one, where another program wrote a file."""
+        self._check_owner()
         if self._busy:
-            raise Error("the store runs many commands: give it others when they have ended")
+            raise Misused("the store runs many commands: give it others when they have ended" if self._many else
+                          "the store is in the middle of a command: give it others when that has ended")
         self._alive()
         if self._check():
-            self._finish()
-            self._before = self.accepted
-            self._open()
+            self._open_again()
+        self._writable.clear()
+        if self.accepted == self.acknowledged:  # else a fault may be of a command that waits
+            self._sent.clear()
+            self._sent_size, self._elsewhere = 0, False
         return self._alive()
-
-    def _look(self) -> Dict[str, Tuple[int, int, int]]:
-        """What tells of each Org file of the folder whether it was written: its number, its size, and when it last
-        was."""
-        marks = {}
-        try:
-            with os.scandir(self._place) as entries:
-                for entry in entries:
-                    if entry.name.endswith((".org", ".org_archive")) and entry.name[0] != "." and entry.is_file():
-                        found = entry.stat()
-                        marks[entry.name] = found.st_ino, found.st_size, found.st_mtime_ns
-        except OSError:
-            pass  # a file, or the folder, goes away just now: that is a change too
-        return marks
-
-    def _keep_marks(self) -> None:
-        """Takes the files for written by this program; one that has appeared is still to be noticed."""
-        self._marks = {name: mark for name, mark in self._look().items()
-                       if name in self._marks or own_name(name) in self._names}
 
     def _check(self) -> bool:
         """Whether another program wrote a file since this one did. Where commands are pending, it raises `Changed` for
         a file of the store: the program would write over it, and is killed."""
-        marks = self._look()
-        written = {name for name in {*marks, *self._marks} if marks.get(name) != self._marks.get(name)}
+        written = differing(self._marks, look(self._place))
         if self._broken or not written:
             return False
         if self.accepted == self.acknowledged:
             return True
-        known = sorted(name for name in written if own_name(name) in self._names)
+        known = [name for name in written if own_name(name) in self._names]
         if not known:
             return False
         self._alive().kill()
         self._process = None
-        changed = Changed("%s: another program wrote it, and the commands that weren't safe are given up. %s: open the "
-                          "store again, and give the others again" % (known[0], self._safe_words()))
-        changed.safe, changed.file = self.acknowledged, known[0]
-        raise changed
+        raise self._given_up(known[0])
+
+    def _given_up(self, name: str) -> Changed:
+        """What is raised where another program wrote a file, and commands are given up."""
+        return Changed("%s: another program wrote it, and the commands that weren't safe are given up. %s: open the "
+                       "store again, and give the others again" % (name, self._safe_words()), safe=self.acknowledged,
+                       file=name)
+
+    def _replaced(self, name: str) -> Changed:
+        """What is raised where another program wrote a file between many commands: it may have read it before them."""
+        return Changed("%s: another program wrote it, and the commands that weren't safe are given up. %s, but what "
+                       "that program wrote may lack the last of them: look, open the store again, and give the others "
+                       "again"
+                       % (name, self._safe_words()), safe=self.acknowledged, file=name, lost=True)
+
+    def _keep_marks(self) -> None:
+        """Takes the files for written by this program, once its commands are safe; one that has appeared is still to be
+        noticed. Raises `Changed` for one that another program wrote after it, and that lacks what this one wrote."""
+        if self._process is None:
+            return
+        now, journal = look(self._place), look_at_journal(self._place)
+        lost = [name for name in doubtful(self._marks, now, journal[0])
+                if own_name(name) in self._names and self._lacks(name)]
+        # a lost file keeps the old mark, by which the next command opens the folder again
+        self._marks = {name: mark for name, mark in now.items()
+                       if name not in lost and (name in self._marks or own_name(name) in self._names)}
+        self._journal = journal
+        if lost:
+            raise Changed("%s: another program replaced it while a command was put on the disk, and it isn't what the "
+                          "store wrote: look whether the change is in it, before you give the command again. %s"
+                          % (lost[0], self._safe_words()), safe=self.acknowledged, file=lost[0], lost=True)
+
+    def _lacks(self, name: str) -> bool:
+        """Whether a file on the disk isn't what the program holds."""
+        try:
+            with open(os.path.join(self._place, name), "rb") as file:
+                there = file.read()
+        except OSError:
+            there = b""
+        try:
+            return self._shown(name) != there
+        except Refused:
+            return False
 
     def _alive(self) -> Process:
         if self._process is None:
@@ -323,13 +418,30 @@ class Store:
         return self._process
 
     def _line(self, command: Command) -> bytes:
-        """The line of a command; raises what `Command.line` does, with the file."""
+        """The line of a command; raises what `Command.line` does, with the file, and `CannotWrite`."""
+        places = command.places()
         try:
-            return command.line()
+            line = command.line()
         except Refused as refused:
-            refused.file = command.places()[0][0]
-            refused.args = ("%s: %s" % (refused.file, refused),)
-            raise
+            raise refused.of(places[0][0]) from None
+        if command.changes:
+            self._sent.update(name for name, _ in places)
+            self._sent_size = max(self._sent_size, self.group * len(line))
+            self._elsewhere = self._elsewhere or command.elsewhere
+            for name, target in places:
+                self._check_writable(name, target)
+        return line
+
+    def _check_writable(self, name: str, target: Optional[Target]) -> None:
+        """Raises `CannotWrite` for a file of the store that can't be written; looks once for each run of commands."""
+        if name in self._writable or own_name(name) not in self._names:
+            return
+        why = None if os.access(os.path.join(self._place, name), os.W_OK) else why_not_written(self._place, name)
+        if why and why.cause != "no-folder":
+            path = titles(target.path) if isinstance(target, (Under, Date)) else ()
+            raise CannotWrite("%s. The command changed nothing" % why.sentence, cause=why.cause, why=why.sentence,
+                              file=name, path=path)
+        self._writable.add(name)
 
     def _streamed(self, process: Process, commands: Iterable[Command]) -> Iterator[Union[Done, Refused]]:
         """The answers to commands, in their order, each as it comes; some two groups are on the way at once."""
@@ -355,20 +467,45 @@ class Store:
         return cast(bytes, self._exchange(command))
 
     def _exchange(self, command: Command) -> Union[Done, bytes]:
-        """Sends a command and reads its reply; raises the refusal, with what the files say of it."""
+        """Sends a command and reads its reply; raises the refusal, with what the files say of it. Where another program
+        wrote a file between the look at it and the commit, which then writes nothing, the command is given again."""
+        self._again = False
+        for last in (False, False, True):
+            try:
+                return self._exchange_once(command)
+            except Changed:
+                if last or not self._again:
+                    raise
+                self._open_again()
+        raise AssertionError  # the last time returns or raises
+
+    def _exchange_once(self, command: Command) -> Union[Done, bytes]:
         process = self._ready()
         line = self._line(command)
+        self._busy, self._again = True, False
         try:
             process.send(line)
-            reply = self._reply(command, None if isinstance(command, Show) else self.show)
+            reply = self._reply(command, None if isinstance(command, Show) else self._shown)
+        except Stuck:
+            raise self._timed_out() from None
         except Error:
             raise
         except BaseException:
-            self._finish(listening=not isinstance(command, Show))
+            self._interrupted()
             raise
+        finally:
+            self._busy = False
         if isinstance(reply, Refused):
             raise reply
         return reply
+
+    def _shown(self, file: str) -> bytes:
+        """The bytes of a file as the program holds them, in the middle of a command."""
+        self._alive().send(Show(file).line())
+        reply = self._reply(Show(file))
+        if isinstance(reply, Refused):
+            raise reply
+        return cast(bytes, reply)
 
     def _reply(self, command: Command, show: Optional[Callable[[str], bytes]] = None) -> Union[Done, Refused, bytes]:
         """The reply to a command that was sent; where it was refused, `show` looks into the files."""
@@ -384,14 +521,21 @@ class Store:
         if word == b"fault":
             raise self._fault(rest.decode())
         if word == b"text":
-            text = self._alive().take(int(rest) + 1)
-            if text is None:
-                raise self._gone()
-            return text[:-1]
+            return self._text(int(rest))
         if word not in (b"safe", b"time"):
-            self._finish(listening=False)
+            self._in_text = True
+            self._finish()
             raise Error("the program answered %r, which is no reply of orgstore; the store is closed" % word[:40])
         return rest
+
+    def _text(self, length: int) -> bytes:
+        """The text of a reply."""
+        self._in_text = True
+        text = self._alive().take(length + 1)
+        if text is None:
+            raise self._gone()
+        self._in_text = False
+        return text[:-1]
 
     def _note(self, word: bytes, rest: bytes) -> None:
         """Keeps the counts that a reply tells."""
@@ -400,7 +544,7 @@ class Store:
         elif word == b"safe":
             self.acknowledged = self._before + int(rest)
             self.accepted = max(self.accepted, self.acknowledged)  # an interrupt may have taken replies away
-            if not self._busy:
+            if not self._many:
                 self._keep_marks()
 
     def _next(self) -> bytes:
@@ -414,22 +558,53 @@ class Store:
         return self._died(*self._finish())
 
     def _died(self, status: int, said: str) -> Died:
-        died = Died("orgstore ended in the middle (%s). %s: open the folder again, which finishes or forgets each "
-                    "other command" % (ended_by(status, said), self._safe_words()))
-        died.safe, died.said, died.status = self.acknowledged, said, status
-        return died
+        return Died("orgstore ended in the middle (%s). %s: open the folder again, which finishes or forgets each "
+                    "other command" % (ended_by(status, said), self._safe_words()), safe=self.acknowledged, said=said,
+                    status=status)
 
-    def _fault(self, name: str) -> Fault:
+    def _timed_out(self) -> TimedOut:
+        """The program is stuck: it is killed."""
+        process, self._process = self._process, None
+        number = process.id if process else 0
+        if process:
+            process.kill()
+        return TimedOut("orgstore (process %d) didn't answer in time, and was killed. %s: open the folder again, which "
+                        "finishes or forgets each other command" % (number, self._safe_words()), safe=self.acknowledged)
+
+    def _fault(self, name: str) -> Union[Fault, Changed]:
+        """What is raised for a fault that the program told, or for its end."""
+        if name == "Device" and not self._broken:
+            return self._device()
         advice = {
             "OutOfMemory": "memory was short, and the command changed nothing: try it again, or a smaller one",
-            "Device": "a call of the disk failed: close the store, find out what is wrong with the disk, and unmount "
-                      "it or restart the machine before you open the folder again",
+            "Device": _UNKNOWN,
             "Broken": "a call of the disk failed before, and the store does nothing more: close it",
         }.get(name, "the program couldn't end well (%s): open the folder again" % name)
         self._broken = self._broken or name in ("Device", "Broken")
-        fault = Fault("%s. %s" % (advice, self._safe_words()))
-        fault.name, fault.safe = name, self.acknowledged
-        return fault
+        why = self._why
+        return Fault("%s. %s" % (advice, self._safe_words()), name=name, safe=self.acknowledged,
+                     cause=why.cause if why else "", file=why.file if why else "", why=why.sentence if why else "")
+
+    def _device(self) -> Union[Fault, Changed]:
+        """A call of the disk failed: says why, as far as the folder tells it, and what became of the command."""
+        self._broken = True
+        now, journal = look(self._place), look_at_journal(self._place)
+        untouched = journal == self._journal
+        # behind its record the program writes files itself, but it replaces none
+        written = differing(self._marks, now) if untouched and not self._many else replaced(self._marks, now)
+        known = [name for name in written if own_name(name) in self._names]
+        if known:
+            self._again = untouched and self.accepted == self.acknowledged and not self._many
+            self._finish()
+            return self._replaced(known[0]) if self._many else self._given_up(known[0])
+        done = False if untouched else gate_is_open(self._place) or None
+        self._why = why = why_failed(self._place, self._sent, self._elsewhere, self._sent_size)
+        became = {False: "Nothing of it was written", True: "Opening the folder again finishes it",
+                  None: "Opening the folder again finishes or forgets it"}[done]
+        sentence = "%s. %s" % (why.sentence, became) if why else _UNKNOWN
+        return Fault("%s. %s" % (sentence, self._safe_words()), name="Device", safe=self.acknowledged, done=done,
+                     cause=why.cause if why else "device", file=why.file if why else "",
+                     why=why.sentence if why else "")
 
     def _safe_words(self) -> str:
         count = self.acknowledged

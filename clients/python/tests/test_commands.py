@@ -216,11 +216,12 @@ class Methods(FolderTest):
 
     def test_wrong_arguments_leave_the_store_open(self) -> None:
         day: Any = datetime.date(2026, 7, 1)
+        second: Any = "second"
         with Store(self.folder({"a.org": "* A\n"})) as store:
             with self.assertRaisesRegex(TypeError, "a moment is a datetime, or None for now, not datetime.date"):
                 store.clock_in("a.org", "A", day)
             with self.assertRaisesRegex(ValueError, "the place is 'first' or 'last', not 'second'"):
-                store.capture("a.org", "* N", place="second")
+                store.capture("a.org", "* N", place=second)
             self.assertEqual(store.settle(), 0)
 
     def test_a_folder_of_any_name(self) -> None:

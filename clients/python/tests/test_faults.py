@@ -44,7 +44,11 @@ OPENINGS: List[Tuple[Callable[[str], None], str, str]] = [
      "a change was cut short, and the journal is damaged, or another program's. Nothing was changed: copy the folder, "
      "look through the files, and take orgstore.journal away"),
     (os.rmdir, "Device", "there is no such folder"),
-    (lambda folder: write(folder, "\udcff"), "Device", "a call of the disk failed, or the folder can't be listed"),
+    (lambda folder: write(folder, "\udcff"), "Device", "the name of its entry '\\xff' isn't UTF-8: rename it"),
+    (lambda folder: os.symlink("l.org", folder + "/l.org"), "Device",
+     "l.org is a link that leads in a circle: take it away"),
+    (lambda folder: os.mkdir(folder + "/orgstore.journal"), "Device",
+     "orgstore.journal is no file: give it another name"),
     (two_names, "SameFile b.org", "two names lead to one file: keep one of them"),
     (too_large, "TooLarge a.org", "a file is past 64 MiB: split it"),
     (too_many, "TooManyFiles", "it has more than 256 Org files: take some to another folder"),
@@ -103,13 +107,20 @@ class Openings(FolderTest):
 
     def test_a_lock_that_ends(self) -> None:
         folder = self.folder({"a.org": ""})
-        first = Store(folder, group=10)
-        first.capture("a.org", "* 1")
-        closing = threading.Timer(0.3, first.close)
-        closing.start()
+        opened = threading.Event()
+
+        def hold() -> None:
+            with Store(folder, group=10) as first:
+                first.capture("a.org", "* 1")
+                opened.set()
+                time.sleep(0.3)
+
+        holding = threading.Thread(target=hold)
+        holding.start()
+        opened.wait()
         with Store(folder, wait=60) as second:
             self.assertEqual(second.show("a.org"), b"* 1\n")
-        closing.join()
+        holding.join()
 
     def test_no_program(self) -> None:
         folder = self.folder({})

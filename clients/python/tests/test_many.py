@@ -16,6 +16,13 @@ def captures(count: int, text: str = "* %d") -> Iterator[Command]:
 class Many(FolderTest):
     """`Store.many` and `many`."""
 
+    def test_a_program_that_ends_behind_the_last_reply(self) -> None:
+        """All is safe, and nothing says that it failed."""
+        ends = self.script("read -r line", "echo safe 0", "read -r line", "read -r line", "echo ok 1", "echo ok 2",
+                           "echo safe 2", "kill -9 $$")
+        with Store(self.folder({}), ends, group=2) as store:
+            self.assertEqual(store.many([Capture("a.org", "* 1"), Capture("a.org", "* 2")]), [Done(1), Done(2, 2)])
+
     def test_answers_and_progress(self) -> None:
         folder = self.folder({"a.org": ""})
         told: List[Tuple[int, int]] = []

@@ -1,9 +1,8 @@
 """Commands over many entries, under one lock."""
 from __future__ import annotations
 
-import signal
 from dataclasses import dataclass
-from typing import Any, Callable, Dict, List, Optional, Tuple
+from typing import Callable, Dict, List, Optional, Tuple
 
 from ..commands import Command
 from ..errors import Error, Refused
@@ -13,6 +12,7 @@ from .explain import stop_of
 from .report import Progress, ask, at_terminal, counted
 from .run import Run
 from .stops import INTERRUPTED, OK, REFUSED, Stop
+from .waiting import Left, waiting
 
 BULK_GROUP = 100
 
@@ -86,20 +86,26 @@ def say_left(run: Run, plan: Plan) -> None:
 
 def send(run: Run, store: Store, plan: Plan, past: str) -> int:
     """Sends the commands in groups through one process, and says how many are safe when Ctrl-C comes between."""
-    stop_asked, total = catch_interrupt(), len(plan.steps)
+    total = len(plan.steps)
     progress = Progress(past, total)
     refused: List[Tuple[Step, Refused]] = []
     sent = 0
     try:
-        while sent < total and not stop_asked():
-            part = plan.steps[sent:sent + BULK_GROUP]
-            replies = store.many([step.command for step in part])
-            refused += [(step, reply) for step, reply in zip(part, replies) if isinstance(reply, Refused)]
-            sent += len(part)
-            progress.show(sent, store.acknowledged)
+        with waiting(store, b"") as stop_asked:
+            while sent < total and not stop_asked():
+                part = plan.steps[sent:sent + BULK_GROUP]
+                replies = store.many([step.command for step in part])
+                refused += [(step, reply) for step, reply in zip(part, replies) if isinstance(reply, Refused)]
+                sent += len(part)
+                progress.show(sent, store.acknowledged)
     except Error as fault:
         stop = stop_of(fault, run.folder.path)
         raise Stop(stop.status, "%s; %d were to be %s" % (stop, total, past), total=total, **stop.fields) from None
+    except Left:
+        safe, more = store.acknowledged, min(BULK_GROUP, total - sent)
+        raise Stop(INTERRUPTED, "interrupted: %d of %d %s, and safe; each of the next %d is done whole or not at all; "
+                   "the same command does the rest" % (safe, total, past, more), reply="interrupted", safe=safe,
+                   total=total) from None
     finally:
         progress.end()
     for step, reply in refused:
@@ -109,17 +115,6 @@ def send(run: Run, store: Store, plan: Plan, past: str) -> int:
     if sent < total:
         raise Stop(INTERRUPTED, "interrupted: %d of %d %s, and safe; the same command does the rest"
                    % (safe, total, past), reply="interrupted", safe=safe, total=total)
+    run.report.acknowledged = True
     run.report.say("%d %s" % (safe, past), reply="ok", command=run.options.command, accepted=store.accepted, safe=safe)
     return REFUSED if refused or twins(plan) else OK
-
-
-def catch_interrupt() -> Callable[[], bool]:
-    """From now on the first Ctrl-C is noted, and a second one ends the run at once."""
-    noted: List[int] = []
-
-    def note(number: int, _: Any) -> None:
-        noted.append(number)
-        signal.signal(signal.SIGINT, signal.default_int_handler)
-
-    signal.signal(signal.SIGINT, note)
-    return lambda: bool(noted)

@@ -7,9 +7,11 @@ import re
 import sys
 from typing import List, Tuple
 
-from ..errors import Refused
+from ..causes import why_not_written
+from ..errors import CannotWrite, Refused
 from ..folder import Folder
 from ..heading import headings
+from ..lines import Order
 from ..names import is_file_name, own_name
 from ..section import BLANKS
 from ..stamp import stamp
@@ -19,7 +21,7 @@ from .entries import Entry, named, names_file
 from .finding import entries_of, file_of
 from .parsing import AT_OPTION, FILE_OPTION, Command, flag, option
 from .run import Run, check_state
-from .stops import Stop, Titles, Usage, refusal
+from .stops import Stop, Titles, Usage, cannot_write, refusal
 
 INBOX = "inbox.org"
 CAPTURE_OPTIONS = (
@@ -110,7 +112,12 @@ def capture_file(run: Run) -> Tuple[str, List[str]]:
     if not is_file_name(name):
         raise Usage("'%s' can't be a file's name: it ends in .org, and has no slash and no dot in front" % name)
     base = own_name(name)
-    return name, [] if base in run.folder.names() else [base]
+    if base in run.folder.names():
+        return name, []
+    why = why_not_written(run.folder.path, base)
+    if why:
+        raise cannot_write(CannotWrite(why.sentence, cause=why.cause, why=why.sentence, file=base))
+    return name, [base]
 
 
 def capture(run: Run) -> int:
@@ -123,7 +130,8 @@ def capture(run: Run) -> int:
         raise Usage("--head goes with neither --under nor --date")
     text = entry_text(run, title, body)
     title = headings(text, run.folder.states)[0].title
-    moment, place = run.moment, "first" if options.first else "last"
+    moment = run.moment
+    place: Order = "first" if options.first else "last"
 
     def act(store: Store, found: List[Entry]) -> int:
         above = found[0].heading.path if found else ()

@@ -3,18 +3,18 @@ from __future__ import annotations
 
 import os
 import re
-import sys
 from dataclasses import dataclass
 from typing import Any, Callable, Dict, List, Optional, Sequence
 
 from ..heading import Heading
 from ..lines import path_text, titles
 from ..names import is_file_name
+from . import streams
 from .report import ask, shown
 from .stops import Stop, Titles, refusal
 
-# FILE:LINE as editors and grep -n print it, with a column or the line's text behind it
-FILE_LINE = re.compile(r"(.*?\.org(?:_archive)?):([0-9]+)(?::(?:[0-9]+(?::|$))?(.*))?", re.DOTALL)
+# FILE:LINE, as editors and grep -n print it with a column or the line's text behind it, and as ls does
+FILE_LINE = re.compile(r"(.*?\.org(?:_archive)?):([0-9]+)(?::(?:[0-9]+(?::|$))?(.*)|[ ]+([^ ].*))?", re.DOTALL)
 # a line of `orgs ls --porcelain`
 LISTED = re.compile(r"([^\t]*\.org(?:_archive)?):[0-9]+\t[0-9]+\t[^\t]*\t[^\t]*\t[^\t]*\t([^\t]*)")
 
@@ -45,6 +45,13 @@ class Entry:
         """The heading as lists have it."""
         return "%s  %s" % (self.place, shown(path_text(self.heading.path)))
 
+    def text(self, state: Optional[str] = None) -> str:
+        """The heading as `ls` prints it behind its place; a state may be given as it is shown."""
+        heading = self.heading
+        tags = ":%s:" % ":".join(heading.tags) if heading.tags else ""
+        parts = [heading.keyword if state is None else state, heading.priority, shown(heading.title), tags]
+        return " ".join(part for part in parts if part)
+
     def fields(self) -> Dict[str, Any]:
         """The fields of its object."""
         heading = self.heading
@@ -67,21 +74,20 @@ def names_file(word: str) -> bool:
 
 @dataclass(frozen=True)
 class Place:
-    """Where a heading is looked for: in a file or in all, by a text, by a line and what stood there, or by its path."""
+    """Where a heading is looked for: in a file or in all, by a text, by its path, or by a line: with what `grep`
+    printed of it, what `ls` did, or alone."""
 
     file: Optional[str]
     text: str = ""
     line: Optional[int] = None
     stood: str = ""
+    listed: str = ""
     path: Optional[Titles] = None
 
     def among(self, found: List[Entry]) -> List[Entry]:
         """The headings that are meant: those at the path, else of the title, else whose title has the text in it."""
         if self.path is not None:
             return [entry for entry in found if entry.heading.path == self.path]
-        if self.line is not None:
-            above = [entry for entry in found if entry.heading.line <= self.line]
-            return above[-1:]
         exact, text = titles(self.text, strict=False), self.text.casefold()
         ways: List[Callable[[Heading], bool]] = [
             lambda heading: heading.path == exact, lambda heading: heading.title == self.text,
@@ -119,7 +125,7 @@ def choose(several: Ambiguous) -> Place:
     """Asks which of several headings is meant."""
     offered = several.found[:30]
     for number, entry in enumerate(offered, 1):
-        sys.stderr.write("%3d  %s\n" % (number, entry.line()))
+        streams.tell("%3d  %s\n" % (number, entry.line()))
     answer = ask("'%s' fits %d headings. Which one? " % (several.place.text, len(several.found)))
     if not answer.isdigit() or not 1 <= int(answer) <= len(offered):
         raise several.refused()

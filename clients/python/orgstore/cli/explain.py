@@ -1,49 +1,74 @@
 """What the errors of the package mean for people, and what to do next."""
 from __future__ import annotations
 
-from ..errors import CannotOpen, CannotRead, Changed, Error, Fault, NoProgram, Refused
+from ..errors import CannotOpen, CannotRead, CannotWrite, Changed, Error, Fault, NoProgram, Refused, TimedOut
 from ..journal import JOURNAL, holder
-from .stops import FAULT, REFUSED, Stop, cannot, refusal
+from .stops import FAULT, REFUSED, Stop, cannot, cannot_write, refusal
 
 
 def stop_of(fault: Error, folder: str) -> Stop:
     """An exception of the module that no command explains itself."""
     name, safe = str(getattr(fault, "name", "")), getattr(fault, "safe", None)
+    if isinstance(fault, CannotWrite):
+        return cannot_write(fault)
     if isinstance(fault, Refused):
         return refusal(name, str(fault))
     if isinstance(fault, CannotOpen):
-        return cannot(name, cannot_open(name, folder))
+        return cannot(name, cannot_open(fault, folder), cause=fault.cause or None, file=fault.file or None)
     if isinstance(fault, CannotRead):
         return cannot(name, str(fault), file=fault.file or None)
     if isinstance(fault, NoProgram):
         return cannot("NoProgram", str(fault))
     if isinstance(fault, Changed):
-        says = "another program wrote it in the middle, so the rest was given up; give the same command again"
-        return Stop(REFUSED, "%s: %s; the first %d commands of this run are safe" % (fault.file, says, fault.safe),
-                    reply="changed", file=fault.file, safe=fault.safe)
-    if name == "OutOfMemory":
-        says = "there was no memory for it; nothing changed, try again"
-    elif isinstance(fault, Fault):
-        says = "the disk failed; find out what is wrong with it, and unmount it, before the next command"
+        return changed(fault)
+    counts = "the first %d commands of this run are safe" % (safe or 0)
+    if isinstance(fault, Fault):
+        return Stop(FAULT, "%s: %s; %s" % (folder, of_machine(fault), counts), reply="fault", name=name, safe=safe,
+                    cause=fault.cause or None, file=fault.file or None, done=fault.done)
+    if isinstance(fault, TimedOut):
+        name, says = "TimedOut", "the disk or the program didn't answer; the next command finishes or forgets the rest"
     else:
         name, says = "Died", "the program ended in the middle; the next command finishes or forgets the rest"
-    counts = "the first %d commands of this run are safe" % (safe or 0)
     return Stop(FAULT, "%s: %s; %s" % (folder, says, counts), reply="fault", name=name, safe=safe)
 
 
-def cannot_open(name: str, folder: str) -> str:
+def changed(fault: Changed) -> Stop:
+    """Another program wrote a file in the middle."""
+    if fault.lost:
+        says = "another program wrote it while commands were put on the disk, and may have left them out; look what " \
+               "is in it, and give the command again where its change isn't"
+    else:
+        says = "another program wrote it in the middle, so the rest was given up; give the same command again"
+    return Stop(REFUSED, "%s: %s; the first %d commands of this run are safe" % (fault.file, says, fault.safe),
+                reply="changed", file=fault.file, safe=fault.safe, lost=fault.lost)
+
+
+def of_machine(fault: Fault) -> str:
+    """What failed, and what becomes of the command."""
+    if fault.name == "OutOfMemory":
+        return "there was no memory for it; nothing changed, try again"
+    if not fault.why:
+        return "the disk failed; find out what is wrong with it, and unmount it, before the next command"
+    became = {False: "nothing was changed", True: "the next command finishes the change",
+              None: "the next command finishes or forgets the change"}[fault.done]
+    return "%s; %s" % (fault.why, became)
+
+
+def cannot_open(fault: CannotOpen, folder: str) -> str:
     """Why a folder isn't opened, and what to do."""
     process = holder(folder)
     by = " (process %d)" % process if process else ""
-    word, _, of = name.partition(" ")
+    word, _, of = fault.name.partition(" ")
+    if word == "Device" and fault.cause != "device":
+        return "%s: %s" % (folder, fault.why)
     says = {
         "Locked": "a store is open on it%s; try again, or wait longer with --wait 60" % by,
-        "BadJournal": "a crash cut a change short, and the journal is damaged; nothing was changed. Copy the folder, "
+        "BadJournal": "a change was cut short, and the journal is damaged; nothing was changed. Copy the folder, "
                       "look through its files, and take %s away" % JOURNAL,
         "TooManyFiles": "it has more than 256 Org files; move some into another folder",
-        "Device": "it can't be read or written, or has a name that isn't UTF-8; look at it with `ls -la`",
+        "Device": "the disk failed; find out what is wrong with it, and unmount it, before the next command",
         "OutOfMemory": "there was no memory to open it; try again",
         "SameFile": "%s leads to a file that has another name there; take one of the two away" % of,
         "TooLarge": "%s has more than 64 MiB; split it" % of,
     }
-    return "%s: %s" % (folder, says.get(word, "it can't be opened: " + name))
+    return "%s: %s" % (folder, says.get(word, "it can't be opened: " + fault.name))

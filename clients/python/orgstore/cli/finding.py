@@ -2,7 +2,6 @@
 from __future__ import annotations
 
 import os
-from dataclasses import replace
 from typing import Iterable, List, Optional
 
 from ..folder import Folder
@@ -10,7 +9,7 @@ from ..lines import path_text, titles
 from ..names import is_file_name
 from ..outline import Outline
 from .entries import FILE_LINE, Ambiguous, Entry, Place, twin
-from .report import shown
+from .report import counted, shown
 from .stops import Stop, refusal
 
 
@@ -63,7 +62,9 @@ def find(folder: Folder, place: Place) -> Entry:
 
 def choice(folder: Folder, place: Place, found: List[Entry]) -> Entry:
     """The one heading among these that is meant."""
-    fitting = located(folder, place).among(found)
+    if place.file is not None and place.line is not None:
+        return at_line(folder.read(place.file), place, [entry for entry in found if entry.file == place.file])
+    fitting = place.among(found)
     if not fitting:
         raise missing(folder, place)
     if len(fitting) > 1:
@@ -71,25 +72,55 @@ def choice(folder: Folder, place: Place, found: List[Entry]) -> Entry:
     return fitting[0]
 
 
-def located(folder: Folder, place: Place) -> Place:
-    """A place by a line, where the text that grep printed stands now: commands before may have moved it."""
-    if place.file is None or place.line is None or not place.stood:
-        return place
-    lines, stood = folder.read(place.file).split(b"\n"), os.fsencode(place.stood)
-    if stood in b"".join(lines[place.line - 1:place.line]):
-        return place
-    same = [number for number, line in enumerate(lines, 1) if line == stood]
+def at_line(text: bytes, place: Place, found: List[Entry]) -> Entry:
+    """The heading that a line means, among those of its file: the one that `ls` printed, where that still stands there
+    or was moved; the one that has the line that `grep` printed, likewise; else the one at the line."""
+    line, fitting = place.line or 0, found
+    if place.listed:
+        fitting = [entry for entry in found if place.listed.split("  | ")[0].rstrip() == entry.text()]
+        if len(fitting) == 1:
+            return fitting[0]
+    elif place.stood:
+        line = moved(text, place, found)
+        fitting = [entry for entry in found if entry.heading.line <= line][-1:]
+        if fitting:
+            return fitting[0]
+    fitting = [entry for entry in fitting if entry.heading.line == line]
+    if not fitting:
+        raise no_heading(text, place, found)
+    return fitting[0]
+
+
+def moved(text: bytes, place: Place, found: List[Entry]) -> int:
+    """The line where the text that grep printed stands now: commands before may have moved it."""
+    lines, stood, line = text.split(b"\n"), os.fsencode(place.stood), place.line or 0
+    if stood in b"".join(lines[max(line - 1, 0):line]):
+        return line
+    same = [number for number, other in enumerate(lines, 1) if other == stood]
     if len(same) != 1:
-        raise refusal("NotFound", "%s:%d isn't '%s' any more; look for it again" % (
-            place.file, place.line, shown(place.stood)), place.file)
-    return replace(place, line=same[0])
+        raise no_heading(text, place, found)
+    return same[0]
+
+
+def no_heading(text: bytes, place: Place, found: List[Entry]) -> Stop:
+    """The refusal of a line, with the headings that stand near it."""
+    line, count = place.line or 0, text.count(b"\n") + (not text.endswith(b"\n") and bool(text))
+    if place.listed or place.stood:
+        says = "isn't '%s' any more" % shown(place.listed or place.stood)
+    elif not 0 < line <= count:
+        says = "isn't there: the file has %s" % counted(count, "line")
+    else:
+        says = "is no heading"
+    near = [entry for entry in found if entry.heading.line <= line][-1:]
+    near += [entry for entry in found if entry.heading.line > line][:1]
+    behind = "; near it: " + ", ".join(entry.line() for entry in near) if near else "; the file has no heading"
+    return refusal("NotFound", "%s:%d %s%s" % (place.file, line, says, behind), place.file,
+                   candidates=[entry.fields() for entry in near])
 
 
 def missing(folder: Folder, place: Place) -> Stop:
     """The refusal of a place where no heading is, with what may have been meant."""
     where = place.file or "the folder's files"
-    if place.line is not None:
-        return refusal("NotFound", "%s: no heading at or above line %d" % (where, place.line), place.file)
     text = place.text or path_text(place.path or ())
     line = FILE_LINE.fullmatch(text)
     if place.file is None and is_file_name(line[1] if line else text):

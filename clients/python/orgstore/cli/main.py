@@ -3,20 +3,19 @@ from __future__ import annotations
 
 import argparse
 import importlib
-import io
-import os
-import signal
 import sys
 from typing import Dict, List, Optional
 
 from ..errors import Error
 from ..version import version
+from . import streams
 from .entries import Ambiguous
 from .explain import stop_of
 from .parsing import USAGE_LINE, Command, command_parser, top_parser, words_of
 from .report import Report
 from .run import Run
 from .stops import FAULT, INTERRUPTED, OK, Stop, Usage
+from .waiting import Left
 
 MODULES = {
     "capture": "capture", "refile": "moving", "done": "states", "todo": "states", "archive": "moving", "in": "clocks",
@@ -76,40 +75,55 @@ def execute(options: argparse.Namespace, report: Report) -> int:
         return report.stopped(several.refused())
     except Error as fault:
         return report.stopped(stop_of(fault, where))
+    except Left:
+        says = "interrupted: the disk hasn't answered, and the change is done whole or not at all; the next command " \
+               "finishes or forgets it, look then"
+        return report.stopped(Stop(INTERRUPTED, says, reply="interrupted"))
 
 
-def main(arguments: Optional[List[str]] = None) -> int:
-    """Runs `orgs` with these words, else with those of the process, and answers its status."""
-    arguments = sys.argv[1:] if arguments is None else arguments
-    for stream in (sys.stdout, sys.stderr):
-        if isinstance(stream, io.TextIOWrapper):
-            stream.reconfigure(errors="surrogateescape")
+def run_words(arguments: List[str], report: Report) -> int:
+    """Runs the command of these words."""
     parser = top_parser()
     options = argparse.Namespace(directory=None, states=None, json=False, wait=5.0, quiet=False, at=None)
     # A '--' directly behind the command would be taken for the end of the options before it.
     cut = arguments.index("--") if "--" in arguments else len(arguments)
     parser.parse_args(arguments[:cut], options)
     options.rest += arguments[cut:]
+    report.as_json = options.json
     if options.version:
-        print("orgs %s" % version())
+        report.print("orgs %s\n" % version())
         return OK
     if options.help or options.command == "help":
-        print(help_on(options.rest[0] if options.rest else None))
+        report.print(help_on(options.rest[0] if options.rest else None) + "\n")
         return OK
     if options.command not in MODULES:
         given = "no command '%s'" % options.command if options.command else "no command"
         parser.error(given + "; `orgs --help` lists them")
-    report = Report(options.json)
+    return execute(options, report)
+
+
+def main(arguments: Optional[List[str]] = None) -> int:
+    """Runs `orgs` with these words, else with those of the process, and answers its status: 0 once a command is on the
+    disk, whatever becomes of what is said of it."""
+    report = Report(False)
     try:
-        status = execute(options, report)
-        sys.stdout.flush()
-        return status
-    except KeyboardInterrupt:
-        return report.stopped(Stop(INTERRUPTED, "interrupted; nothing is torn, and `orgs status` says what is there",
-                                   reply="interrupted"))
+        streams.prepare()
+        if arguments is None:
+            streams.in_utf_8()
+        status = run_words(sys.argv[1:] if arguments is None else arguments, report)
+    except SystemExit as ended:  # argparse, of a help or a usage
+        status = ended.code if isinstance(ended.code, int) else OK
     except OSError as fault:
-        os.dup2(os.open(os.devnull, os.O_WRONLY), sys.stdout.fileno())
-        if isinstance(fault, BrokenPipeError):
-            return 128 + signal.SIGPIPE
-        print("orgs: %s" % fault, file=sys.stderr)
-        return FAULT
+        report.unheard, status = fault, OK
+    except KeyboardInterrupt:
+        if not report.acknowledged:
+            says = "interrupted before anything was begun"
+            status = report.stopped(Stop(INTERRUPTED, says, reply="interrupted"))
+        else:
+            status = OK
+    except Exception as fault:  # a fault of this program: no reader of a shell is helped by where it was
+        says = "%s: %s" % (type(fault).__name__, fault)
+        known = "the command is done" if report.acknowledged else "look with `orgs ls` whether it is done"
+        report.warn("a fault of orgs itself, please report it (%s); %s" % (says, known))
+        status = OK if report.acknowledged else FAULT
+    return report.end(status)

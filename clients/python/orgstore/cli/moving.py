@@ -9,6 +9,7 @@ from ..commands import Archive, Refile
 from ..errors import Refused
 from ..folder import Folder
 from ..heading import States, headings
+from ..lines import Order
 from ..outline import Outline
 from ..section import CLOSED, planning
 from ..stamp import moved
@@ -42,7 +43,8 @@ def refile(run: Run) -> int:
 
     def act(store: Store, found: List[Entry]) -> int:
         entry, under = found
-        path, place = entry.heading.path, "first" if options.first else "last"
+        path = entry.heading.path
+        place: Order = "first" if options.first else "last"
         try:
             done = store.refile(entry.file, path, under.file, under.heading.path, place=place)
         except Refused as refused:

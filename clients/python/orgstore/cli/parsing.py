@@ -2,8 +2,11 @@
 from __future__ import annotations
 
 import argparse
+import sys
 from dataclasses import dataclass
-from typing import TYPE_CHECKING, Any, Callable, Dict, List, Tuple
+from typing import IO, TYPE_CHECKING, Any, Callable, Dict, List, Optional, Tuple
+
+from . import streams
 
 if TYPE_CHECKING:
     from .run import Run
@@ -38,7 +41,7 @@ AT_OPTION = option("--at", metavar="MOMENT", help="the moment, as '2026-07-01 10
 BULK_OPTIONS = (flag("-n", "--dry-run", help="only say what would be done"),
                 flag("-y", "--yes", help="don't ask at a terminal"))
 NAMING = ("HEADING is a path (Work/Pay rent), a part of a title that only one heading has (rent), FILE:LINE, or a line "
-          "of grep -n or ls --porcelain. Without FILE it is looked for in all files.")
+          "of ls, find or grep -n. Without FILE it is looked for in all files.")
 READS = "Reads the files alone: it works while a store is open."
 
 
@@ -52,6 +55,16 @@ def add_common(parser: argparse.ArgumentParser) -> None:
     parser.add_argument("-q", "--quiet", action="store_true", **unsaid)
 
 
+class Parser(argparse.ArgumentParser):
+    """A parser whose faults go where somebody takes them."""
+
+    def _print_message(self, message: str, file: Optional[IO[str]] = None) -> None:
+        if file is sys.stdout:
+            streams.write(message)
+        else:
+            streams.tell(message)
+
+
 class Help(argparse.HelpFormatter):
     """Fills the description, and keeps the lines of the example."""
 
@@ -62,9 +75,9 @@ class Help(argparse.HelpFormatter):
 def command_parser(name: str, command: Command) -> argparse.ArgumentParser:
     """Reads the options of a subcommand, and has its help."""
     example = "example:\n" + "".join("    %s\n" % line for line in command.example.split("\n"))
-    parser = argparse.ArgumentParser(prog="orgs " + name, usage=" ".join(["orgs", name, command.words, "[options]"]),
-                                     description="%s. %s" % (command.brief.capitalize(), command.more), epilog=example,
-                                     formatter_class=Help, allow_abbrev=False)
+    parser = Parser(prog="orgs " + name, usage=" ".join(["orgs", name, command.words, "[options]"]),
+                    description="%s. %s" % (command.brief.capitalize(), command.more), epilog=example,
+                    formatter_class=Help, allow_abbrev=False)
     for add in command.options:
         add(parser)
     add_common(parser)
@@ -76,7 +89,7 @@ USAGE_LINE = "orgs [-C DIR] [--states STATES] [--json] COMMAND .."
 
 def top_parser() -> argparse.ArgumentParser:
     """Reads what stands before the subcommand."""
-    parser = argparse.ArgumentParser(prog="orgs", usage=USAGE_LINE, add_help=False, allow_abbrev=False)
+    parser = Parser(prog="orgs", usage=USAGE_LINE, add_help=False, allow_abbrev=False)
     add_common(parser)
     parser.add_argument("-h", "--help", action="store_true")
     parser.add_argument("--version", action="store_true")

@@ -2,7 +2,6 @@
 from __future__ import annotations
 
 import os
-import sys
 from typing import Dict, List, Optional, Tuple
 
 from ..outline import Outline
@@ -24,13 +23,10 @@ READ_OPTIONS = (FILE_OPTION,
 
 def pretty(run: Run, entry: Entry, width: int) -> str:
     """A heading for people: its place, its title indented by its level, its state and tags."""
-    heading = entry.heading
-    state = heading.keyword
+    state = entry.heading.keyword
     if state and colours():
         state = "\033[%dm%s\033[0m" % (32 if state in run.folder.states.done else 31, state)
-    tags = ":%s:" % ":".join(heading.tags) if heading.tags else ""
-    parts = [state, heading.priority, shown(heading.title), tags]
-    return "%-*s  %s%s" % (width, entry.place, "  " * (heading.level - 1), " ".join(part for part in parts if part))
+    return "%-*s  %s%s" % (width, entry.place, "  " * (entry.heading.level - 1), entry.text(state))
 
 
 def say_entries(run: Run, entries: List[Entry], notes: Optional[List[str]] = None) -> None:
@@ -38,7 +34,7 @@ def say_entries(run: Run, entries: List[Entry], notes: Optional[List[str]] = Non
     width = max((len(entry.place) for entry in entries), default=0)
     for number, entry in enumerate(entries):
         if run.options.porcelain and not run.report.as_json:
-            print(entry.porcelain())
+            run.report.print(entry.porcelain() + "\n")
         else:
             note = notes[number] if notes else ""
             run.report.say(pretty(run, entry, width) + note, reply="heading", **entry.fields())
@@ -51,10 +47,12 @@ def is_wanted(run: Run, entry: Entry) -> bool:
     return not wanted or entry.heading.keyword in wanted
 
 
-def warn_of_crash(run: Run) -> None:
-    """Says where what was read is half of a change."""
+def warn_of_halves(run: Run) -> None:
+    """Says where what was read is half of a change, or isn't of one moment."""
     if run.folder.cut_short:
-        run.report.warn("a crash left a change half written; the next command that opens the folder finishes it")
+        run.report.caution("CutShort", "a change is half written; the next command that opens the folder finishes it")
+    elif run.folder.torn:
+        run.report.caution("NotOneMoment", "a store writes the folder all the time: what is listed isn't of one moment")
 
 
 def files_to_read(run: Run, file: Optional[str]) -> List[str]:
@@ -72,7 +70,7 @@ def ls(run: Run) -> int:
     file, place = run.take_file_and_place()
     texts = run.folder.snapshot(files_to_read(run, file))
     entries = entries_in(run.folder.outline(name, text) for name, text in texts.items())
-    warn_of_crash(run)
+    warn_of_halves(run)
     if place:
         entries = below(place, entries, run)
     say_entries(run, [entry for entry in entries if is_wanted(run, entry)])
@@ -98,7 +96,7 @@ def find(run: Run) -> int:
         outline = run.folder.outline(name, text)
         notes = ((entry, hit(outline, number, wanted)) for number, entry in enumerate(entries_in([outline])))
         hits += [(entry, note) for entry, note in notes if note is not None and is_wanted(run, entry)]
-    warn_of_crash(run)
+    warn_of_halves(run)
     say_entries(run, [entry for entry, _ in hits], [note for _, note in hits])
     return OK if hits else REFUSED
 
@@ -129,8 +127,7 @@ def show(run: Run) -> int:
     if run.report.as_json:
         run.report.say("", reply="text", file=name, path=list(path), **text_field(text))
     else:
-        sys.stdout.flush()
-        sys.stdout.buffer.write(text)
+        run.report.print(text)
     return OK
 
 

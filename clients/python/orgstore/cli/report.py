@@ -3,11 +3,13 @@ from __future__ import annotations
 
 import os
 import re
+import signal
 import sys
 from dataclasses import dataclass, field
-from typing import Any, Dict
+from typing import Any, Dict, Optional, Union
 
-from .stops import Stop
+from . import streams
+from .stops import FAULT, OK, Stop
 
 
 def shown(text: str) -> str:
@@ -23,32 +25,65 @@ class Report:
 
     as_json: bool
     quiet: bool = False
+    acknowledged: bool = False
+    """Whether a command of this run is on the disk: then the run has done its work, whoever hears of it."""
+    unheard: Optional[OSError] = None
+    """Why standard output takes no more."""
+
+    def print(self, text: Union[str, bytes]) -> None:
+        """Writes to standard output, as long as that takes it."""
+        if self.unheard is None:
+            try:
+                streams.write(text)
+            except OSError as fault:
+                self.unheard = fault
 
     def say(self, text: str, /, **fields: Any) -> None:
         """Says what was done or found: a text for people, and the fields of its object."""
         if self.as_json:
             self.print_object(fields)
         elif not (self.quiet and fields.get("reply") in ("ok", "left")):
-            print(text)
+            self.print(text + "\n")
 
     def warn(self, text: str) -> None:
         """Tells people something more, on standard error."""
         if not self.as_json:
-            print("orgs: " + text, file=sys.stderr)
+            streams.tell("orgs: %s\n" % text)
+
+    def caution(self, name: str, text: str) -> None:
+        """Tells people and programs what to think of what is printed."""
+        if self.as_json:
+            self.print_object({"reply": "warning", "name": name, "message": text})
+        else:
+            self.warn(text)
 
     def stopped(self, stop: Stop) -> int:
         """Says how the run, or one of its commands, ended early, and answers the status."""
         if self.as_json:
             self.print_object(stop.fields)
         else:
-            print("orgs: %s" % stop, file=sys.stderr)
+            streams.tell("orgs: %s\n" % stop)
         return stop.status
 
     def print_object(self, fields: Dict[str, Any]) -> None:
         """Prints an object on a line; fields of None are left out."""
         import json  # rarely needed
 
-        print(json.dumps({name: clean(value) for name, value in fields.items() if value is not None}))
+        self.print(json.dumps({name: clean(value) for name, value in fields.items() if value is not None}) + "\n")
+
+    def end(self, status: int) -> int:
+        """The status of the run, once its output is where it goes, or has nowhere to go."""
+        if self.unheard is None:
+            try:
+                streams.flush()
+            except OSError as fault:
+                self.unheard = fault
+        if self.unheard is None or self.acknowledged or status != OK:
+            return status
+        if isinstance(self.unheard, BrokenPipeError):
+            return 128 + signal.SIGPIPE
+        streams.tell("orgs: %s\n" % self.unheard)
+        return FAULT
 
 
 def clean(value: Any) -> Any:
@@ -74,8 +109,7 @@ def at_terminal() -> bool:
 
 def ask(question: str) -> str:
     """A line from the terminal; an end of input is no answer."""
-    sys.stderr.write(question)
-    sys.stderr.flush()
+    streams.tell(question)
     return sys.stdin.readline().strip()
 
 
@@ -90,16 +124,15 @@ class Progress:
 
     verb: str
     total: int
-    shown: bool = field(default_factory=sys.stderr.isatty)
+    shown: bool = field(default_factory=lambda: sys.stderr.isatty())
 
     def show(self, done: int, safe: int) -> None:
         """Draws how many are done, and how many of them are safe."""
         if self.shown:
             bar = "#" * (30 * done // max(self.total, 1))
-            sys.stderr.write("\r[%-30s] %d of %d %s, %d safe\033[K" % (bar, done, self.total, self.verb, safe))
-            sys.stderr.flush()
+            streams.tell("\r[%-30s] %d of %d %s, %d safe\033[K" % (bar, done, self.total, self.verb, safe))
 
     def end(self) -> None:
         """Takes the bar away."""
         if self.shown:
-            sys.stderr.write("\r\033[K")
+            streams.tell("\r\033[K")

@@ -9,7 +9,7 @@ from dataclasses import dataclass
 from typing import Any, Callable, Dict, List, Optional, Sequence, Tuple, TypeVar
 
 from ..commands import Done
-from ..errors import Refused
+from ..errors import CannotWrite, Refused
 from ..folder import Folder
 from ..heading import States
 from ..journal import JOURNAL
@@ -19,7 +19,8 @@ from ..store import Store
 from .entries import FILE_LINE, LISTED, Ambiguous, Entry, Place, choose, named, names_file
 from .finding import existing, file_of, find
 from .report import Report, at_terminal, shown
-from .stops import OK, Stop, Titles, Usage, cannot, refusal
+from .stops import OK, Stop, Titles, Usage, cannot, cannot_write, refusal
+from .waiting import waiting
 
 Result = TypeVar("Result")
 
@@ -105,7 +106,7 @@ class Run:
             if listed:
                 return Place(name, listed[2], path=titles(listed[2], strict=False))
             if line:
-                return Place(name, line[0], line=int(line[2]), stood=line[3] or "")
+                return Place(name, line[0], line=int(line[2]), stood=line[3] or "", listed=line[4] or "")
         return Place(file, word)
 
     def take_place(self, what: str = "HEADING") -> Place:
@@ -130,6 +131,8 @@ class Run:
     def refused(self, refused: Refused, file: Optional[str], path: Optional[Titles], more: str = "") -> Stop:
         """The end of a run whose command the store refused."""
         entry = named(file, path) if file and path else file or ""
+        if isinstance(refused, CannotWrite):
+            return cannot_write(refused)
         message = advice(refused, entry, self.folder.states, more)
         return refusal(refused.name, message, file, path)
 
@@ -139,14 +142,17 @@ class Run:
         while True:
             try:
                 with self.folder.open(new=new) as store:
-                    return act(store, [find(self.folder, place) for place in places])
+                    found = [find(self.folder, place) for place in places]
+                    with waiting(store):
+                        return act(store, found)
             except Ambiguous as several:
                 if not at_terminal():
                     raise several.refused() from None
                 places = [choose(several) if place == several.place else place for place in places]
 
     def done(self, done: Done, text: str, **fields: Any) -> int:
-        """Says what was done."""
+        """Says what was done: from here on the run ends well."""
+        self.report.acknowledged = True
         self.report.say(text, reply="ok", command=self.options.command, accepted=done.accepted, safe=done.safe,
                         **fields)
         return OK

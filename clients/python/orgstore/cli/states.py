@@ -2,9 +2,9 @@
 from __future__ import annotations
 
 import os
-from typing import List, Tuple
+from typing import List, Optional, Tuple
 
-from ..errors import Refused
+from ..errors import CannotRead, Refused
 from ..folder import Folder
 from ..section import BLANKS, planning
 from ..store import Store
@@ -26,7 +26,9 @@ def change_state(run: Run, place: Place, state: str) -> int:
         except Refused as refused:
             raise run.refused(refused, entry.file, path) from None
         # only a task that repeats gets another state than the one that was asked for
-        keyword, dates = state_now(run.folder, entry) if state in run.folder.states.done else (state, "")
+        run.report.acknowledged = True
+        now = state_now(run.folder, entry) if state in run.folder.states.done else None
+        keyword, dates = now or (state, "")
         says = keyword or "no state"
         if keyword != state:
             says = "%s, and %s again, %s" % (state, keyword, dates)
@@ -35,13 +37,16 @@ def change_state(run: Run, place: Place, state: str) -> int:
     return run.with_headings([place], act)
 
 
-def state_now(folder: Folder, entry: Entry) -> Tuple[str, str]:
-    """The state of a heading as the files have it now, and its planning line."""
-    outline = folder.outline(entry.file)
+def state_now(folder: Folder, entry: Entry) -> Optional[Tuple[str, str]]:
+    """The state of a heading as the files have it now, and its planning line; None where that can't be told."""
+    try:
+        outline = folder.outline(entry.file)
+    except CannotRead:
+        return None
     for number, heading in enumerate(outline.headings):
         if heading.path == entry.heading.path:
             return heading.keyword, os.fsdecode(planning(outline.section(number)).strip(BLANKS))
-    return "", ""
+    return None
 
 
 def done(run: Run) -> int:

@@ -4,6 +4,7 @@ from __future__ import annotations
 import os
 from typing import Dict, List
 
+from ..causes import why_not_finished
 from ..heading import States
 from ..journal import holder, journal_state
 from ..names import is_archive
@@ -29,6 +30,8 @@ def status(run: Run) -> int:
     if clock:
         since = clock[1].strftime("%Y-%m-%d %H:%M")
     word, says, unfinished = journal_state(folder.read, process)
+    why = why_not_finished(folder.path) if unfinished else None
+    says += "; before that, " + why.sentence if why else ""
     rows = [("folder", os.path.abspath(folder.path)), ("states", str(folder.states)),
             ("files", "%d, and %s" % (len(own), counted(len(names) - len(own), "archive"))),
             ("headings", by_state(folder.states, counts)),

@@ -3,7 +3,7 @@ from __future__ import annotations
 
 from typing import Any, Optional, Tuple
 
-from ..errors import REFUSALS
+from ..errors import REFUSALS, CannotWrite
 
 OK, REFUSED, USAGE, CANNOT_OPEN, FAULT, INTERRUPTED = 0, 1, 2, 3, 4, 130
 
@@ -27,8 +27,13 @@ class Stop(Exception):
 
 def refusal(name: str, message: str, file: Optional[str] = None, path: Optional[Titles] = None, **more: Any) -> Stop:
     """A command that was refused, by the store or before it was asked; nothing changed."""
-    return Stop(REFUSED, message, reply="refused", code=CODES[name], name=name, file=file,
+    return Stop(REFUSED, message, reply="refused", code=CODES.get(name), name=name, file=file,
                 path=None if path is None else list(path), **more)
+
+
+def cannot_write(refused: CannotWrite) -> Stop:
+    """A file that can't be written, so that the store wasn't asked."""
+    return refusal(refused.name, "%s; nothing was changed" % refused.why, refused.file, cause=refused.cause)
 
 
 def cannot(name: str, message: str, **more: Any) -> Stop:

@@ -1,0 +1,66 @@
+"""Whether another program wrote a file: what the system tells of each file of a folder, before and after a command."""
+from __future__ import annotations
+
+import os
+from typing import Dict, List, NamedTuple, Optional, Tuple
+
+from .journal import JOURNAL
+
+
+class Mark(NamedTuple):
+    """What tells of a file whether it was written: its number, which one that replaces it hasn't, its size, and when it
+    was written last, in nanoseconds."""
+
+    inode: int
+    size: int
+    written: int
+
+
+Marks = Dict[str, Mark]
+"""The marks of the Org files of a folder, by their names."""
+
+
+def mark_of(known: os.stat_result) -> Mark:
+    """The mark of a file."""
+    return Mark(known.st_ino, known.st_size, known.st_mtime_ns)
+
+
+def look(folder: str) -> Marks:
+    """The marks of the Org files that are in a folder."""
+    marks = {}
+    try:
+        with os.scandir(folder) as entries:
+            for entry in entries:
+                if entry.name.endswith((".org", ".org_archive")) and entry.name[0] != "." and entry.is_file():
+                    marks[entry.name] = mark_of(entry.stat())
+    except OSError:
+        pass  # a file, or the folder, goes away just now: that is a change too
+    return marks
+
+
+def look_at_journal(folder: str) -> Tuple[Optional[Mark], bytes]:
+    """The mark of the journal, and the front of its record: each commit changes them."""
+    try:
+        with open(os.path.join(folder, JOURNAL), "rb") as file:
+            return mark_of(os.fstat(file.fileno())), file.read(4096)[1:]
+    except OSError:
+        return None, b""
+
+
+def differing(before: Marks, after: Marks) -> List[str]:
+    """The files that were written, made, replaced or removed between two looks."""
+    return sorted(name for name in {*before, *after} if before.get(name) != after.get(name))
+
+
+def replaced(before: Marks, after: Marks) -> List[str]:
+    """The files that were replaced or removed between two looks: a store does neither."""
+    return sorted(name for name, mark in before.items() if name not in after or after[name].inode != mark.inode)
+
+
+def doubtful(before: Marks, after: Marks, journal: Optional[Mark]) -> List[str]:
+    """The files that another program may have written after a commit did: those that were replaced, and those that were
+    written after the journal, which is what a commit writes last."""
+    end = journal.written if journal else 0
+    both = (name for name in differing(before, after) if name in before and name in after)
+    later = [name for name in both if after[name].written > end]
+    return sorted({*replaced(before, after), *later})
