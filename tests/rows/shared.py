@@ -30,6 +30,7 @@ DATE_RANGE = Refusal("11 DateRange")
 NO_CLOCK = Refusal("12 NoClock")
 CLOCK_BACKWARDS = Refusal("13 ClockBackwards")
 BAD_LOCATION = Refusal("15 BadLocation")
+NOT_THERE = Refusal("16 NotThere")
 
 
 class Room:

@@ -34,8 +34,8 @@ if sys.version_info < (3, 9):
 from .commands import Archive, Capture, CaptureTemplate, ClockIn, ClockOut, Command, Done, Refile, Todo
 from .errors import (AlreadyArchive, BadEntry, BadLine, BadLocation, BadRepeat, BadTemplate, CannotOpen, CannotRead,
                      CannotWrite, Changed, ClockBackwards, Closed, DateRange, Died, Error, Fault, InsideItself, Locked,
-                     Misused, NoClock, NoProgram, NoSuchFile, NotFound, NotUnique, OddPlanning, Refused, TimedOut,
-                     TooLarge, UnknownState)
+                     Misused, NoClock, NoProgram, NoSuchFile, NotFound, NotThere, NotUnique, OddPlanning, Refused,
+                     TimedOut, TooLarge, UnknownState)
 from .heading import Heading, States, headings, lookup
 from .lines import Moment, Order, Path, Text, titles
 from .process import program
@@ -47,9 +47,9 @@ __all__ = [
     "AlreadyArchive", "Archive", "BadEntry", "BadLine", "BadLocation", "BadRepeat", "BadTemplate", "CannotOpen",
     "CannotRead", "CannotWrite", "Capture", "CaptureTemplate", "Changed", "ClockBackwards", "ClockIn", "ClockOut",
     "Closed", "Command", "Date", "DateRange", "Died", "Done", "Error", "Fault", "Head", "Heading", "InsideItself",
-    "Locked", "Misused", "Moment", "NoClock", "NoProgram", "NoSuchFile", "NotFound", "NotUnique", "OddPlanning",
-    "Order", "Path", "Refile", "Refused", "States", "Store", "Target", "Text", "TimedOut", "Todo", "TooLarge", "Top",
-    "Under", "UnknownState", "headings", "lookup", "many", "program", "titles",
+    "Locked", "Misused", "Moment", "NoClock", "NoProgram", "NoSuchFile", "NotFound", "NotThere", "NotUnique",
+    "OddPlanning", "Order", "Path", "Refile", "Refused", "States", "Store", "Target", "Text", "TimedOut", "Todo",
+    "TooLarge", "Top", "Under", "UnknownState", "headings", "lookup", "many", "program", "titles",
 ]
 
 __version__ = version()

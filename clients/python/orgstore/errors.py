@@ -238,6 +238,12 @@ class BadLocation(Refused):
     code, name = 15, "BadLocation"
 
 
+class NotThere(Refused):
+    """The bytes that an edit is to replace don't stand at its position."""
+
+    code, name = 16, "NotThere"
+
+
 class BadLine(Refused):
     """The command can't be put into a line that the program takes."""
 
@@ -246,7 +252,7 @@ class BadLine(Refused):
 
 _KINDS: Tuple[Type[Refused], ...] = (
     NoSuchFile, BadTemplate, BadEntry, NotFound, NotUnique, InsideItself, AlreadyArchive, UnknownState, OddPlanning,
-    BadRepeat, DateRange, NoClock, ClockBackwards, TooLarge, BadLocation, BadLine)
+    BadRepeat, DateRange, NoClock, ClockBackwards, TooLarge, BadLocation, NotThere, BadLine)
 
 REFUSALS = {kind.code: kind for kind in _KINDS}
 """The program's refusals by their codes."""

@@ -10,7 +10,7 @@ use Rattle.org_journal.specs.Recovered.{Image, contents}
 use Rattle.org_texts.specs.declared.plan.Plan.{Plan}
 use Rattle.org_texts.specs.Texts.{Holding}
 use Rattle.org_commands.specs.declared.command.Refusal.{Refusal}
-use Rattle.org_commands.specs.declared.command.Refusal.TheVariants.{NoSuchFile, BadTemplate, BadEntry, NotFound, NotUnique, InsideItself, AlreadyArchive, UnknownState, OddPlanning, BadRepeat, DateRange, NoClock, ClockBackwards, BadLocation, TooLarge}
+use Rattle.org_commands.specs.declared.command.Refusal.TheVariants.{NoSuchFile, BadTemplate, BadEntry, NotFound, NotUnique, InsideItself, AlreadyArchive, UnknownState, OddPlanning, BadRepeat, DateRange, NoClock, ClockBackwards, BadLocation, NotThere, TooLarge}
 use Rattle.org_commands.specs.declared.command.Reply.{Reply}
 use Rattle.org_commands.specs.declared.command.Reply.TheVariants.{Done, Safe, Text, Time}
 use Rattle.org_commands.specs.declared.command.RunFault.{RunFault}
@@ -130,6 +130,7 @@ module _ {D : Type 0} (g : Ghosts D) (old : StoreView D)
       go : (f : RunFault) → PutsPlan plan held (Err f) next → ExecutesTo g old (changed old.session (new_texts plan held.now)) (Err f) new
       go (Refused TooLarge) puts = acts_refused new same unbroken (changed old.session (new_texts plan held.now)) TooLarge (refuses_large old.session (new_texts plan held.now) puts.0)
       go (Refused NoSuchFile) puts = absurd puts
+      go (Refused NotThere) puts = absurd puts
       go (Refused BadTemplate) puts = absurd puts
       go (Refused BadEntry) puts = absurd puts
       go (Refused NotFound) puts = absurd puts

@@ -13,7 +13,7 @@ use Rattle.org_commands.specs.declared.command.Refusal.TheVariants.{TooLarge}
 use Rattle.org_commands.specs.declared.command.Reply.TheVariants.{Done, Safe, Text, Time}
 use Rattle.org_commands.specs.declared.command.RunFault.{RunFault}
 use Rattle.org_commands.specs.declared.command.RunFault.TheVariants.{Refused, OutOfMemory, Device, Broken}
-use Rattle.org_commands.specs.Files.{AreReady, files_of, has_large, texts_in}
+use Rattle.org_commands.specs.Files.{AreTouched, files_of, has_large, texts_in}
 use Rattle.org_commands.specs.InOrder.{is_name, with_all}
 use Rattle.org_commands.specs.Outcome.{Accepts, AsksToSettle, Outcome, Refuses, Shows, Tells, changed, counted, written}
 use Rattle.org_commands.specs.Session.{StoreView, Session}
@@ -42,10 +42,10 @@ names_in set [] = refl
 names_in set (name ∷ names) = ap (λ ns. name ∷ ns) (names_in set names)
 
 -- a plan's files join those that waited before the command
-pub dirties_planned : (plan : Plan) (held : Holding) → AreReady (files_of plan) held → Dirties held.before.dirty (files_of plan) (planned plan held.now).dirty
-dirties_planned plan held ready name there = elim (cases_Bool (is_name (files_of plan) name)) [
+pub dirties_planned : (plan : Plan) (held : Holding) → AreTouched (files_of plan) held → Dirties held.before.dirty (files_of plan) (planned plan held.now).dirty
+dirties_planned plan held touched name there = elim (cases_Bool (is_name (files_of plan) name)) [
   | inl t ↦ any_back held.before.dirty (files_of plan) name (named_any (files_of plan) name ∙ t)
-  | inr f ↦ any_front held.before.dirty (files_of plan) name (ready.dirty name f ((plan_other plan held.now name f).1 there))
+  | inr f ↦ any_front held.before.dirty (files_of plan) name (touched.dirty name f ((plan_other plan held.now name f).1 there))
 ]
 
 -- what none of them is, no file is that waits now
@@ -67,14 +67,14 @@ other_joined old names (first ∷ now) dirties name other = go (old ++ names) re
     )
 
 -- a command whose plan was put and that was counted
-pub dirty_put : {A : Type 0} (full : Bool) (plan : Plan) (old mid new : Holding) (result : Result A RunFault) → AreReady (files_of plan) old → mid.now ≡ planned plan old.now → mid.before ≡ old.before
+pub dirty_put : {A : Type 0} (full : Bool) (plan : Plan) (old mid new : Holding) (result : Result A RunFault) → AreTouched (files_of plan) old → mid.now ≡ planned plan old.now → mid.before ≡ old.before
     → DirtyAfterCounted full mid result new → DirtyAfterAccepted full (files_of plan) old result new
-dirty_put true plan old mid new (Ok a) ready now before dirty_files = (λ full. dirty_files, subst (Dirties old.before.dirty (files_of plan)) (sym dirty_files) (dirties_none old.before.dirty (files_of plan)))
-dirty_put false plan old mid new (Ok a) ready now before dirty_files = (
+dirty_put true plan old mid new (Ok a) touched now before dirty_files = (λ full. dirty_files, subst (Dirties old.before.dirty (files_of plan)) (sym dirty_files) (dirties_none old.before.dirty (files_of plan)))
+dirty_put false plan old mid new (Ok a) touched now before dirty_files = (
   λ full. absurd (false≢true full),
-  subst (Dirties old.before.dirty (files_of plan)) (sym (dirty_files ∙ ap (λ (s : TextSet). s.dirty) now)) (dirties_planned plan old ready),
+  subst (Dirties old.before.dirty (files_of plan)) (sym (dirty_files ∙ ap (λ (s : TextSet). s.dirty) now)) (dirties_planned plan old touched),
 )
-dirty_put full plan old mid new (Err fault) ready now before dirty_files = dirty_files ∙ ap (λ (s : TextSet). s.dirty) before
+dirty_put full plan old mid new (Err fault) touched now before dirty_files = dirty_files ∙ ap (λ (s : TextSet). s.dirty) before
 
 -- a command that changes nothing and was counted
 pub dirty_unchanged : {A : Type 0} (full : Bool) (old mid new : Holding) (result : Result A RunFault) → mid.now ≡ old.before → mid.before ≡ old.before

@@ -10,7 +10,6 @@ use Rattle.std.proofs.lemmas.Bool.Decides.{nat_tests}
 use Rattle.std.proofs.lemmas.Slice.Eq.{bytes_eq-Decides}
 use Rattle.org_disk.specs.Names.{journal_name}
 use Rattle.org_disk.proofs.Names.{name_cases, same_name}
-use Rattle.org_splice.specs.Edits.{CanApply}
 use Rattle.org_splice.specs.Lines.{terminated}
 use Rattle.org_splice.specs.Texts.{EditedText, terminated_text, settled, spliced_each}
 use Rattle.org_journal.specs.Recovered.{Image}
@@ -18,13 +17,13 @@ use Rattle.org_fileset.specs.Names.{limit}
 use Rattle.org_texts.specs.declared.plan.FileEdits.{FileEdits}
 use Rattle.org_texts.specs.declared.plan.Plan.{Plan}
 use Rattle.org_texts.specs.Files.{StandOver, is_dirty}
-use Rattle.org_texts.specs.Plan.{CanEdit, IsPlan, planned, with_edits, with_second}
+use Rattle.org_texts.specs.Plan.{CanEdit, IsPlan, LieIn, planned, with_edits, with_second}
 use Rattle.org_texts.specs.Texts.{Holding, TextSet, bytes_or, terminated_in, held_over, text_of, text_or_none, with_change, with_name, with_text}
 use Rattle.org_splice.proofs.Lines.{terminated_twice}
 use Rattle.org_texts.proofs.Heads.{terminated_text-bytes, is_terminated-terminated}
 use Rattle.org_texts.proofs.Looking.{change_this, change_other, held_over-held, not_equal, the_value}
 use Rattle.org_texts.proofs.Standing.{StandOver-terminated, StandOver-edits, StandOver-held}
-use Rattle.org_commands.specs.Files.{AreReady, AreSmallToWrite, AreTextsOf, IsSound, KeepsHeld, files_of, has_large, new_texts, second_file, texts_in}
+use Rattle.org_commands.specs.Files.{AreReady, AreSmallToWrite, AreTextsOf, AreTouched, IsSound, KeepsHeld, files_of, has_large, new_texts, second_file, texts_in}
 use Rattle.org_commands.specs.InOrder.{is_name}
 
 -- ---- names
@@ -296,7 +295,7 @@ none_ready held same = record {
 -- ---- a plan is put
 
 can_held : (change : FileEdits) (set : TextSet) → CanEdit change set → IsSome (text_of set change.file)
-can_held change set can = let is = the_value (λ (t : EditedText). CanApply change.edits.items t.bytes) (text_of set change.file) can in ap is_some is.1
+can_held change set can = let is = the_value (λ (t : EditedText). LieIn change.edits.items t.bytes) (text_of set change.file) can in ap is_some is.1
 
 pub texts_edited : (change : FileEdits) (names : List (List ℕ)) (live : Type 0) (files : Image) (set : TextSet) → CanEdit change set → AreTextsOf names live files set → AreTextsOf names live files (with_edits change set)
 texts_edited change names live files set can are = record {
@@ -390,13 +389,13 @@ same_bytes : (o : Option EditedText) → (text_or_none o).bytes ≡ bytes_or [] 
 same_bytes None = refl
 same_bytes (Some t) = refl
 
-pub small_put : (plan : Plan) (held : Holding) → AreReady (files_of plan) held → AreSmallToWrite held.before → has_large (new_texts plan held.now) ≡ false → AreSmallToWrite (planned plan held.now)
-small_put plan held ready small none name there = elim (cases_Bool (is_name (files_of plan) name)) [
+pub small_put : (plan : Plan) (held : Holding) → AreTouched (files_of plan) held → AreSmallToWrite held.before → has_large (new_texts plan held.now) ≡ false → AreSmallToWrite (planned plan held.now)
+small_put plan held touched small none name there = elim (cases_Bool (is_name (files_of plan) name)) [
   | inl t ↦ subst (λ (b : List ℕ). length b ≤ limit) (sym (same_bytes (text_of (planned plan held.now) name))) (none_large (planned plan held.now) (files_of plan) name none t)
   | inr f ↦
       let other = plan_other plan held.now name f in
-      let was = ready.dirty name f (other.1 there) in
-      subst (λ o. length (text_or_none o).bytes ≤ limit) (sym (other.0 ∙ ready.others name f)) (small name was)
+      let was = touched.dirty name f (other.1 there) in
+      subst (λ o. length (text_or_none o).bytes ≤ limit) (sym (other.0 ∙ touched.others name f)) (small name was)
 ]
 
 -- a text that is made ready, or the command's edits that were taken back

@@ -24,6 +24,7 @@ pub mod Captures
 pub mod Refiles
 pub mod Archives
 pub mod Todos
+pub mod Edited
 pub mod Planning
 pub mod Questions
 pub mod Times

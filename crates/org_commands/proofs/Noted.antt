@@ -1,6 +1,7 @@
 -- What is noted of a store's files stays true of their texts.
-use Rattle.std.proofs.Common.{◌≡◌, ◌≢◌, ◌⊎◌, inl, inr, ℕ, zero, suc, ◌+◌, ◌<◌, ◌≤◌, true, false, List, [], ◌∷◌, length, drop, get_or, slice_get, Option, Some, None, refl, sym, ◌∙◌, ap, subst, below_more, arith}
+use Rattle.std.proofs.Common.{◌≡◌, ◌≢◌, ◌⊎◌, inl, inr, ℕ, zero, suc, ◌+◌, ◌<◌, ◌≤◌, true, false, List, [], ◌∷◌, ◌++◌, length, drop, get_or, slice_get, Option, Some, None, refl, sym, ◌∙◌, ap, subst, below_more, arith}
 use Rattle.std.proofs.Math.ListN.{set}
+use Rattle.std.proofs.lemmas.List.{append-nil, drop_all}
 use Rattle.std.proofs.lemmas.Option.{slice_get_within}
 use Rattle.std.specs.Prelude.{OnErr, OnOk, Result, Ok, Err}
 use Rattle.std.specs.Option.{ForSome, IsSome, option_map}
@@ -22,18 +23,18 @@ use Rattle.org_state.specs.Clock.{has_clock, running_in}
 use Rattle.org_state.proofs.Known.{no_clock}
 use Rattle.org_texts.specs.declared.plan.FileEdits.{FileEdits}
 use Rattle.org_texts.specs.declared.plan.Plan.{Plan}
-use Rattle.org_texts.specs.Plan.{CanEdit, IsPlan, planned, with_edits, with_second}
+use Rattle.org_texts.specs.Plan.{EditsLines, IsOfLines, planned, with_edits, with_second}
 use Rattle.org_texts.specs.Texts.{Holding, TextSet, bytes_or, terminated_in, settled_set, text_of, with_text}
 use Rattle.org_texts.proofs.Heads.{terminated_text-bytes}
 use Rattle.org_texts.proofs.Looking.{change_other, change_this, text_of-settled}
 use Rattle.org_commands.specs.Clocks.{RunsIn}
-use Rattle.org_commands.specs.Files.{AreReady, files_of, second_file}
+use Rattle.org_commands.specs.Files.{AreReady}
 use Rattle.org_commands.specs.InOrder.{is_name}
 use Rattle.org_commands.specs.declared.searches.Searches.{Searches}
 use Rattle.org_move.specs.Location.{has_archive_line}
 use Rattle.org_commands.specs.Noted.{AreKnown, AreSearched, FollowsEdits, IsKnown, IsNoted, Lowers, LowersNote, StaysKnown}
 use Rattle.org_commands.proofs.Held.{held_other}
-use Rattle.org_commands.proofs.Plans.{first_name, now_held, one_name, ready_text, second_name}
+use Rattle.org_commands.proofs.Plans.{now_held, one_name, ready_text, text_ends}
 
 -- ---- one text
 
@@ -162,17 +163,18 @@ applied_ends [] text whole can = whole
 applied_ends (e ∷ es) text whole can = applied_ends es (applied e text) can.1 can.2
 
 pub follows_lowered : (names : List (List ℕ)) (change : FileEdits) (size : ℕ) (old new : List (Option Searches)) (set : TextSet) → Lowers names change.file size change.edits.items old new
-    → CanEdit change set → ForSome (text_of set change.file) (λ (text : EditedText). size ≤ length text.bytes) → ForSome (text_of set change.file) (λ (text : EditedText). terminated text.bytes ≡ text.bytes)
+    → EditsLines change set → ForSome (text_of set change.file) (λ (text : EditedText). size ≤ length text.bytes)
     → AreKnown names old set → AreKnown names new (with_edits change set)
-follows_lowered names change size old new set lowers can long whole are i searched at name is =
+follows_lowered names change size old new set lowers can long are i searched at name is =
     let low = lowers i searched at in
     let known = are i low.0 low.1 name is in
     let text = known.0 in
     elim (name_cases change.file name) [
       | inl same ↦
           let here : text_of set change.file ≡ Some text = ap (text_of set) same.0 ∙ known.1 in
-          let able : CanApply change.edits.items text.bytes = subst (λ (o : Option EditedText). IsSomeAnd o (λ t. CanApply change.edits.items t.bytes)) here can in
-          let ended : terminated text.bytes ≡ text.bytes = whole text here in
+          let both = subst (λ (o : Option EditedText). IsSomeAnd o (λ t. (terminated t.bytes ≡ t.bytes) × CanApply change.edits.items t.bytes)) here can in
+          let ended : terminated text.bytes ≡ text.bytes = both.0 in
+          let able : CanApply change.edits.items text.bytes = both.1 in
           let follows = low.3 name is same.1 text.bytes (long text here) able (subst (AreSearched low.0) ended known.2) in
           let bytes : (spliced_each change.edits.items text).bytes ≡ applied_each change.edits.items text.bytes = spliced_bytes change.edits.items text in
           let after : applied_each change.edits.items text.bytes ≡ terminated (spliced_each change.edits.items text).bytes = sym (ap terminated bytes ∙ applied_ends change.edits.items text.bytes ended able) in
@@ -299,12 +301,7 @@ edits_left rest index size next was searched e text edits within is smaller behi
 -- ---- a plan
 
 pub ends_ready : (names : List (List ℕ)) (held : Holding) (file : List ℕ) → AreReady names held → is_name names file ≡ true → ForSome (text_of held.now file) (λ (text : EditedText). terminated text.bytes ≡ text.bytes)
-ends_ready names held file ready there text at =
-    let old = ready_text names held file text ready there at in
-    ap terminated old.2 ∙ terminated_twice old.0.bytes ∙ sym old.2
-
-second_there : (plan : Plan) (change : FileEdits) → plan.second ≡ Some change → is_name (files_of plan) change.file ≡ true
-second_there plan change is = subst (λ (o : Option FileEdits). is_name (plan.first.file ∷ second_file o) change.file ≡ true) (sym is) (second_name plan.first.file change.file)
+ends_ready names held file ready there text at = text_ends names held file text ready there at
 
 pub plan_of_first : (plan : Plan) → plan.second ≡ None → (set : TextSet) → with_edits plan.first set ≡ planned plan set
 plan_of_first plan none set = ap (λ (o : Option FileEdits). with_second o (with_edits plan.first set)) (sym none)
@@ -312,41 +309,62 @@ plan_of_first plan none set = ap (λ (o : Option FileEdits). with_second o (with
 pub plan_of_both : (plan : Plan) (change : FileEdits) → plan.second ≡ Some change → (set : TextSet) → with_edits change (with_edits plan.first set) ≡ planned plan set
 plan_of_both plan change some set = ap (λ (o : Option FileEdits). with_second o (with_edits plan.first set)) (sym some)
 
-pub first_lowered : (plan : Plan) (names : List (List ℕ)) (size : ℕ) (old new : List (Option Searches)) (held : Holding) → IsPlan plan held.now → AreReady (files_of plan) held → Lowers names plan.first.file size plan.first.edits.items old new
-    → ForSome (text_of held.now plan.first.file) (λ (text : EditedText). size ≤ length text.bytes) → AreKnown names old held.now → AreKnown names new (with_edits plan.first held.now)
-first_lowered plan names size old new held is ready lowers long are =
-    follows_lowered names plan.first size old new held.now lowers is.first long (ends_ready (files_of plan) held plan.first.file ready (first_name plan.first.file (second_file plan.second))) are
+pub first_lowered : (plan : Plan) (names : List (List ℕ)) (size : ℕ) (old new : List (Option Searches)) (set : TextSet) → IsOfLines plan set → Lowers names plan.first.file size plan.first.edits.items old new
+    → ForSome (text_of set plan.first.file) (λ (text : EditedText). size ≤ length text.bytes) → AreKnown names old set → AreKnown names new (with_edits plan.first set)
+first_lowered plan names size old new set of_lines lowers long are = follows_lowered names plan.first size old new set lowers of_lines.first long are
 
 -- the text of the second file, where the first edits are made: its size isn't told where it is the first file
-pub second_lowered : (plan : Plan) (change : FileEdits) (names : List (List ℕ)) (size : ℕ) (old new : List (Option Searches)) (held : Holding) → IsPlan plan held.now → AreReady (files_of plan) held → plan.second ≡ Some change
+pub second_lowered : (plan : Plan) (change : FileEdits) (names : List (List ℕ)) (size : ℕ) (old new : List (Option Searches)) (set : TextSet) → IsOfLines plan set → plan.second ≡ Some change
     → Lowers names change.file size change.edits.items old new
-    → (plan.first.file ≡ change.file → size ≡ 0) → (plan.first.file ≢ change.file → ForSome (text_of held.now change.file) (λ (text : EditedText). size ≤ length text.bytes))
-    → AreKnown names old (with_edits plan.first held.now) → AreKnown names new (planned plan held.now)
-second_lowered plan change names size old new held is ready some lowers same_file other_file are =
-    let mid = with_edits plan.first held.now in
-    subst (AreKnown names new) (plan_of_both plan change some held.now)
-    (follows_lowered names change size old new mid lowers (is.second change some) long whole are)
+    → (plan.first.file ≡ change.file → size ≡ 0) → (plan.first.file ≢ change.file → ForSome (text_of set change.file) (λ (text : EditedText). size ≤ length text.bytes))
+    → AreKnown names old (with_edits plan.first set) → AreKnown names new (planned plan set)
+second_lowered plan change names size old new set of_lines some lowers same_file other_file are =
+    let mid = with_edits plan.first set in
+    subst (AreKnown names new) (plan_of_both plan change some set)
+    (follows_lowered names change size old new mid lowers (of_lines.second change some) long are)
   where
-    long : ForSome (text_of (with_edits plan.first held.now) change.file) (λ (text : EditedText). size ≤ length text.bytes)
+    long : ForSome (text_of (with_edits plan.first set) change.file) (λ (text : EditedText). size ≤ length text.bytes)
     long text at = elim (name_cases plan.first.file change.file) [
       | inl same ↦ let none : size ≡ 0 = same_file same.0 in omega (arith, none)
-      | inr apart ↦ other_file apart.0 text (sym (change_other plan.first.file change.file (spliced_each plan.first.edits.items) held.now.texts apart.0) ∙ at)
+      | inr apart ↦ other_file apart.0 text (sym (change_other plan.first.file change.file (spliced_each plan.first.edits.items) set.texts apart.0) ∙ at)
     ]
 
-    whole : ForSome (text_of (with_edits plan.first held.now) change.file) (λ (text : EditedText). terminated text.bytes ≡ text.bytes)
-    whole text at = elim (name_cases plan.first.file change.file) [
-      | inl same ↦ edited_ends (text_of held.now plan.first.file) refl is.first
-          (sym (change_this plan.first.file (spliced_each plan.first.edits.items) held.now.texts) ∙ ap (text_of (with_edits plan.first held.now)) same.0 ∙ at)
-      | inr apart ↦ ends_ready (files_of plan) held change.file ready (second_there plan change some) text (sym (change_other plan.first.file change.file (spliced_each plan.first.edits.items) held.now.texts apart.0) ∙ at)
+-- ---- notes that are let go
+
+-- A note that is lowered by whatever edits says nothing of its file.
+pub forgotten : (names : List (List ℕ)) (change : FileEdits) (old new : List (Option Searches)) (set : TextSet) → ((size : ℕ) (edits : List Edit) → Lowers names change.file size edits old new)
+    → AreKnown names old set → AreKnown names new (with_edits change set)
+forgotten names change old new set lowers are i searched at name is =
+    let low = lowers 0 [] i searched at in
+    let known = are i low.0 low.1 name is in
+    let text = known.0 in
+    elim (name_cases change.file name) [
+      | inl same ↦
+          let here : text_of set change.file ≡ Some text = ap (text_of set) same.0 ∙ known.1 in
+          let next = spliced_each change.edits.items text in
+          subst (λ (n : List ℕ). IsKnown searched (with_edits change set) n) same.0 (
+            next,
+            change_this change.file (spliced_each change.edits.items) set.texts ∙ ap (option_map (spliced_each change.edits.items)) here,
+            whatever (terminated text.bytes) (terminated next.bytes) (terminated_twice next.bytes) low.0 low.1 known.2 name is same.1,
+          )
+      | inr apart ↦
+          same_text set (with_edits change set) name searched (change_other change.file name (spliced_each change.edits.items) set.texts apart.0) (text, known.1, low.2 (terminated text.bytes) known.2)
     ]
-      where
-        edited_ends : (o : Option EditedText) → text_of held.now plan.first.file ≡ o → IsSomeAnd o (λ (t : EditedText). CanApply plan.first.edits.items t.bytes) → option_map (spliced_each plan.first.edits.items) (text_of held.now plan.first.file) ≡ Some text → terminated text.bytes ≡ text.bytes
-        edited_ends None was can made = absurd can
-        edited_ends (Some own) was can made =
-            let ended : terminated own.bytes ≡ own.bytes = ends_ready (files_of plan) held plan.first.file ready (first_name plan.first.file (second_file plan.second)) own was in
-            let one : spliced_each plan.first.edits.items own ≡ text = let both : Some (spliced_each plan.first.edits.items own) ≡ Some text = sym (ap (option_map (spliced_each plan.first.edits.items)) was) ∙ made in cc in
-            let bytes : text.bytes ≡ applied_each plan.first.edits.items own.bytes = ap (λ (t : EditedText). t.bytes) (sym one) ∙ spliced_bytes plan.first.edits.items own in
-            ap terminated bytes ∙ applied_ends plan.first.edits.items own.bytes ended can ∙ sym bytes
+  where
+    -- it is so of whatever text
+    whatever : (before after : List ℕ) → terminated after ≡ after → (was : Searches) → slice_get old i ≡ Some (Some was) → AreSearched was before → (n : List ℕ) → slice_get names i ≡ Some n → bytes_eq change.file n ≡ true → AreSearched searched after
+    whatever before after ends was was_at known n n_at same =
+        let e : Edit = record { at = 0; removed = length before; bytes = after } in
+        let makes : applied e before ≡ after = ap (λ (l : List ℕ). after ++ l) (drop_all (0 + length before) before (omega arith)) ∙ append-nil after in
+        let low = lowers 0 (e ∷ []) i searched at in
+        let both : Some (Some low.0) ≡ Some (Some was) = sym low.1 ∙ was_at in
+        let one : low.0 ≡ was = cc in
+        subst (AreSearched searched) makes
+        (low.3 n n_at same before (omega arith) (omega arith, ap terminated makes ∙ ends ∙ sym makes, refl) (subst (λ (s : Searches). AreSearched s before) (sym one) known))
+
+-- the file's own note is none
+pub none_lowered : (before : Option Searches) (size : ℕ) (edits : List Edit) → LowersNote size edits before None
+none_lowered before size edits searched is = absurd (cc)
 
 -- ---- a text that is ready
 

@@ -11,7 +11,7 @@ use Rattle.org_texts.specs.Plan.{IsPlan, planned}
 use Rattle.org_texts.specs.Texts.{Holding, TextSet, bytes_or, held_over, text_of}
 use Rattle.org_outline.specs.States.{Keywords}
 use Rattle.org_commands.specs.declared.tally.Tally.{Tally}
-use Rattle.org_commands.specs.Files.{AreReady, IsPlanFor, OpenFiles, files_of, has_large, new_texts, texts_in}
+use Rattle.org_commands.specs.Files.{AreTouched, IsPlanFor, OpenFiles, files_of, has_large, new_texts, texts_in}
 use Rattle.org_commands.specs.InOrder.{is_name, texts_of, with_all}
 use Rattle.org_commands.specs.Outcome.{changed, counted}
 use Rattle.org_commands.specs.Session.{session_over}
@@ -54,12 +54,12 @@ bytes_some : (bytes : List ℕ) (o : Option EditedText) → IsSome o → bytes_o
 bytes_some bytes None some = absurd (false≢true some)
 bytes_some bytes (Some text) some = refl
 
-pub planned_texts : (plan : Plan) (held : Holding) (files : Image) (names : List (List ℕ)) → IsPlan plan held.now → AreReady (files_of plan) held
+pub planned_texts : (plan : Plan) (held : Holding) (files : Image) (names : List (List ℕ)) → IsPlan plan held.now → AreTouched (files_of plan) held
     → texts_of (held_over (planned plan held.now) files) names ≡ with_all names (texts_of (held_over held.before files) names) (new_texts plan held.now)
-planned_texts plan held files names is ready =
+planned_texts plan held files names is touched =
     texts_put (planned plan held.now) (files_of plan) names (held_over held.before files) (held_over (planned plan held.now) files)
     (λ name there. bytes_some (files name) (text_of (planned plan held.now) name) (plan_held plan held.now is name there))
-    (λ name out. ap (bytes_or (files name)) ((plan_other plan held.now name out).0 ∙ ready.others name out))
+    (λ name out. ap (bytes_or (files name)) ((plan_other plan held.now name out).0 ∙ touched.others name out))
 
 -- a plan that is put counts with its texts
 pub counted_texts : {D : Type 0} (texts : D → Image) (states : Keywords) (old mid : OpenFiles D) (tally : Tally) (plan : Plan) → mid.disk ≡ old.disk → mid.names ≡ old.names → mid.held.now ≡ planned plan old.held.now
@@ -68,4 +68,4 @@ pub counted_texts : {D : Type 0} (texts : D → Image) (states : Keywords) (old 
 counted_texts texts states old mid tally plan disk names now is small =
     counts_small (session_over texts states old tally) (new_texts plan old.held.now) small
     ∙ ap (λ ns. counted (session_over texts states old tally) ns (with_all old.names (texts_of (held_over old.held.before (texts old.disk)) old.names) (new_texts plan old.held.now))) (names_in (planned plan old.held.now) (files_of plan))
-    ∙ ap (counted (session_over texts states old tally) (files_of plan)) (sym (planned_texts plan old.held (texts old.disk) old.names is.is is.ready) ∙ rw (now, disk, names) refl)
+    ∙ ap (counted (session_over texts states old tally) (files_of plan)) (sym (planned_texts plan old.held (texts old.disk) old.names is.is is.touched) ∙ rw (now, disk, names) refl)

@@ -7,11 +7,11 @@ use Rattle.org_capture.specs.declared.target.Target.TheVariants.{Top}
 use Rattle.org_stamp.specs.Calendar.{Moment, at_minute, civil_day}
 use Rattle.org_splice.specs.Lines.{print_lines}
 use Rattle.org_move.specs.Counts.{count_over}
-use Rattle.org_commands.specs.declared.command.Refusal.TheVariants.{NoSuchFile, BadTemplate, BadEntry, NotFound, InsideItself}
+use Rattle.org_commands.specs.declared.command.Refusal.TheVariants.{NoSuchFile, BadTemplate, BadEntry, NotFound, InsideItself, NotThere}
 use Rattle.org_outline.specs.States.{Keywords}
 use Rattle.org_commands.specs.InOrder.{text_at}
 use Rattle.org_commands.specs.Session.{Session}
-use Rattle.org_commands.specs.Outcome.{Outcome, Refuses, Shows, Accepts, capture, refile, show}
+use Rattle.org_commands.specs.Outcome.{Outcome, Refuses, Shows, Accepts, capture, edit, refile, show}
 
 -- two files with these texts
 abbrev store : List ℕ → List ℕ → Session
@@ -32,6 +32,9 @@ shown_in s name = show (text_at s.names s.files name)
 -- a line of these characters
 abbrev line : List ℕ → List ℕ
 line l = l ++ 10 ∷ []
+
+abbrev edited_in : Session → List ℕ → ℕ → List ℕ → List ℕ → Outcome
+edited_in s name at old new = edit s name at old new (text_at s.names s.files name)
 
 absent_file : shown_in (store [] []) (codes "a.org") ≡ Shows []
 absent_file = refl
@@ -115,3 +118,15 @@ child_of_the_entry = refl
 
 heading_made : counted (codes " Old") [] ≡ (0, 1)
 heading_made = refl
+
+no_newline_is_added : edited_in (store (codes "* A") []) (codes "a.org") 2 (codes "A") (codes "BC") ≡ Accepts (codes "a.org" ∷ []) (codes "* BC" ∷ [] ∷ [])
+no_newline_is_added = refl
+
+other_bytes_stand_there : edited_in (store (codes "* A") []) (codes "a.org") 2 (codes "B") (codes "C") ≡ Refuses NotThere
+other_bytes_stand_there = refl
+
+edit_at_the_end : edited_in (store (codes "* A") []) (codes "a.org") 3 [] (codes "x") ≡ Accepts (codes "a.org" ∷ []) (codes "* Ax" ∷ [] ∷ [])
+edit_at_the_end = refl
+
+edit_past_the_end : edited_in (store (codes "* A") []) (codes "a.org") 4 [] (codes "x") ≡ Refuses NotThere
+edit_past_the_end = refl

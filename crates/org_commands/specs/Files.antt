@@ -19,7 +19,7 @@ use Rattle.org_fileset.specs.Writes.{LeavesAlone, IsOther}
 use Rattle.org_texts.specs.declared.plan.FileEdits.{FileEdits}
 use Rattle.org_texts.specs.declared.plan.Plan.{Plan}
 use Rattle.org_texts.specs.Files.{StandOver, is_dirty}
-use Rattle.org_texts.specs.Plan.{IsPlan, planned}
+use Rattle.org_texts.specs.Plan.{IsOfLines, IsPlan, planned}
 use Rattle.org_texts.specs.Texts.{Holding, TextSet, bytes_or, held_over, nothing_held, text_of, text_or_none}
 use Rattle.org_commands.specs.declared.command.RunFault.{RunFault}
 use Rattle.org_commands.specs.declared.command.RunFault.TheVariants.{Refused, OutOfMemory}
@@ -92,6 +92,15 @@ pub record AreReady (names : List (List ℕ)) (holding : Holding) : Type 0 where
   pub dirty : (name : List ℕ) → is_name names name ≡ false → is_dirty holding.now name ≡ true
       → is_dirty holding.before name ≡ true
 
+-- The texts are as they were before the command that runs, but those of these names, which are
+-- held.
+pub record AreTouched (names : List (List ℕ)) (holding : Holding) : Type 0 where
+  pub held : (name : List ℕ) → is_name names name ≡ true → IsSome (text_of holding.before name)
+  pub others : (name : List ℕ) → is_name names name ≡ false
+      → text_of holding.now name ≡ text_of holding.before name
+  pub dirty : (name : List ℕ) → is_name names name ≡ false → is_dirty holding.now name ≡ true
+      → is_dirty holding.before name ≡ true
+
 -- these files are made ready, and others that were stay so
 abbrev pub MakesReady : List (List ℕ) → Holding → Holding → Type 0
 MakesReady made old new =
@@ -116,11 +125,12 @@ second_file (Some change) = change.file ∷ []
 abbrev pub files_of : Plan → List (List ℕ)
 files_of plan = plan.first.file ∷ second_file plan.second
 
--- A plan for files of these names, whose texts are ready.
+-- A plan for files of these names, of which no other is edited.
 pub record IsPlanFor (names : List (List ℕ)) (held : Holding) (plan : Plan) : Type 0 where
   pub is : IsPlan plan held.now
   pub named : AllByRecursion (λ name. is_name names name ≡ true) (files_of plan)
-  pub ready : AreReady (files_of plan) held
+  pub touched : AreTouched (files_of plan) held
+  pub lines : IsTrue plan.of_lines → IsOfLines plan held.now
 
 -- the texts that a set has of these names
 abbrev pub texts_in : TextSet → List (List ℕ) → List (List ℕ × List ℕ)

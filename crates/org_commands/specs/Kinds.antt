@@ -1,6 +1,6 @@
 -- The commands by their kinds: each is the one of `Command` with the same name and the same fields.
 use Rattle.org_commands.specs.declared.command.Command.{Command}
-use Rattle.org_commands.specs.declared.command.Command.TheVariants.{Capture, Refile, Todo, Archive, ClockIn, ClockOut, Time, Show, Settle}
+use Rattle.org_commands.specs.declared.command.Command.TheVariants.{Capture, Refile, Todo, Archive, ClockIn, ClockOut, Edit, Time, Show, Settle}
 use Rattle.org_commands.specs.declared.kind.Change.{Change}
 use Rattle.org_commands.specs.declared.kind.Change.TheVariants as change
 use Rattle.org_commands.specs.declared.kind.Kind.{Kind}
@@ -16,6 +16,7 @@ changing (change.Todo c) = Todo c.now
 changing (change.Archive c) = Archive c.now
 changing (change.ClockIn c) = ClockIn c.now
 changing (change.ClockOut moment) = ClockOut moment
+changing (change.Edit c) = Edit c.now
 
 -- the command that asks for this
 abbrev pub asking : Question → Command

@@ -5,6 +5,7 @@ pub mod Session
 pub mod Capture
 pub mod Refile
 pub mod Todo
+pub mod Edit
 pub mod Clocks
 pub mod Noted
 pub mod Clocking

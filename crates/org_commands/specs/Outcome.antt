@@ -7,6 +7,7 @@ use Rattle.org_outline.specs.declared.paths.PathFault.{PathFault}
 use Rattle.org_outline.specs.Paths.{find_path}
 use Rattle.org_outline.specs.declared.paths.PathFault.TheVariants as path_fault
 use Rattle.org_outline.specs.Tree.{Document, Node, print, tree}
+use Rattle.org_splice.specs.Replaced.{replaced}
 use Rattle.org_stamp.specs.Calendar.{Moment}
 use Rattle.org_capture.specs.declared.fault.CaptureFault.{CaptureFault}
 use Rattle.org_capture.specs.declared.fault.CaptureFault.TheVariants as fault
@@ -23,9 +24,9 @@ use Rattle.org_state.specs.declared.run.Running.{Running}
 use Rattle.org_state.specs.Clock.{clocked_at}
 use Rattle.org_state.specs.Todo.{todo as in_state}
 use Rattle.org_commands.specs.declared.command.Command.{Command}
-use Rattle.org_commands.specs.declared.command.Command.TheVariants.{Capture, Refile, Todo, ClockIn, ClockOut, Archive, Time, Show, Settle}
+use Rattle.org_commands.specs.declared.command.Command.TheVariants.{Capture, Refile, Todo, ClockIn, ClockOut, Archive, Edit, Time, Show, Settle}
 use Rattle.org_commands.specs.declared.command.Refusal.{Refusal}
-use Rattle.org_commands.specs.declared.command.Refusal.TheVariants.{NoSuchFile, BadTemplate, BadEntry, NotFound, NotUnique, InsideItself, AlreadyArchive, UnknownState, OddPlanning, BadRepeat, DateRange, NoClock, ClockBackwards, BadLocation, TooLarge}
+use Rattle.org_commands.specs.declared.command.Refusal.TheVariants.{NoSuchFile, BadTemplate, BadEntry, NotFound, NotUnique, InsideItself, AlreadyArchive, UnknownState, OddPlanning, BadRepeat, DateRange, NoClock, ClockBackwards, BadLocation, NotThere, TooLarge}
 use Rattle.org_commands.specs.Capture.{new_entry}
 use Rattle.org_commands.specs.Clocks.{running_over}
 use Rattle.org_commands.specs.Clocking.{clocked_in, clocked_out, clock_moved}
@@ -207,6 +208,18 @@ clock_out s moment (Some clock) =
     with_state s clock.0
     (clocked_out moment clock.1 (tree (unwrap_or (text_at s.names s.files clock.0) [])))
 
+-- the file with what an edit makes of its text; there is none where the bytes that are to give way
+-- don't stand there
+abbrev pub with_replaced : Session → List ℕ → Option (List ℕ) → Outcome
+with_replaced s file None = Refuses NotThere
+with_replaced s file (Some new) = changed s ((file, new) ∷ [])
+
+-- An edit of a file that has this text, which is taken as it is: it is refused for its file first,
+-- then where the bytes that are to give way don't stand there.
+abbrev pub edit : Session → List ℕ → ℕ → List ℕ → List ℕ → Option (List ℕ) → Outcome
+edit s file at old new None = Refuses NoSuchFile
+edit s file at old new (Some text) = with_replaced s file (replaced text at old new)
+
 -- why no heading is at a path
 abbrev pub refusal_of_path : PathFault → Refusal
 refusal_of_path path_fault.NotFound = NotFound
@@ -236,6 +249,7 @@ outcome s (Todo c) = todo s c.file c.path c.state c.moment (text_at s.names s.fi
 outcome s (Archive c) = archive s c.file c.path c.moment (text_at s.names s.files c.file)
 outcome s (ClockIn c) = clock_in s c.file c.path c.moment (text_at s.names s.files c.file)
 outcome s (ClockOut moment) = clock_out s moment (running_over s.names s.files)
+outcome s (Edit c) = edit s c.file c.at c.old c.new (text_at s.names s.files c.file)
 outcome s (Time file path) = time s path (text_at s.names s.files file)
 outcome s (Show file) = show (text_at s.names s.files file)
 outcome s Settle = AsksToSettle

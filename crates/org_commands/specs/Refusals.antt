@@ -1,7 +1,7 @@
 -- The number and the name of each refusal, as a reply has them.
 use Rattle.std.specs.Prelude.{ℕ, List, codes}
 use Rattle.org_commands.specs.declared.command.Refusal.{Refusal}
-use Rattle.org_commands.specs.declared.command.Refusal.TheVariants.{NoSuchFile, BadTemplate, BadEntry, NotFound, NotUnique, InsideItself, AlreadyArchive, UnknownState, OddPlanning, BadRepeat, DateRange, NoClock, ClockBackwards, BadLocation, TooLarge}
+use Rattle.org_commands.specs.declared.command.Refusal.TheVariants.{NoSuchFile, BadTemplate, BadEntry, NotFound, NotUnique, InsideItself, AlreadyArchive, UnknownState, OddPlanning, BadRepeat, DateRange, NoClock, ClockBackwards, BadLocation, NotThere, TooLarge}
 
 abbrev pub code_of : Refusal → ℕ
 code_of NoSuchFile = 1
@@ -18,6 +18,7 @@ code_of DateRange = 11
 code_of NoClock = 12
 code_of ClockBackwards = 13
 code_of BadLocation = 15
+code_of NotThere = 16
 code_of TooLarge = 14
 
 abbrev pub name_of : Refusal → List ℕ
@@ -35,4 +36,5 @@ name_of DateRange = codes "DateRange"
 name_of NoClock = codes "NoClock"
 name_of ClockBackwards = codes "ClockBackwards"
 name_of BadLocation = codes "BadLocation"
+name_of NotThere = codes "NotThere"
 name_of TooLarge = codes "TooLarge"

@@ -16,6 +16,7 @@ use crate::command::{Refusal, Reply, RunFault};
 use crate::commands::archive::plan_archive;
 use crate::commands::capture::plan_capture;
 use crate::commands::clock::{plan_clock_in, plan_clock_out};
+use crate::commands::edit::plan_edit;
 use crate::commands::refile::plan_refile;
 use crate::commands::todo::plan_todo;
 use crate::executor::Executor;
@@ -44,6 +45,7 @@ fn plan<'a, D: Disk>(
         Change::Archive(command) => plan_archive(files, states, command).map(Some),
         Change::ClockIn(command) => plan_clock_in(files, states, command),
         Change::ClockOut { moment } => plan_clock_out(files, states, moment),
+        Change::Edit(command) => plan_edit(files, command).map(Some),
     }
 }
 

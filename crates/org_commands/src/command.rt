@@ -111,6 +111,19 @@ pub struct Todo<'a> {
     pub moment: Moment,
 }
 
+/// Bytes of a file that give way to others.
+#[derive(Drop)]
+pub struct Edit<'a> {
+    /// The file.
+    pub file: FileName,
+    /// The byte position from which on they stand.
+    pub at: usize,
+    /// The bytes that are to stand there.
+    pub old: TextOf<'a>,
+    /// The bytes that take their place.
+    pub new: TextOf<'a>,
+}
+
 /// A subtree that moves to its archive (Org manual, "Moving a tree to an archive file").
 #[derive(Drop)]
 pub struct Archive {
@@ -158,6 +171,10 @@ pub enum Command<'a> {
         /// The moment up to which it ran.
         moment: Moment,
     },
+    /// Puts bytes in the place of others, if these are still there. The text is taken as it is: a
+    /// last line without a newline gets none. An edit changes its file, also where it leaves its
+    /// bytes.
+    Edit(Edit<'a>),
     /// Answers the time clocked at a heading and below it (Org manual, "The clock table").
     Time {
         /// The file of the heading.
@@ -233,6 +250,9 @@ pub enum Refusal {
     /// The location of an entry's archive can't be read, or its heading can't be made.
     #[error("bad location")]
     BadLocation,
+    /// The bytes that are to give way don't stand there.
+    #[error("not there")]
+    NotThere,
     /// A file would grow past its limit, or the accepted commands are as many as can be counted.
     #[error("too large")]
     TooLarge,
@@ -258,6 +278,7 @@ impl Refusal {
             Refusal::NoClock => 12,
             Refusal::ClockBackwards => 13,
             Refusal::BadLocation => 15,
+            Refusal::NotThere => 16,
             Refusal::TooLarge => 14,
         }
     }
@@ -281,6 +302,7 @@ impl Refusal {
             Refusal::NoClock => "NoClock",
             Refusal::ClockBackwards => "ClockBackwards",
             Refusal::BadLocation => "BadLocation",
+            Refusal::NotThere => "NotThere",
             Refusal::TooLarge => "TooLarge",
         }
     }

@@ -2,8 +2,9 @@
 pub(crate) mod archive;
 pub(crate) mod capture;
 pub(crate) mod clock;
-mod edits;
+pub(crate) mod edit;
 mod outline;
+mod plans;
 pub(crate) mod refile;
 pub(crate) mod running;
 pub(crate) mod show;

@@ -14,7 +14,7 @@ ghost use Rattle.org_fileset.specs.Names.{limit};
 ghost use Rattle.org_splice.specs.Edits.{applied};
 ghost use Rattle.org_splice.specs.Lines.{terminated};
 ghost use Rattle.org_splice.specs.declared.searched.Searched.TheVariants.{Nowhere};
-ghost use Rattle.org_texts.specs.Plan.{IsPlan, planned};
+ghost use Rattle.org_texts.specs.Plan.{IsOfLines, IsPlan, planned};
 ghost use Rattle.org_texts.specs.Texts.{TextSet, bytes_or, text_of};
 ghost use Rattle.org_commands.specs.Clocks.{RunsIn};
 ghost use Rattle.org_commands.specs.Files.{AreOpened, AreReady, AreSmallToWrite, CommitsHeld, IsPlanFor, IsReady, KeepsFiles, MakesReady, PutsPlan, StaysInMemory, disk_of, files_of, has_large, texts_in};
@@ -157,6 +157,18 @@ impl<D: Disk> Files<D> {
     {
         match self.texts.get(name) {
             Some(held) => held,
+            None => unreachable!(),
+        }
+    }
+
+    /// The bytes of one of the files, which is held, as they are. Takes no memory.
+    pub(crate) fn text(&self, name: &FileName) -> &[u8]
+        requires { IsSome (text_of self.now.held.now name.now) }
+        ensures { option_map (λ text. text.bytes) (text_of self.now.held.now name.now)
+            ≡ Some result.now }
+    {
+        match self.texts.get(name) {
+            Some(held) => held.bytes(),
             None => unreachable!(),
         }
     }
@@ -438,15 +450,45 @@ fn lower(
     }
 }
 
-/// Lowers what is noted of the files that a plan changes.
+/// Lets go of what is noted of one file.
+fn forget(notes: &mut Vec<Option<Searches>>, names: &[FileName], file: &FileName)
+    ensures { (size : ℕ) (edits : List Edit)
+        → Lowers names.now file.now size edits notes.old.items notes.new.items }
+{
+    for (index, name) in names.iter().enumerate() {
+        if index < notes.len() && file == name {
+            notes[index] = None;
+        }
+    }
+}
+
+/// Lets go of what is noted of the files that a plan changes.
+fn forget_plan(notes: &mut Vec<Option<Searches>>, names: &[FileName], plan: &Plan<'_>)
+    ensures stays { (set : TextSet) → AreKnown names.now notes.old.items set
+        → AreKnown names.now notes.new.items set }
+    ensures follows { (set : TextSet) → AreKnown names.now notes.old.items set
+        → AreKnown names.now notes.new.items (planned plan.now set) }
+{
+    forget(notes, names, plan.first.file.name());
+    if let Some(change) = &plan.second {
+        forget(notes, names, change.file.name());
+    }
+}
+
+/// Lowers what is noted of the files that a plan changes; where it isn't one of lines, lets go of
+/// it.
 fn lower_plan(notes: &mut Vec<Option<Searches>>, names: &[FileName], texts: &Texts, plan: &Plan<'_>)
     requires plan { IsPlan plan.now texts.now.now }
-    requires ready { AreReady (files_of plan.now) texts.now }
+    requires lines { IsTrue plan.now.of_lines → IsOfLines plan.now texts.now.now }
     ensures stays { (set : TextSet) → AreKnown names.now notes.old.items set
         → AreKnown names.now notes.new.items set }
     ensures follows { AreKnown names.now notes.old.items texts.now.now
         → AreKnown names.now notes.new.items (planned plan.now texts.now.now) }
 {
+    if !plan.of_lines {
+        forget_plan(notes, names, plan);
+        return;
+    }
     let first = plan.first.file.name();
     lower(
         notes,

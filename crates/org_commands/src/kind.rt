@@ -4,7 +4,7 @@
 ghost use Rattle.std.specs.Prelude.{◌≡◌};
 ghost use Rattle.org_commands.specs.Kinds.{command_of};
 
-use crate::command::{Archive, Capture, ClockIn, Command, Refile, Todo};
+use crate::command::{Archive, Capture, ClockIn, Command, Edit, Refile, Todo};
 use org_disk::FileName;
 use org_outline::Titles;
 use org_stamp::Moment;
@@ -27,6 +27,8 @@ pub enum Change<'a> {
         /// The moment up to which it ran.
         moment: Moment,
     },
+    /// Puts bytes in the place of others.
+    Edit(&'a Edit<'a>),
 }
 
 /// A command that asks for something, and changes nothing. Its variants are those of `Command`.
@@ -69,6 +71,7 @@ impl<'a> Command<'a> {
             Command::Archive(command) => Kind::Change(Change::Archive(command)),
             Command::ClockIn(command) => Kind::Change(Change::ClockIn(command)),
             Command::ClockOut { moment } => Kind::Change(Change::ClockOut { moment: *moment }),
+            Command::Edit(command) => Kind::Change(Change::Edit(command)),
             Command::Time { file, path } => Kind::Question(Question::Time { file, path }),
             Command::Show { file } => Kind::Question(Question::Show { file }),
             Command::Settle => Kind::Settle,

@@ -22,7 +22,7 @@ mod searches;
 mod tally;
 
 pub use command::{
-    Archive, Capture, ClockIn, Command, Refile, Refusal, Reply, RunFault, TextOf, Todo,
+    Archive, Capture, ClockIn, Command, Edit, Refile, Refusal, Reply, RunFault, TextOf, Todo,
 };
 pub use executor::Executor;
 pub use files::Files;

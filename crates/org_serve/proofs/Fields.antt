@@ -11,7 +11,7 @@ use Rattle.std.proofs.lemmas.List.Elements.{All-from_get_or}
 use Rattle.std.proofs.lemmas.List.Splits.{length-slice_split, slice_split_none}
 use Rattle.org_commands.specs.declared.command.Command.{Command}
 use Rattle.org_commands.specs.declared.command.Command.TheVariants.{Settle}
-use Rattle.org_serve.specs.Grammar.{show_of, capture_of, refile_of, todo_of, clock_in_of, clock_out_of, clocked_of, archive_of, command_of, command_of_fields}
+use Rattle.org_serve.specs.Grammar.{show_of, capture_of, refile_of, todo_of, clock_in_of, clock_out_of, clocked_of, archive_of, edit_of, command_of, command_of_fields}
 
 more_than_seven : (fields : List (List ℕ)) → 7 < length fields → command_of_fields fields ≡ None
 more_than_seven [] e = absurd (omega arith)
@@ -136,6 +136,9 @@ is_clock_in word name place more some few other is = rw (one_field more some few
 pub is_todo : (word name place : List ℕ) (more : Fields) → 2 ≤ length more → length more < 3 → bytes_eq word (codes "todo") ≡ true → Within word name place more (todo_of name place (at more 0) (at more 1))
 is_todo word name place more some few is = rw (two_fields more some few, is) refl
 
+pub is_edit : (word name place : List ℕ) (more : Fields) → 2 ≤ length more → length more < 3 → bytes_eq word (codes "todo") ≡ false → bytes_eq word (codes "edit") ≡ true → Within word name place more (edit_of name place (at more 0) (at more 1))
+is_edit word name place more some few other is = rw (two_fields more some few, other, is) refl
+
 pub is_refile : (word name place : List ℕ) (more : Fields) → 3 ≤ length more → length more < 4 → bytes_eq word (codes "refile") ≡ true → Within word name place more (refile_of name place (at more 0) (at more 1) (at more 2))
 is_refile word name place more some few is = rw (three_fields more some few, is) refl
 
@@ -149,8 +152,8 @@ no_time word name place more few other = rw (no_fields more few, other) refl
 pub no_clock : (word name place : List ℕ) (more : Fields) → 1 ≤ length more → length more < 2 → bytes_eq word (codes "archive") ≡ false → bytes_eq word (codes "clock-in") ≡ false → Within word name place more None
 no_clock word name place more some few other next = rw (one_field more some few, other, next) refl
 
-pub no_todo : (word name place : List ℕ) (more : Fields) → 2 ≤ length more → length more < 3 → bytes_eq word (codes "todo") ≡ false → Within word name place more None
-no_todo word name place more some few other = rw (two_fields more some few, other) refl
+pub no_todo : (word name place : List ℕ) (more : Fields) → 2 ≤ length more → length more < 3 → bytes_eq word (codes "todo") ≡ false → bytes_eq word (codes "edit") ≡ false → Within word name place more None
+no_todo word name place more some few other next = rw (two_fields more some few, other, next) refl
 
 pub no_refile : (word name place : List ℕ) (more : Fields) → 3 ≤ length more → length more < 4 → bytes_eq word (codes "refile") ≡ false → Within word name place more None
 no_refile word name place more some few other = rw (three_fields more some few, other) refl

@@ -7,7 +7,7 @@ use Rattle.org_capture.specs.declared.target.Target.TheVariants.{Top, Head, Path
 use Rattle.org_stamp.specs.Calendar.{at_minute, civil_day}
 use Rattle.org_commands.specs.declared.command.Command.TheVariants.{Capture, Refile, Show}
 use Rattle.org_commands.specs.declared.command.RunFault.TheVariants.{Device}
-use Rattle.org_serve.specs.Grammar.{command_of, unescaped, escaped, moment_of, file_of, path_of, path_field, show_of, capture_of, refile_of, target_of, place_of}
+use Rattle.org_serve.specs.Grammar.{command_of, unescaped, escaped, moment_of, file_of, path_of, path_field, show_of, capture_of, refile_of, target_of, place_of, position_of}
 use Rattle.org_serve.specs.Lines.{cut}
 use Rattle.org_serve.specs.Replies.{answer_text}
 
@@ -55,6 +55,30 @@ no_such_escape_in_a_title = refl
 
 written_path : path_field (codes "a/b" ∷ codes "c" ∷ []) ≡ codes "a\\sb/c"
 written_path = refl
+
+at_the_front : position_of (codes "0") ≡ Some 0
+unfolding position_of
+at_the_front = refl
+
+eight_digits : position_of (codes "99999999") ≡ Some 99999999
+unfolding position_of
+eight_digits = refl
+
+nine_digits : position_of (codes "100000000") ≡ None
+unfolding position_of
+nine_digits = refl
+
+zero_in_front : position_of (codes "00") ≡ None
+unfolding position_of
+zero_in_front = refl
+
+sign_in_front : position_of (codes "-1") ≡ None
+unfolding position_of
+sign_in_front = refl
+
+no_position : position_of [] ≡ None
+unfolding position_of
+no_position = refl
 
 at_top : target_of (codes "top") ≡ Some Top
 unfolding target_of

@@ -1,7 +1,8 @@
 -- Which command a line is, and what a reader of its fields answers. The fields of a line are
 -- separated by tabs; its first field is the command's word.
-use Rattle.std.specs.Prelude.{ℕ, ◌+◌, ◌-◌, ◌*◌, pos, Bool, true, false, ◌==◌, ◌&&◌, nat_lt, nat_le, List, [], ◌∷◌, length, map, take, drop, Option, None, Some, codes, if◌then◌else◌, ◌≡◌, Result, Ok, Err}
-use Rattle.std.specs.List.{slice_split, join_with_byte}
+use Rattle.std.specs.Prelude.{ℕ, ◌+◌, ◌-◌, ◌*◌, pos, Bool, true, false, ◌==◌, ◌&&◌, nat_lt, nat_le, List, [], ◌∷◌, length, map, fold, take, drop, Option, None, Some, codes, if◌then◌else◌, ◌≡◌, Result, Ok, Err}
+use Rattle.std.specs.Char.{is_ascii_digit}
+use Rattle.std.specs.List.{list_all, slice_split, join_with_byte}
 use Rattle.std.specs.Option.{option_map, option_and_then}
 use Rattle.std.specs.Str.{bytes_eq, is_utf8}
 use Rattle.jiff_core.specs.Calendar.{days_in_month}
@@ -12,7 +13,7 @@ use Rattle.org_capture.specs.declared.target.Target.{Target}
 use Rattle.org_capture.specs.declared.target.Target.TheVariants.{Top, Head, Path, Date}
 use Rattle.org_stamp.specs.Calendar.{Moment, at_minute, civil_day}
 use Rattle.org_commands.specs.declared.command.Command.{Command}
-use Rattle.org_commands.specs.declared.command.Command.TheVariants.{Capture, Refile, Todo, ClockIn, ClockOut, Time, Archive, Show, Settle}
+use Rattle.org_commands.specs.declared.command.Command.TheVariants.{Capture, Refile, Todo, ClockIn, ClockOut, Edit, Time, Archive, Show, Settle}
 use Rattle.org_serve.specs.declared.fault.LineFault.{LineFault}
 use Rattle.org_serve.specs.declared.fault.LineFault.TheVariants.{BadLine, OutOfMemory}
 
@@ -89,6 +90,22 @@ place_of field =
     if bytes_eq field (codes "first") then Some First
     else if bytes_eq field (codes "last") then Some Last
     else None
+
+-- the number that one to eight digits write
+abbrev pub digits_of : List ℕ → Option ℕ
+digits_of field =
+    if nat_le 1 (length field) && nat_le (length field) 8 && list_all is_ascii_digit field
+    then Some (fold (λ n b. 10 * n + (b - 48)) 0 field)
+    else None
+
+-- a zero stands in front of other bytes
+abbrev pub leads_with_zero : List ℕ → Bool
+leads_with_zero (a ∷ b ∷ more) = a == 48
+leads_with_zero _ = false
+
+-- AT: a number of at most eight digits, without zeros in front
+unfoldable pub position_of : List ℕ → Option ℕ
+position_of field = if leads_with_zero field then None else digits_of field
 
 abbrev pub digit_of : ℕ → Option ℕ
 digit_of b = if nat_le 48 b && nat_le b 57 then Some (b - 48) else None
@@ -172,6 +189,13 @@ todo_of file path state moment =
     Todo (record { file = f; path = p; state = s; moment = m }))
     (moment_of moment)) (unescaped state)) (path_of path)) (file_of file)
 
+-- `edit` FILE AT OLD NEW
+unfoldable pub edit_of : List ℕ → List ℕ → List ℕ → List ℕ → Option Command
+edit_of file at old new =
+    option_and_then (λ f. option_and_then (λ a. option_and_then (λ o. option_map (λ n.
+    Edit (record { file = f; at = a; old = o; new = n }))
+    (unescaped new)) (unescaped old)) (position_of at)) (file_of file)
+
 -- `archive` FILE PATH MOMENT
 unfoldable pub archive_of : List ℕ → List ℕ → List ℕ → Option Command
 archive_of file path moment =
@@ -209,7 +233,9 @@ command_of_fields (word ∷ file ∷ path ∷ moment ∷ []) =
     else if bytes_eq word (codes "clock-in") then clock_in_of file path moment
     else None
 command_of_fields (word ∷ file ∷ path ∷ state ∷ moment ∷ []) =
-    if bytes_eq word (codes "todo") then todo_of file path state moment else None
+    if bytes_eq word (codes "todo") then todo_of file path state moment
+    else if bytes_eq word (codes "edit") then edit_of file path state moment
+    else None
 command_of_fields (word ∷ file ∷ path ∷ to_file ∷ to_path ∷ place ∷ []) =
     if bytes_eq word (codes "refile") then refile_of file path to_file to_path place else None
 command_of_fields (word ∷ file ∷ target ∷ place ∷ moment ∷ template ∷ initial ∷ []) =

@@ -1,10 +1,10 @@
-//! The fields of a command line: names, paths, targets, texts with escapes.
+//! The fields of a command line: names, paths, targets, positions, texts with escapes.
 //!
 //! A field without an escape is borrowed from the line.
 ghost use Rattle.std.specs.Prelude.{◌≡◌, ◌&&◌, true, false, Some, None, MatchOption, if◌then◌else◌};
 ghost use Rattle.std.specs.Str.{bytes_eq, is_utf8};
 ghost use Rattle.org_disk.specs.Names.{is_file_name};
-ghost use Rattle.org_serve.specs.Grammar.{escape, unescaped, file_of, path_of, target_of, place_of, Gives, GivesBy};
+ghost use Rattle.org_serve.specs.Grammar.{digits_of, escape, leads_with_zero, unescaped, file_of, path_of, position_of, target_of, place_of, Gives, GivesBy};
 
 use crate::fault::LineFault;
 use org_capture::Target;
@@ -68,7 +68,7 @@ fn unescape(alloc: Global, field: &[u8]) -> Result<Vec<u8>, LineFault>
     read_escapes(alloc, field)
 }
 
-/// The text that a field TEMPLATE, INITIAL or STATE is: the field as it stands, which isn't copied,
+/// The text that a field TEMPLATE, INITIAL, STATE, OLD or NEW is: the field as it stands, which isn't copied,
 /// where it has no escape.
 ///
 /// # Errors
@@ -182,4 +182,40 @@ pub fn place(field: &[u8]) -> Option<Place>
     } else {
         None
     }
+}
+
+// The number that one to eight digits write.
+fn digits(field: &[u8]) -> Option<usize>
+    ensures { result ≡ digits_of field.now }
+{
+    if field.is_empty() || field.len() > 8 {
+        return None;
+    }
+    let mut number = 0;
+    for b in field {
+        if !b.is_ascii_digit() {
+            return None;
+        }
+        number = 10 * number + usize::from(*b - b'0');
+    }
+    Some(number)
+}
+
+// Whether a zero stands in front of other bytes.
+fn leads_with_zero(field: &[u8]) -> bool
+    ensures { result ≡ leads_with_zero field.now }
+{
+    field.len() > 1 && field[0] == b'0'
+}
+
+/// The byte position that a field AT is, if it is one: a number of at most eight digits, without a
+/// zero in front of others.
+#[tactic(auto, unfolding(crate::specs::Grammar::position_of))]
+pub fn position(field: &[u8]) -> Option<usize>
+    ensures { result ≡ position_of field.now }
+{
+    if leads_with_zero(field) {
+        return None;
+    }
+    digits(field)
 }

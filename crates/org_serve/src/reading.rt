@@ -3,15 +3,15 @@
 //! Nothing but the line decides which command it is: no file is looked at.
 ghost use Rattle.std.specs.Prelude.{◌∷◌, map};
 ghost use Rattle.std.specs.Option.{option_map, option_and_then};
-ghost use Rattle.org_serve.specs.Grammar.{file_of, path_of, show_of, capture_of, refile_of, todo_of, clock_in_of, clock_out_of, clocked_of, archive_of, command_of, command_of_fields, Gives};
+ghost use Rattle.org_serve.specs.Grammar.{file_of, path_of, show_of, capture_of, refile_of, todo_of, clock_in_of, clock_out_of, clocked_of, archive_of, edit_of, command_of, command_of_fields, Gives};
 
 use crate::fault::LineFault;
-use crate::field::{file, is, path, place, target, text};
+use crate::field::{file, is, path, place, position, target, text};
 use crate::moment::moment;
 use memchr::memchr;
 use org_disk::FileName;
 use org_outline::Titles;
-use org_store::{Archive, Capture, ClockIn, Command, Refile, Todo};
+use org_store::{Archive, Capture, ClockIn, Command, Edit, Refile, Todo};
 use std::alloc::Global;
 
 /// The most fields of a command, which a capture has.
@@ -52,7 +52,7 @@ fn command<'a>(alloc: Global, fields: &[&'a [u8]]) -> Result<Command<'a>, LineFa
     }
 }
 
-// A command within a file: its fields are the name, titles or a target, and more.
+// A command within a file: its fields are the name, titles or a target or a position, and more.
 fn command_within<'a>(
     alloc: Global,
     word: &[u8],
@@ -68,6 +68,7 @@ fn command_within<'a>(
         [when] if is(word, "archive") => archive(alloc, name, titles, when),
         [when] if is(word, "clock-in") => clock_in(alloc, name, titles, when),
         [state, when] if is(word, "todo") => todo(alloc, name, titles, state, when),
+        [old, new] if is(word, "edit") => edit(alloc, name, titles, old, new),
         [to_name, to_titles, at] if is(word, "refile") => {
             refile(alloc, name, titles, to_name, to_titles, at)
         }
@@ -166,6 +167,23 @@ fn todo<'a>(
         state,
         moment,
     }))
+}
+
+#[tactic(auto, unfolding(crate::specs::Grammar::edit_of))]
+fn edit<'a>(
+    alloc: Global,
+    name: &[u8],
+    at: &[u8],
+    old: &'a [u8],
+    new: &'a [u8],
+) -> Result<Command<'a>, LineFault>
+    ensures { Gives result (edit_of name.now at.now old.now new.now) }
+{
+    let at = position(at).ok_or(LineFault::BadLine)?;
+    let file = file(alloc, name)?;
+    let old = text(alloc, old)?;
+    let new = text(alloc, new)?;
+    Ok(Command::Edit(Edit { file, at, old, new }))
 }
 
 #[tactic(auto, unfolding(crate::specs::Grammar::archive_of))]

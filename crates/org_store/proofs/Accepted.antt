@@ -7,6 +7,7 @@ use Rattle.std.specs.Str.{bytes_eq}
 use Rattle.std.proofs.lemmas.Bool.{cases_Bool}
 use Rattle.std.proofs.lemmas.Bool.Decides.{nat_tests}
 use Rattle.org_disk.proofs.Names.{same_name}
+use Rattle.org_splice.specs.Replaced.{replaced}
 use Rattle.org_outline.specs.declared.moves.Place.{Place}
 use Rattle.org_outline.specs.declared.paths.PathFault.{PathFault}
 use Rattle.org_outline.specs.Paths.{find_path}
@@ -25,7 +26,7 @@ use Rattle.org_state.specs.declared.run.Running.{Running}
 use Rattle.org_state.specs.Clock.{clocked_at, running_in}
 use Rattle.org_state.specs.Todo.{todo as in_state}
 use Rattle.org_commands.specs.declared.command.Command.{Command}
-use Rattle.org_commands.specs.declared.command.Command.TheVariants.{Capture, Refile, Todo, ClockIn, ClockOut, Archive, Time, Show, Settle}
+use Rattle.org_commands.specs.declared.command.Command.TheVariants.{Capture, Refile, Todo, ClockIn, ClockOut, Archive, Edit, Time, Show, Settle}
 use Rattle.org_commands.specs.declared.command.Refusal.TheVariants.{TooLarge}
 use Rattle.org_commands.specs.Capture.{new_entry}
 use Rattle.org_commands.specs.Clocks.{running_over}
@@ -34,7 +35,7 @@ use Rattle.org_commands.specs.Files.{has_large}
 use Rattle.org_commands.specs.InOrder.{AreNames, is_name, text_at, with_all}
 use Rattle.org_commands.specs.Refile.{text_within, texts_across}
 use Rattle.org_commands.specs.Session.{Session}
-use Rattle.org_commands.specs.Outcome.{Accepts, AsksToSettle, Outcome, Refuses, Shows, Tells, written, changed, with_document, with_entry, capture, refile, with_moved, with_minutes, with_state, time, todo, with_clock_moved, clock_in_beside, clock_in, clock_out, archive_to, archive_at, archive, show, outcome}
+use Rattle.org_commands.specs.Outcome.{Accepts, AsksToSettle, Outcome, Refuses, Shows, Tells, written, changed, with_document, with_entry, capture, refile, with_moved, with_minutes, with_replaced, with_state, time, todo, edit, with_clock_moved, clock_in_beside, clock_in, clock_out, archive_to, archive_at, archive, show, outcome}
 
 -- texts of which none is past the limit
 abbrev pub AreWithin : List (List ℕ × List ℕ) → Type 0
@@ -166,6 +167,14 @@ clock_out_changes : (s : Session) (moment : Moment) (clock : Option (List ℕ ×
 clock_out_changes s moment None is = inr (λ touched files accepts. absurd (cc))
 clock_out_changes s moment (Some clock) is = state_changes s clock.0 (clocked_out moment clock.1 (tree (unwrap_or (text_at s.names s.files clock.0) []))) (clock_named s.names s.files clock is)
 
+replaced_changes : (s : Session) (name : List ℕ) (new : Option (List ℕ)) → is_name s.names name ≡ true → IsChanging s (with_replaced s name new)
+replaced_changes s name None own = inr (λ touched files accepts. absurd (cc))
+replaced_changes s name (Some new) own = changes_one s name new own
+
+edit_changes : (s : Session) (name : List ℕ) (at : ℕ) (gone put : List ℕ) (old : Option (List ℕ)) → text_at s.names s.files name ≡ old → IsChanging s (edit s name at gone put old)
+edit_changes s name at gone put None is = inr (λ touched files accepts. absurd (cc))
+edit_changes s name at gone put (Some text) is = replaced_changes s name (replaced text at gone put) (text_named s.names s.files name text is)
+
 shows_none : (old : Option (List ℕ)) → IsUnaccepted (show old)
 shows_none None touched files accepts = absurd (cc)
 shows_none (Some text) touched files accepts = absurd (cc)
@@ -185,6 +194,7 @@ command_changes s (Todo c) = todo_changes s c.file c.path c.state c.moment (text
 command_changes s (Archive c) = archive_changes s c.file c.path c.moment (text_at s.names s.files c.file) refl
 command_changes s (ClockIn c) = clock_in_changes s c.file c.path c.moment (text_at s.names s.files c.file) refl
 command_changes s (ClockOut moment) = clock_out_changes s moment (running_over s.names s.files) refl
+command_changes s (Edit c) = edit_changes s c.file c.at c.old c.new (text_at s.names s.files c.file) refl
 command_changes s (Time file path) = inr (time_none s path (text_at s.names s.files file))
 command_changes s (Show file) = inr (shows_none (text_at s.names s.files file))
 command_changes s Settle = inr (λ touched files accepts. absurd (cc))

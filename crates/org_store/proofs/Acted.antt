@@ -25,6 +25,7 @@ no_settling_changes (change.Todo c) is = absurd (cc)
 no_settling_changes (change.Archive c) is = absurd (cc)
 no_settling_changes (change.ClockIn c) is = absurd (cc)
 no_settling_changes (change.ClockOut moment) is = absurd (cc)
+no_settling_changes (change.Edit c) is = absurd (cc)
 
 pub no_settling_asks : (asked : Question) → asking asked ≡ Settle → ⊥
 no_settling_asks (question.Time file path) is = absurd (cc)

@@ -15,11 +15,11 @@ use Rattle.org_commands.specs.declared.command.Refile.{Refile as Refiling}
 use Rattle.org_commands.specs.declared.command.Command.{Command}
 use Rattle.org_commands.specs.declared.command.Command.TheVariants.{Archive, Refile}
 use Rattle.org_commands.specs.declared.command.Reply.{Reply}
-use Rattle.org_commands.specs.declared.command.Reply.TheVariants.{Done, Safe, Text, Time}
+use Rattle.org_commands.specs.declared.command.Reply.TheVariants.{Done}
 use Rattle.org_commands.specs.declared.command.RunFault.{RunFault}
-use Rattle.org_commands.specs.declared.command.RunFault.TheVariants.{Refused, OutOfMemory, Device, Broken}
+use Rattle.org_commands.specs.declared.command.RunFault.TheVariants.{Device}
 use Rattle.org_store.specs.Calls.{Call}
-use Rattle.org_store.specs.Calls.Call.{Ran, Settled, Grouped}
+use Rattle.org_store.specs.Calls.Call.{Ran}
 use Rattle.org_commands.specs.InOrder.{text_at, texts_of}
 use Rattle.org_store.specs.Reopening.{AreSmall}
 use Rattle.org_commands.specs.Session.{Session}

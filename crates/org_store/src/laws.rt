@@ -200,7 +200,8 @@ pub fn middle_of_a_call_counts<D: Disk>()
 /// commands that were acknowledged when the run began, or after one prefix of the accepted
 /// commands. Where no command but refiles is accepted, that is as often as when the run began: a
 /// crash within a refile loses no node of the subtree and doubles none, in the old place or the
-/// new.
+/// new. An edit may make nodes and lose some, so those laws that count on speak of runs without
+/// one; what a crash leaves of it has each node as often as before it or as after it.
 pub fn one_place<D: Disk>()
     ensures held { (given : List (List ℕ)) (s : Session) (others image : Image)
         (texts : List (List ℕ)) → IsSessionOf given s → AreSmall s.names texts

@@ -1,7 +1,7 @@
 //! Commands over held texts: edited, kept, taken back, and lent to a commit.
 ghost use Rattle.std.specs.Prelude.{◌≡◌, true, [], ◌∷◌};
-ghost use Rattle.org_splice.specs.Edits.{AreEdits, CanApply};
-ghost use Rattle.org_texts.specs.Plan.{CanEdit, IsPlan};
+ghost use Rattle.org_splice.specs.Edits.{AreEdits};
+ghost use Rattle.org_texts.specs.Plan.{CanEdit, IsPlan, LieIn};
 
 use crate::shared::{NONE, Splice, edits_of, has, make, patch_count, states};
 use org_disk::FileName;
@@ -54,7 +54,7 @@ fn file(rt: &impl Abort, alloc: Global, name: &str) -> FileName {
 
 /// Asserts that the edits can be made of a text, one after another.
 fn assert_applies(rt: &impl Abort, alloc: Global, text: &[u8], edits: &[Edit])
-    ensures { CanApply edits.now text.now }
+    ensures { LieIn edits.now text.now }
 {
     let mut now = Editing::new(Vec::from_slice(alloc, text).expect(rt, "memory"));
     for edit in edits {
@@ -99,6 +99,7 @@ fn plan_of<'a>(
     Plan {
         first,
         second: Some(second),
+        of_lines: false,
     }
 }
 
@@ -127,6 +128,7 @@ fn edit(rt: &impl Abort, alloc: Global, texts: &mut Texts, change: Change) {
     let plan = Plan {
         first,
         second: None,
+        of_lines: false,
     };
     apply(rt, texts, plan);
 }

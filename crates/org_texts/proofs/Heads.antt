@@ -46,14 +46,14 @@ terminated_text-bytes text = elim (cases_Bool (is_terminated text.bytes)) [
 ]
 
 -- headings that are held can follow where a part of their text was replaced
-pub follows : (heads : Option (List Heading)) (before after : List ℕ) (at removed added : ℕ) → AreHeadsOf before heads → (terminated before ≡ before → terminated after ≡ after) → length before < 2 ^ 64
-    → IsReplaced at removed added before after → IfSome heads (λ hs. IsEdit hs after at removed added)
-follows None before after at removed added are stays small is = tt
-follows (Some hs) before after at removed added are stays small is = record {
+pub follows : (heads : Option (List Heading)) (before after : List ℕ) (at removed added : ℕ) → AreHeadsOf before heads → length before < 2 ^ 64
+    → IsReplaced at removed added before after → terminated after ≡ after → IfSome heads (λ hs. IsEdit hs after at removed added)
+follows None before after at removed added are small is stays = tt
+follows (Some hs) before after at removed added are small is stays = record {
   before = before;
   headings_are = are.1;
   before_terminated = are.0;
-  after_terminated = stays are.0;
+  after_terminated = stays;
   before_small = small;
   removed_in = is.removed_in;
   added_in = is.added_in;

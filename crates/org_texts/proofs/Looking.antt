@@ -11,13 +11,13 @@ use Rattle.std.proofs.lemmas.Map.Keys.{apart_from_distinct}
 use Rattle.std.proofs.lemmas.Option.{get_or_from_slice_get, slice_get_within}
 use Rattle.std.proofs.lemmas.Map.Made.{lookup-map_values}
 use Rattle.std.proofs.lemmas.Slice.Eq.{bytes_eq-Decides}
-use Rattle.org_splice.specs.Edits.{applied_each, CanApply}
+use Rattle.org_splice.specs.Edits.{applied_each}
 use Rattle.org_splice.specs.Lines.{terminated}
 use Rattle.org_splice.specs.Texts.{EditedText, terminated_text, settled, spliced_each}
 use Rattle.org_splice.proofs.Applying.{spliced_each-bytes}
 use Rattle.org_texts.specs.declared.plan.FileEdits.{FileEdits}
 use Rattle.org_texts.specs.Files.{files_terminated, files_with}
-use Rattle.org_texts.specs.Plan.{CanEdit, with_edits}
+use Rattle.org_texts.specs.Plan.{CanEdit, LieIn, with_edits}
 use Rattle.org_texts.specs.Texts.{TextSet, bytes_or, terminated_in, held_over, settled_set, text_of, with_change, with_text}
 use Rattle.org_texts.proofs.Heads.{terminated_text-bytes}
 
@@ -104,7 +104,7 @@ held_over-edits change set can files name = elim (cases_Bool (bytes_eq change.fi
       let own = change.file in
       let es = change.edits.items in
       let same : own ≡ name = (bytes_eq-Decides own name).0 t in
-      let old = the_value (λ (x : EditedText). CanApply es x.bytes) (text_of set own) can in
+      let old = the_value (λ (x : EditedText). LieIn es x.bytes) (text_of set own) can in
       let new : text_of (with_edits change set) own ≡ Some (spliced_each es old.0) = change_this own (spliced_each es) set.texts ∙ ap (option_map (spliced_each es)) old.1 in
       let made : bytes_or (files own) (text_of (with_edits change set) own) ≡ applied_each es (bytes_or (files own) (text_of set own)) =
       ap (bytes_or (files own)) new ∙ spliced_each-bytes es old.0 ∙ ap (λ o. applied_each es (bytes_or (files own) o)) (sym old.1) in

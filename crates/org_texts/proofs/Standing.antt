@@ -9,16 +9,18 @@ use Rattle.std.proofs.lemmas.Bool.{cases_Bool}
 use Rattle.std.proofs.lemmas.List.{map-append}
 use Rattle.std.proofs.lemmas.Map.Made.{is_some-lookup}
 use Rattle.std.proofs.lemmas.Slice.Eq.{bytes_eq-Decides}
-use Rattle.org_splice.specs.Edits.{CanApply}
-use Rattle.org_splice.specs.Lines.{is_terminated}
+use Rattle.org_splice.specs.declared.edit.Edit.{Edit}
+use Rattle.org_splice.specs.Edits.{AreEdits, CanApply, applied, applied_each}
+use Rattle.org_splice.specs.Lines.{is_terminated, terminated}
 use Rattle.org_splice.specs.Ranges.{AreChanged}
-use Rattle.org_splice.specs.Texts.{EditedText, IsEditOf, terminated_text, settled, spliced_each}
-use Rattle.org_splice.proofs.Applying.{AreChanged-spliced, IsEditOf-spliced_each}
+use Rattle.org_splice.specs.Texts.{EditedText, IsEditOf, terminated_text, settled, spliced, spliced_each}
+use Rattle.org_splice.proofs.Applying.{AreChanged-spliced}
 use Rattle.org_splice.proofs.Edited.{IsEditOf-spliced}
 use Rattle.org_texts.specs.declared.plan.FileEdits.{FileEdits}
 use Rattle.org_texts.specs.Files.{IsTextOf, StandOver, is_dirty}
 use Rattle.org_texts.specs.Inside.{AreAmong}
-use Rattle.org_texts.specs.Plan.{CanEdit, with_edits}
+use Rattle.org_texts.specs.declared.plan.Plan.{Plan}
+use Rattle.org_texts.specs.Plan.{CanEdit, EditsLines, IsOfLines, IsPlan, LieIn, with_edits}
 use Rattle.org_texts.specs.Texts.{TextSet, terminated_in, settled_set, text_of, with_name, with_text}
 use Rattle.org_texts.proofs.Looking.{change_names, change_other, change_this, text_of-settled}
 use Rattle.org_texts.proofs.Names.{among_more, among_name, any_more, some_of}
@@ -48,6 +50,32 @@ not_marked name other names none = elim (cases_Bool (list_any (bytes_eq other) n
   | inr f ↦ f
 ]
 
+-- edits of lines lie in their text
+pub lie_in : (es : List Edit) (old new : List ℕ) → AreEdits es old new → LieIn es old
+lie_in [] old new are = tt
+lie_in (e ∷ es) old new are = (are.0, lie_in es (applied e old) new are.2)
+
+pub lines_lie : (change : FileEdits) (set : TextSet) → EditsLines change set → CanEdit change set
+lines_lie change set = go (text_of set change.file)
+  where
+    go : (o : Option EditedText) → IsSomeAnd o (λ text. (terminated text.bytes ≡ text.bytes) × CanApply change.edits.items text.bytes) → IsSomeAnd o (λ text. LieIn change.edits.items text.bytes)
+    go None are = are
+    go (Some text) are = lie_in change.edits.items text.bytes (applied_each change.edits.items text.bytes) are.1
+
+-- .. so a plan of them is one
+pub plan_of_lines : (plan : Plan) (set : TextSet) → IsOfLines plan set → IsPlan plan set
+plan_of_lines plan set are = record {
+  first = lines_lie plan.first set are.first;
+  second = λ change is. lines_lie change (with_edits plan.first set) (are.second change is);
+}
+
+-- what edits make of a text is an edit of what it was made from
+IsEditOf-edits : (es : List Edit) (old : List ℕ) (text : EditedText) → LieIn es text.bytes → AreChanged (length text.bytes) text.changed → IsEditOf old text
+    → IsEditOf old (spliced_each es text) × AreChanged (length (spliced_each es text).bytes) (spliced_each es text).changed
+IsEditOf-edits [] old text lie are edit = (edit, are)
+IsEditOf-edits (e ∷ es) old text lie are edit =
+    IsEditOf-edits es old (spliced e.at e.removed e.bytes text) lie.1 (AreChanged-spliced e.at e.removed e.bytes text lie.0 are) (IsEditOf-spliced old e.at e.removed e.bytes text lie.0 are edit)
+
 -- what was mapped
 the_old : {X Y : Type 0} (f : X → Y) (o : Option X) (y : Y) → option_map f o ≡ Some y → (x : X) × (o ≡ Some x) × (y ≡ f x)
 the_old f None y is = absurd (cc)
@@ -67,8 +95,8 @@ StandOver-edits change files set can stand =
             let at_own : text_of (with_edits change set) own ≡ Some text = subst (λ (n : List ℕ). text_of (with_edits change set) n ≡ Some text) (sym same) at in
             let old = the_old (spliced_each es) (text_of set own) text (sym (change_this own (spliced_each es) set.texts) ∙ at_own) in
             let was = stand.each own old.0 old.1 in
-            let able : CanApply es old.0.bytes = subst (λ o. IsSomeAnd o (λ (x : EditedText). CanApply es x.bytes)) old.1 can in
-            let made = IsEditOf-spliced_each es (files own) old.0 able was.ranges was.edit in
+            let able : LieIn es old.0.bytes = subst (λ o. IsSomeAnd o (λ (x : EditedText). LieIn es x.bytes)) old.1 can in
+            let made = IsEditOf-edits es (files own) old.0 able was.ranges was.edit in
             let is : IsTextOf (files own) (is_dirty (with_edits change set) own) (spliced_each es old.0) = record {
               edit = made.0;
               ranges = made.1;
@@ -82,7 +110,7 @@ StandOver-edits change files set can stand =
             record { edit = was.edit; ranges = was.ranges; same = λ none. was.same (not_marked own name set.dirty none) }
       ];
       held =
-          let some = some_of (λ (x : EditedText). CanApply es x.bytes) (text_of set own) can in
+          let some = some_of (λ (x : EditedText). LieIn es x.bytes) (text_of set own) can in
           subst (λ (l : List (List ℕ)). AreAmong l (with_name own set.dirty)) (sym (change_names own (spliced_each es) set.texts))
           (among_name (keys_of set.texts) set.dirty own stand.held (held_name set own some));
     }
@@ -161,4 +189,4 @@ StandOver-terminated own files set some stand = record {
 -- edits of one text leave what can be done to another
 pub CanEdit-second : (first second : FileEdits) (set : TextSet) → CanEdit first set → CanEdit second set → (first.file ≡ second.file → ⊥) → CanEdit second (with_edits first set)
 CanEdit-second first second set can able apart =
-    subst (λ o. IsSomeAnd o (λ (x : EditedText). CanApply second.edits.items x.bytes)) (sym (change_other first.file second.file (spliced_each first.edits.items) set.texts apart)) able
+    subst (λ o. IsSomeAnd o (λ (x : EditedText). LieIn second.edits.items x.bytes)) (sym (change_other first.file second.file (spliced_each first.edits.items) set.texts apart)) able

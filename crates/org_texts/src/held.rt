@@ -3,11 +3,11 @@
 //! The headings, where they are held, are those of the text as it is. A command's edits can be
 //! taken back without memory.
 ghost use Rattle.std.specs.Prelude.{◌≡◌, ◌+◌, ◌≤◌, ◌∷◌, false, true, is_some, length, IfOk, IfSome, IsFalse, IsTrue, OnOk};
-ghost use Rattle.org_splice.specs.Edits.{CanApply, applied};
 ghost use Rattle.org_splice.specs.Lines.{terminated};
 ghost use Rattle.org_splice.specs.Texts.{terminated_text, settled, spliced, spliced_each};
 ghost use Rattle.org_outline.specs.Outline.{headings_of, IsEdit};
 ghost use Rattle.org_texts.specs.Held.{AreHeadsOf};
+ghost use Rattle.org_texts.specs.Plan.{LieIn};
 
 use crate::plan::Edits;
 use org_outline::Heads;
@@ -17,7 +17,8 @@ use std::marker::Model;
 
 /// The text of a file, as it is and as it was before the command that runs, with its headings where
 /// they are held. They are read when a command first needs them, follow each edit, and are let go
-/// where there is no memory for that and when edits are taken back.
+/// where there is no memory for that, where an edit leaves a last line without its newline, and
+/// when edits are taken back.
 ///
 /// A clause sees specs/Held.antt.
 #[derive(Drop)]
@@ -97,13 +98,13 @@ impl Held {
     }
 
     /// Makes edits, one after another, in place; what stands behind edits that lie near one another
-    /// moves once. The headings follow.
+    /// moves once. The headings follow, where the text stays terminated.
     ///
     /// # Errors
     ///
     /// `AllocError`: some of the edits may be made already.
     pub fn apply(&mut self, edits: &Edits) -> Result<(), AllocError>
-        requires { CanApply edits.now.items self.old.text.bytes }
+        requires { LieIn edits.now.items self.old.text.bytes }
         ensures text { OnOk result
             (self.new.text ≡ spliced_each edits.now.items self.old.text) }
         ensures before { self.new.before ≡ self.old.before }
@@ -118,7 +119,6 @@ impl Held {
 
     // `apply` of edits that lie near one another; false, with the text as it was, where they don't.
     fn apply_near(&mut self, first: &Edit, rest: &[Edit]) -> Result<bool, AllocError>
-        requires { CanApply (first.now ∷ rest.now) self.old.text.bytes }
         ensures made { IfOk result (λ made. IsTrue made
             → self.new.text ≡ spliced_each (first.now ∷ rest.now) self.old.text) }
         ensures far { IfOk result (λ made. IsFalse made → self.new.text ≡ self.old.text) }
@@ -135,7 +135,7 @@ impl Held {
 
     // `apply` of the edits behind the first.
     fn apply_each(&mut self, edits: &[Edit]) -> Result<(), AllocError>
-        requires { CanApply edits.now self.old.text.bytes }
+        requires { LieIn edits.now self.old.text.bytes }
         ensures text { OnOk result (self.new.text ≡ spliced_each edits.now self.old.text) }
         ensures before { self.new.before ≡ self.old.before }
     {
@@ -147,9 +147,7 @@ impl Held {
 
     // Makes one edit.
     fn apply_one(&mut self, edit: &Edit) -> Result<(), AllocError>
-        requires within { edit.now.at + edit.now.removed ≤ length self.old.text.bytes }
-        requires stays_terminated { terminated (applied edit.now self.old.text.bytes)
-            ≡ applied edit.now self.old.text.bytes }
+        requires { edit.now.at + edit.now.removed ≤ length self.old.text.bytes }
         ensures text { OnOk result
             (self.new.text ≡ spliced edit.now.at edit.now.removed edit.now.bytes self.old.text) }
         ensures before { self.new.before ≡ self.old.before }
@@ -198,12 +196,27 @@ impl Held {
     }
 }
 
-// The headings of a text in which a part was replaced; without memory they are let go.
+// Whether a text is terminated.
+fn is_terminated(text: &[u8]) -> bool
+    ensures { IsTrue result → terminated text.now ≡ text.now }
+{
+    match text.last() {
+        Some(&last) => last == b'\n',
+        None => true,
+    }
+}
+
+// The headings of a text in which a part was replaced; without memory, and where the text isn't
+// terminated any more, they are let go.
 fn follow(heads: &mut Option<Heads>, after: &[u8], part: Replaced)
-    requires { IfSome heads.old
+    requires { terminated after.now ≡ after.now → IfSome heads.old
         (λ heads. IsEdit heads after.now part.at part.removed part.added) }
     ensures { AreHeadsOf after.now heads.new }
 {
+    if !is_terminated(after) {
+        *heads = None;
+        return;
+    }
     if let Some(held) = heads {
         let followed = held.edited(after, part.at, part.removed, part.added);
         if followed.is_err() {

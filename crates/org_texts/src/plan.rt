@@ -100,4 +100,6 @@ pub struct FileEdits<'a> {
 pub struct Plan<'a> {
     pub first: FileEdits<'a>,
     pub second: Option<FileEdits<'a>>,
+    /// Whether all edits are edits of lines: of a terminated text, and each leaves one.
+    pub of_lines: bool,
 }

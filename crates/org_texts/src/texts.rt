@@ -7,10 +7,9 @@ ghost use Rattle.std.specs.List.{IsDistinct, list_any};
 ghost use Rattle.std.specs.Map.{keys_of, lookup};
 ghost use Rattle.std.specs.Option.{option_map};
 ghost use Rattle.std.specs.Str.{bytes_eq};
-ghost use Rattle.org_splice.specs.Edits.{CanApply};
 ghost use Rattle.org_splice.specs.Texts.{terminated_text, settled, spliced_each};
 ghost use Rattle.org_texts.specs.Inside.{IsHolding};
-ghost use Rattle.org_texts.specs.Plan.{CanEdit, IsPlan, planned, with_edits};
+ghost use Rattle.org_texts.specs.Plan.{CanEdit, IsPlan, LieIn, planned, with_edits};
 ghost use Rattle.org_texts.specs.Texts.{IsPlace, before_of, terminated_in, nothing_held, now_of, pairs, ready_of, settled_set, text_of, with_change, with_name, with_text};
 
 use crate::held::Held;
@@ -339,7 +338,7 @@ fn apply_at(
     edits: &Edits,
 ) -> Result<(), AllocError>
     requires { IsSomeAnd (lookup (bytes_eq name.now) (map now_of held.old.entries))
-        (λ text. CanApply edits.now.items text.bytes) }
+        (λ text. LieIn edits.now.items text.bytes) }
     ensures now { OnOk result
         (map now_of held.new.entries
         ≡ with_change name.now (spliced_each edits.now.items) (map now_of held.old.entries)) }

@@ -15,8 +15,8 @@ ghost use Rattle.org_commands.specs.Refile.{MakesDocument, MakesDocuments};
 ghost use Rattle.org_commands.specs.Session.{BetweenSessions};
 
 use crate::command::{Archive, Command, Refusal, RunFault};
-use crate::commands::edits::{plan_of_two, plan_of_two_edits};
 use crate::commands::outline::outline_of;
+use crate::commands::plans::{plan_of_two, plan_of_two_edits};
 use crate::files::Files;
 use org_disk::{Disk, FileName};
 use org_move::{Location, MoveFault, archive, archive_within, location_searched};

@@ -15,8 +15,8 @@ ghost use Rattle.org_commands.specs.Reading.{OnlyReads};
 ghost use Rattle.org_commands.specs.Session.{BetweenSessions};
 
 use crate::command::{Capture, Command, RunFault};
-use crate::commands::edits::plan_of_one;
 use crate::commands::outline::outline_of;
+use crate::commands::plans::plan_of_one;
 use crate::files::Files;
 use org_capture::{CaptureFault, capture, entry, expand};
 use org_disk::Disk;

@@ -20,8 +20,8 @@ ghost use Rattle.org_commands.specs.Session.{BetweenSessions};
 ghost use Rattle.org_commands.specs.Todo.{PlansState};
 
 use crate::command::{ClockIn, Command, Refusal, RunFault};
-use crate::commands::edits::{plan_of, plan_of_one, plan_of_two};
 use crate::commands::outline::outline_of;
+use crate::commands::plans::{plan_of, plan_of_one, plan_of_two};
 use crate::commands::refile::both_ready;
 use crate::commands::running::{Clock, running_clock};
 use crate::files::Files;

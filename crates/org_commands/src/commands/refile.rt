@@ -11,8 +11,8 @@ ghost use Rattle.org_commands.specs.Reading.{ReadsFiles};
 ghost use Rattle.org_commands.specs.Refile.{MakesDocument, MakesDocuments};
 
 use crate::command::{Command, Refile, RunFault};
-use crate::commands::edits::{plan_of_two, plan_of_two_edits};
 use crate::commands::outline::outline_of;
+use crate::commands::plans::{plan_of_two, plan_of_two_edits};
 use crate::files::Files;
 use org_disk::{Disk, FileName};
 use org_move::{MoveFault, refile_across, refile_within};

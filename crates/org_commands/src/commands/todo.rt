@@ -8,8 +8,8 @@ ghost use Rattle.org_commands.specs.Planning.{PlansOrStaysAs};
 ghost use Rattle.org_commands.specs.Todo.{PlansState};
 
 use crate::command::{Command, RunFault, Todo};
-use crate::commands::edits::plan_of;
 use crate::commands::outline::outline_of;
+use crate::commands::plans::plan_of;
 use crate::files::Files;
 use org_disk::Disk;
 use org_outline::States;

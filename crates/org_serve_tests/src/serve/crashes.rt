@@ -1,9 +1,9 @@
 //! Crashes of the disk, and what opening it again finds: the files are as after none of a step's
 //! lines, or after the first, and so on.
 use super::steps::{
-    ACROSS, ARCHIVE_WITHIN, BACK, CAPTURES, CLOCK_ELSEWHERE, CLOCK_OUT, IN_AND_OUT, REFILE_WITHIN,
-    REPEATED, Step, THERE_AND_BACK, TO_A_DAY, TO_A_HEAD, TO_ANOTHER_FILE, TO_THE_ARCHIVE,
-    TWO_ARCHIVES, all_of, count_of, files, may_be_done, safe_in,
+    ACROSS, ARCHIVE_WITHIN, BACK, CAPTURES, CLOCK_ELSEWHERE, CLOCK_OUT, EDITED, IN_AND_OUT,
+    LINE_MOVED, REFILE_WITHIN, REPEATED, Step, THERE_AND_BACK, TO_A_DAY, TO_A_HEAD,
+    TO_ANOTHER_FILE, TO_THE_ARCHIVE, TWO_ARCHIVES, all_of, count_of, files, may_be_done, safe_in,
 };
 use super::{Ended, calls, disk_of, run, served};
 use crate::shared::image;
@@ -135,6 +135,15 @@ const CLOCKED: &[&Step] = &[CLOCK_ELSEWHERE, CLOCK_OUT, REPEATED];
 #[test]
 fn clocks_and_a_repetition_crashed(rt: HostRuntime) {
     crash_each(&rt, 1, CLOCKED);
+}
+
+// One edit, and two that stand for one change of two files.
+#[test]
+fn edits_crashed(rt: HostRuntime) {
+    crash_in_each_way(&rt, 1, EDITED);
+    for group in 1..=3 {
+        crash_in_each_way(&rt, group, LINE_MOVED);
+    }
 }
 
 // Two commands each.

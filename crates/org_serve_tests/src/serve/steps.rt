@@ -257,6 +257,28 @@ pub const REPEATED: &Step = &Step {
     ],
 };
 
+// Two edits take a line from one file into another, and are settled together.
+pub const LINE_MOVED: &Step = &Step {
+    a: "* A\nx\n",
+    b: "* B\n",
+    lines: "edit\ta.org\t4\tx\\n\t\nedit\tb.org\t4\t\tx\\n\nsettle\n",
+    shows: BOTH,
+    shown: &[
+        "text 6\n* A\nx\n\ntext 4\n* B\n\n",
+        "text 4\n* A\n\ntext 4\n* B\n\n",
+        "text 4\n* A\n\ntext 6\n* B\nx\n\n",
+    ],
+};
+
+// The last line gets no newline.
+pub const EDITED: &Step = &Step {
+    a: "* A",
+    b: "* Z",
+    lines: "edit\ta.org\t2\tA\tBC\n",
+    shows: BOTH,
+    shown: &["text 3\n* A\ntext 3\n* Z\n", "text 4\n* BC\ntext 3\n* Z\n"],
+};
+
 // The first of two captures.
 pub const FIRST: &Step = &Step {
     a: "* A\n",

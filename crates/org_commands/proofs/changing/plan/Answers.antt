@@ -101,6 +101,23 @@ returns-in-ClockOut g c = record {
   disk = c.plan_clock_out.ensures.disk;
 }
 
+pub returns-in-Edit : goal.returns-in-Edit
+returns-in-Edit g c =
+    let planned = c.plan_edit.ensures c.args.states.now in
+    record {
+      plan = some_fits _ c.plan_edit.result c.map-in-Edit.result c.map-in-Edit.ensures.cases planned.plan;
+      plans = λ tally honest.
+          let texts : g.row.D.Denot → Image = λ disk. contents (g.D.Disk.files disk) in
+          let s = session_over texts c.args.states.now c.args.files.now tally in
+          let new = session_over texts c.args.states.now c.plan_edit.new.files tally in
+          let told = some_planned s _ c.plan_edit.result c.plan_edit.new.files.held new c.map-in-Edit.result c.map-in-Edit.ensures.cases (planned.plans tally honest) in
+          subst (λ (change : Change). PlansOrStays s (outcome s (changing change)) c.map-in-Edit.result c.plan_edit.new.files.held new) (sym c.in-Edit.is) told;
+      disk = some_reads c.plan_edit.result c.map-in-Edit.result c.map-in-Edit.ensures.cases planned.disk;
+    }
+
+pub plan_edit-requires : goal.plan_edit-requires
+plan_edit-requires g c = record { between = c.requires.between }
+
 pub plan_archive-requires : goal.plan_archive-requires
 plan_archive-requires g c = record { between = c.requires.between }
 

@@ -13,20 +13,25 @@ use Rattle.org_commands.proofs.files.lower_plan.Goals.{then-eq, else-eq}
 pub returns-in_default-clause-follows : goal.returns-in_default-clause-follows
 returns-in_default-clause-follows c are =
     let plan = c.args.plan.now in
-    let held = c.args.texts.now in
+    let held = c.args.texts.now.now in
+    let of_lines = c.requires.lines c.if-not-plan.false in
     let names = c.args.names.now in
     let new = c.lower.new.notes.items in
     let file : c.name-first.result.now ≡ plan.first.file = c.name-first.ensures in
     let lowers = subst (λ (n : List ℕ). Lowers names n c.size_of.result plan.first.edits.items c.args.notes.now.items new) file c.lower.ensures in
-    let long = subst (λ (n : List ℕ). ForSome (text_of held.now n) (λ (text : EditedText). c.size_of.result ≤ length text.bytes)) file c.size_of.ensures in
-    subst (AreKnown names new) (plan_of_first plan c.in_default.is held.now)
-    (first_lowered plan names c.size_of.result c.args.notes.now.items new held c.requires.plan c.requires.ready lowers long are)
+    let long = subst (λ (n : List ℕ). ForSome (text_of held n) (λ (text : EditedText). c.size_of.result ≤ length text.bytes)) file c.size_of.ensures in
+    subst (AreKnown names new) (plan_of_first plan c.in_default.is held)
+    (first_lowered plan names c.size_of.result c.args.notes.now.items new held of_lines lowers long are)
+
+pub returns-then-not-plan-clause-follows : goal.returns-then-not-plan-clause-follows
+returns-then-not-plan-clause-follows c are = c.forget_plan.ensures.follows c.args.texts.now.now are
 
 pub returns-after-eq-clause-follows : goal.returns-after-eq-clause-follows
 returns-after-eq-clause-follows c are =
     let plan = c.args.plan.now in
     let change = c.in-Some.change in
-    let held = c.args.texts.now in
+    let held = c.args.texts.now.now in
+    let of_lines = c.requires.lines c.if-not-plan.false in
     let names = c.args.names.now in
     let mid = c.lower.new.notes.items in
     let new = c.lower-in-Some.new.notes.items in
@@ -34,7 +39,7 @@ returns-after-eq-clause-follows c are =
     let file : c.name-first.result.now ≡ plan.first.file = c.name-first.ensures in
     let second : c.name-second.result.now ≡ change.file = c.name-second.ensures in
     let lowers = subst (λ (n : List ℕ). Lowers names n c.size_of.result plan.first.edits.items c.args.notes.now.items mid) file c.lower.ensures in
-    let long = subst (λ (n : List ℕ). ForSome (text_of held.now n) (λ (text : EditedText). c.size_of.result ≤ length text.bytes)) file c.size_of.ensures in
+    let long = subst (λ (n : List ℕ). ForSome (text_of held n) (λ (text : EditedText). c.size_of.result ≤ length text.bytes)) file c.size_of.ensures in
     let lowers_more = subst (λ (n : List ℕ). Lowers names n size change.edits.items mid new) second c.lower-in-Some.ensures in
     let same_file : plan.first.file ≡ change.file → size ≡ 0 = λ same. elim c.if-eq.branch [
       | then-eq w ↦ w.size-is
@@ -43,12 +48,12 @@ returns-after-eq-clause-follows c are =
           let yes : bytes_eq c.name-second.result.now c.name-first.result.now ≡ true = subst (λ (n : List ℕ). bytes_eq c.name-second.result.now n ≡ true) one (same_name c.name-second.result.now) in
           absurd (false≢true (sym w.if-eq.false ∙ c.eq.ensures ∙ yes))
     ] in
-    let other_file : plan.first.file ≢ change.file → ForSome (text_of held.now change.file) (λ (text : EditedText). size ≤ length text.bytes) = λ apart text at. elim c.if-eq.branch [
+    let other_file : plan.first.file ≢ change.file → ForSome (text_of held change.file) (λ (text : EditedText). size ≤ length text.bytes) = λ apart text at. elim c.if-eq.branch [
       | then-eq w ↦ let none : size ≡ 0 = w.size-is in omega (arith, none)
       | else-eq w ↦
           let is : size ≡ w.size_of-size.result = w.size-is in
-          let there = subst (λ (n : List ℕ). ForSome (text_of held.now n) (λ (text : EditedText). w.size_of-size.result ≤ length text.bytes)) second w.size_of-size.ensures in
+          let there = subst (λ (n : List ℕ). ForSome (text_of held n) (λ (text : EditedText). w.size_of-size.result ≤ length text.bytes)) second w.size_of-size.ensures in
           omega (arith, is, there text at)
     ] in
-    second_lowered plan change names size mid new held c.requires.plan c.requires.ready c.in-Some.is lowers_more same_file other_file
-    (first_lowered plan names c.size_of.result c.args.notes.now.items mid held c.requires.plan c.requires.ready lowers long are)
+    second_lowered plan change names size mid new held of_lines c.in-Some.is lowers_more same_file other_file
+    (first_lowered plan names c.size_of.result c.args.notes.now.items mid held of_lines lowers long are)

@@ -3,7 +3,7 @@ use Rattle.std.proofs.lemmas.List.{take_more, take_all}
 use Rattle.org_splice.specs.declared.edit.Edit.{Edit}
 use Rattle.org_splice.specs.Edits.{AreEdits}
 use Rattle.org_splice.proofs.Places.{AreEdits-join}
-use Rattle.org_splice.proofs.Applying.{AreEdits-can}
+use Rattle.org_texts.proofs.Standing.{lie_in}
 use Rattle.org_text_tests.proofs.texts.assert_applies.Goals as goal
 
 pub loop-edit-preserved : goal.loop-edit-preserved
@@ -20,4 +20,4 @@ pub returns : goal.returns
 returns g c =
     let edits = c.args.edits.now in
     let now = c.loop-edit.now.text.bytes in
-    AreEdits-can edits c.args.text.now now (subst (λ (l : List Edit). AreEdits l c.args.text.now now) (take_all c.loop-edit.edit-index edits c.loop-edit-test.false) c.loop-edit.invariant)
+    lie_in edits c.args.text.now now (subst (λ (l : List Edit). AreEdits l c.args.text.now now) (take_all c.loop-edit.edit-index edits c.loop-edit-test.false) c.loop-edit.invariant)

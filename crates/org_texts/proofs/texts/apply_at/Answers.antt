@@ -6,9 +6,9 @@ use Rattle.std.specs.Option.{is_some}
 use Rattle.std.specs.Str.{bytes_eq}
 use Rattle.std.proofs.lemmas.List.Quantifiers.{position-Some}
 use Rattle.std.proofs.lemmas.Result.{on_ok_weaker}
-use Rattle.org_splice.specs.Edits.{CanApply}
 use Rattle.org_splice.specs.Texts.{EditedText, spliced_each}
 use Rattle.org_texts.specs.Held.{HeldText}
+use Rattle.org_texts.specs.Plan.{LieIn}
 use Rattle.org_texts.specs.Texts.{now_of}
 use Rattle.org_texts.proofs.Names.{found, missing, some_of}
 use Rattle.org_texts.proofs.Values.{map_changed, map_kept, names_kept}
@@ -19,7 +19,7 @@ unreachable-requires c =
     let es = c.args.held.now.entries in
     let name = c.args.name.now in
     let none : is_some (lookup (bytes_eq name) es) ≡ false = sym c.place_of.ensures.place.found ∙ ap is_some c.in_default.is in
-    missing name es none (some_of (λ (t : EditedText). CanApply c.args.edits.now.items t.bytes) (lookup (bytes_eq name) (map now_of es)) c.requires)
+    missing name es none (some_of (λ (t : EditedText). LieIn c.args.edits.now.items t.bytes) (lookup (bytes_eq name) (map now_of es)) c.requires)
 
 pub apply-requires : goal.apply-requires
 apply-requires c =
@@ -27,7 +27,7 @@ apply-requires c =
     let name = c.args.name.now in
     let at : slice_get (values_of es) c.in-Some.place ≡ Some c.index_mut.result.now = c.index_mut.ensures.value in
     let is : slice_get (values_of es) c.in-Some.place ≡ lookup (bytes_eq name) es = c.in-Some.ensures.place.value in
-    subst (λ o. IsSomeAnd o (λ (t : EditedText). CanApply c.args.edits.now.items t.bytes)) (found name es c.in-Some.place c.index_mut.result.now is at) c.requires
+    subst (λ o. IsSomeAnd o (λ (t : EditedText). LieIn c.args.edits.now.items t.bytes)) (found name es c.in-Some.place c.index_mut.result.now is at) c.requires
 
 pub returns-clause-now : goal.returns-clause-now
 returns-clause-now c =

@@ -47,7 +47,7 @@ returns-clause-executes g c =
     let told = counted_texts (λ disk. contents (d.files disk)) c.args.self.now.states files edited tally c.args.plan put.memory.disk put.memory.names puts.1 c.requires.plan puts.0 in
     let same : mid ≡ old = view_same d.files c.args.self.now.states files edited tally put.memory put.before in
     let dirties : Dirties edited.held.before.dirty (files_of c.args.plan) edited.held.now.dirty =
-    rw (puts.1, put.before) (dirties_planned c.args.plan files.held c.requires.plan.ready) in
+    rw (puts.1, put.before) (dirties_planned c.args.plan files.held c.requires.plan.touched) in
     subst (λ (o : Outcome). ExecutesTo d old o c.count.result new) (sym told)
     (subst (λ (k : StoreView g.row.D.Denot). ExecutesTo d k (counted k.session (files_of c.args.plan) texts) c.count.result new) same (c.count.ensures.executes (files_of c.args.plan) dirties))
 
@@ -62,7 +62,7 @@ pub returns-clause-dirty_files : goal.returns-clause-dirty_files
 returns-clause-dirty_files g c =
     let files = c.args.self.now.files in
     let old = view_of g.D.Disk c.args.self.now in
-    dirty_put (fills old.session) c.args.plan files.held c.put.new.self.held c.count.new.self.files.held c.count.result c.requires.plan.ready c.in_ok-put.ensures.puts.1 c.put.ensures.before (c.count.ensures.dirty_files)
+    dirty_put (fills old.session) c.args.plan files.held c.put.new.self.held c.count.new.self.files.held c.count.result c.requires.plan.touched c.in_ok-put.ensures.puts.1 c.put.ensures.before (c.count.ensures.dirty_files)
 
 pub put-requires : goal.put-requires
 put-requires g c = c.requires.plan

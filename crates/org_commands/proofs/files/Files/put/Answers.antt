@@ -1,12 +1,13 @@
 use Rattle.std.proofs.Common.{◌≡◌, ◌∙◌, false, true, Result, Ok, Err, refl, sym, ap, subst}
 use Rattle.std.specs.Option.{ForSome, IsSome}
 use Rattle.org_journal.specs.Recovered.{contents}
-use Rattle.org_texts.specs.Plan.{IsPlan}
+use Rattle.std.specs.Prelude.{IsTrue}
+use Rattle.org_texts.specs.Plan.{IsOfLines, IsPlan}
 use Rattle.org_texts.specs.Texts.{Holding, TextSet, text_of}
 use Rattle.org_commands.specs.declared.command.RunFault.{RunFault}
 use Rattle.org_commands.specs.declared.command.RunFault.TheVariants.{Refused, OutOfMemory}
 use Rattle.org_commands.specs.declared.command.Refusal.TheVariants.{TooLarge}
-use Rattle.org_commands.specs.Files.{AreReady, AreSmallToWrite, OpenFiles, PutsPlan, files_of, has_large, new_texts, texts_in}
+use Rattle.org_commands.specs.Files.{AreSmallToWrite, AreTouched, OpenFiles, PutsPlan, files_of, has_large, new_texts, texts_in}
 use Rattle.org_commands.proofs.Held.{first_held, second_held, small_put, sound_put, sound_undone}
 use Rattle.org_commands.proofs.Handing.{handed_on}
 use Rattle.org_commands.proofs.Noted.{noted_not_put, noted_put, noted_undone}
@@ -41,12 +42,12 @@ returns-clause-puts g c =
     let inside = c.self.inside in
     let plan = c.args.plan.now in
     let now = c.in_ok-apply.ensures.now in
-    let ready : AreReady (files_of plan) inside.texts = rw (← c.self.view_is) at c.requires.ready in
+    let touched : AreTouched (files_of plan) inside.texts = rw (← c.self.view_is) at c.requires.touched in
     let test : c.is_large.result ≡ has_large (texts_in c.apply.new.self.now (files_of plan)) = c.is_large.ensures in
     let small : has_large (new_texts plan inside.texts.now) ≡ false =
     subst (λ (set : TextSet). has_large (texts_in set (files_of plan)) ≡ false) now (sym test ∙ c.if-is_large.false) in
     let same : inside.texts ≡ c.args.self.now.held = ap (λ (f : OpenFiles g.row.D.Denot). f.held) c.self.view_is in
-    subst (λ (h : Holding). PutsPlan plan h (Ok tt) c.apply.new.self) same (small, now, subst AreSmallToWrite (sym now) (small_put plan inside.texts ready c.self.invariant.0.small small))
+    subst (λ (h : Holding). PutsPlan plan h (Ok tt) c.apply.new.self) same (small, now, subst AreSmallToWrite (sym now) (small_put plan inside.texts touched c.self.invariant.0.small small))
 
 pub returns-then-is_large-clause-puts : goal.returns-then-is_large-clause-puts
 returns-then-is_large-clause-puts g c =
@@ -104,8 +105,8 @@ returns-in_err-apply-clause-puts g c =
 pub lower_plan-requires-clause-plan : goal.lower_plan-requires-clause-plan
 lower_plan-requires-clause-plan g c = let is : IsPlan c.args.plan.now c.self.inside.texts.now = rw (← c.self.view_is) at c.requires.is in is
 
-pub lower_plan-requires-clause-ready : goal.lower_plan-requires-clause-ready
-lower_plan-requires-clause-ready g c = let ready : AreReady (files_of c.args.plan.now) c.self.inside.texts = rw (← c.self.view_is) at c.requires.ready in ready
+pub lower_plan-requires-clause-lines : goal.lower_plan-requires-clause-lines
+lower_plan-requires-clause-lines g c = let lines : IsTrue c.args.plan.now.of_lines → IsOfLines c.args.plan.now c.self.inside.texts.now = rw (← c.self.view_is) at c.requires.lines in lines
 
 pub invariant_of-self : goal.invariant_of-self
 invariant_of-self g c =

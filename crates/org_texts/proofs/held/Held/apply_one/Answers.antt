@@ -1,5 +1,4 @@
 use Rattle.std.proofs.Common.{◌≡◌, ◌∙◌, ◌+◌, ◌≤◌, ◌<◌, ◌^◌, length, sym, ap, subst, arith}
-use Rattle.org_splice.specs.Lines.{terminated}
 use Rattle.org_splice.specs.Texts.{EditedText, spliced}
 use Rattle.org_splice.specs.Versions.{Versions}
 use Rattle.org_splice.proofs.Windows.{IsReplaced-edited}
@@ -15,9 +14,7 @@ follow-requires c =
     let bytes = c.args.edit.now.bytes in
     let was : before ≡ c.args.self.now.text = ap (λ (h : HeldText). h.text) c.self.view_is in
     let after : c.bytes.result.now ≡ (spliced at removed bytes before).bytes = c.bytes.ensures.bytes ∙ ap (λ (e : Versions). e.text.bytes) c.in_ok-apply.ensures.ok in
-    let after_old : c.bytes.result.now ≡ (spliced at removed bytes c.args.self.now.text).bytes = after ∙ ap (λ (t : EditedText). (spliced at removed bytes t).bytes) was in
-    let stays_terminated : terminated c.bytes.result.now ≡ c.bytes.result.now = ap terminated after_old ∙ c.requires.stays_terminated ∙ sym after_old in
     let small : length before.bytes < 2 ^ 64 = omega (arith, c.bytes-size.type_inv.0, ap length c.bytes-size.ensures.bytes) in
-    let within : at + removed ≤ length before.bytes = subst (λ (t : EditedText). at + removed ≤ length t.bytes) (sym was) c.requires.within in
-    follows c.self.inside.heads before.bytes c.bytes.result.now at removed c.len.result c.self.invariant (λ was_terminated. stays_terminated) small
+    let within : at + removed ≤ length before.bytes = subst (λ (t : EditedText). at + removed ≤ length t.bytes) (sym was) c.requires in
+    follows c.self.inside.heads before.bytes c.bytes.result.now at removed c.len.result c.self.invariant small
     (IsReplaced-edited at removed c.len.result bytes before.bytes c.bytes.result.now within after c.len.ensures)

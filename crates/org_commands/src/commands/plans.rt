@@ -1,4 +1,4 @@
-//! Plans of edits: one file or two, at most two edits in one.
+//! Plans of edits of lines: one file or two, at most two edits in one.
 ghost use Rattle.std.specs.Prelude.{◌≡◌, ◌≢◌, ◌∷◌, [], None, IfNone, IfOk, IfSome, IsSomeAnd};
 
 use org_disk::FileName;
@@ -17,6 +17,7 @@ pub(crate) fn plan_of_one<'a>(alloc: Global, file: NameOf<'a>, edit: Edit) -> Pl
             edits: Edits::new(edit, Vec::new(alloc)),
         },
         second: None,
+        of_lines: true,
     }
 }
 
@@ -37,6 +38,7 @@ pub(crate) fn plan_of_two_edits<'a>(
             edits: Edits::new(first, edits),
         },
         second: None,
+        of_lines: true,
     })
 }
 
@@ -57,6 +59,7 @@ pub(crate) fn plan_of<'a>(file: &'a FileName, mut edits: Vec<Edit>) -> Option<Pl
             edits: Edits::new(first, edits),
         },
         second: None,
+        of_lines: true,
     })
 }
 
@@ -82,5 +85,6 @@ pub(crate) fn plan_of_two<'a>(
             file: to_file,
             edits: Edits::new(to_edit, Vec::new(alloc)),
         }),
+        of_lines: true,
     }
 }

@@ -1,0 +1,110 @@
+use Rattle.std.proofs.Common.{◌≡◌, ℕ, zero, suc, ◌+◌, ◌-◌, ◌*◌, ◌^◌, ◌<◌, ◌≤◌, Bool, true, false, ◌&&◌, Option, Some, None, List, length, get_or, fold, refl, sym, ap, ◌∙◌, arith, add-one}
+use Rattle.std.specs.Prelude.{◌==◌, nat_le, if◌then◌else◌}
+use Rattle.std.specs.List.{list_all}
+use Rattle.std.specs.Char.{is_ascii_digit}
+use Rattle.std.proofs.Math.Nat.{pow-succ'}
+use Rattle.std.proofs.lemmas.List.{take_all}
+use Rattle.std.proofs.lemmas.List.Sums.{fold_more}
+use Rattle.std.proofs.lemmas.List.Folds.{list_all_more, list_all_at}
+use Rattle.org_serve.specs.Grammar.{digits_of}
+use Rattle.org_serve.proofs.field.digits.Goals as goal
+use Rattle.org_serve.proofs.field.digits.Goals.{then-is_empty-via-then-is_empty, then-is_empty-via-else-is_empty+then-field-gt8}
+
+below_seven : (i : ℕ) → i ≤ 7 → 10 ^ i ≤ 10000000
+below_seven zero le = omega arith
+below_seven (suc zero) le = omega arith
+below_seven (suc (suc zero)) le = omega arith
+below_seven (suc (suc (suc zero))) le = omega arith
+below_seven (suc (suc (suc (suc zero)))) le = omega arith
+below_seven (suc (suc (suc (suc (suc zero))))) le = omega arith
+below_seven (suc (suc (suc (suc (suc (suc zero)))))) le = omega arith
+below_seven (suc (suc (suc (suc (suc (suc (suc zero))))))) le = omega arith
+below_seven (suc (suc (suc (suc (suc (suc (suc (suc i)))))))) le = absurd (omega (arith, le))
+
+abbrev more : ℕ → ℕ → ℕ
+more n b = 10 * n + (b - 48)
+
+abbrev if_all : Bool → Bool → Bool → ℕ → Option ℕ
+if_all some few digits n = if some && few && digits then Some n else None
+
+empty_none : (few digits : Bool) (n : ℕ) → None ≡ if_all false few digits n
+empty_none few digits n = refl
+
+long_none : (some digits : Bool) (n : ℕ) → None ≡ if_all some false digits n
+long_none true digits n = refl
+long_none false digits n = refl
+
+other_none : (some few : Bool) (n : ℕ) → None ≡ if_all some few false n
+other_none true true n = refl
+other_none true false n = refl
+other_none false few n = refl
+
+no_number : (text : List ℕ) → length text ≡ 0 → None ≡ digits_of text
+no_number text none = let e : nat_le 1 (length text) ≡ false = grind arith in rw e refl
+
+long_number : (text : List ℕ) → 8 < length text → None ≡ digits_of text
+long_number text long =
+    let e : nat_le (length text) 8 ≡ false = grind arith in
+    long_none (nat_le 1 (length text)) (list_all is_ascii_digit text) (fold more 0 text) ∙ ap (λ b. if_all (nat_le 1 (length text)) b (list_all is_ascii_digit text) (fold more 0 text)) (sym e)
+
+odd_number : (text : List ℕ) → list_all is_ascii_digit text ≡ false → None ≡ digits_of text
+odd_number text odd =
+    other_none (nat_le 1 (length text)) (nat_le (length text) 8) (fold more 0 text) ∙ ap (λ b. if_all (nat_le 1 (length text)) (nat_le (length text) 8) b (fold more 0 text)) (sym odd)
+
+number_is : (text : List ℕ) (n : ℕ) → 0 < length text → length text ≤ 8 → n ≡ fold more 0 text → list_all is_ascii_digit text ≡ true → Some n ≡ digits_of text
+number_is text n some few is digits =
+    let one : nat_le 1 (length text) ≡ true = grind arith in
+    let eight : nat_le (length text) 8 ≡ true = grind arith in
+    rw (one, eight, digits) (ap (λ n. Some n) is)
+
+some_bytes : (n : ℕ) → (n == 0) ≡ false → 0 < n
+some_bytes n some = grind arith
+
+no_bytes : (n : ℕ) → (n == 0) ≡ true → n ≡ 0
+no_bytes n none = grind arith
+
+last_digit : (b : ℕ) → is_ascii_digit b ≡ true → b ≤ 57
+last_digit b digit = grind arith
+
+more_below : (i n d b : ℕ) → n < 10 ^ i → d ≡ b - 48 → is_ascii_digit b ≡ true → 10 * n + d < 10 ^ (i + 1)
+more_below i n d b below is digit =
+    let tenfold : 10 ^ (i + 1) ≡ 10 * 10 ^ i = rw add-one (pow-succ' 10 i) in
+    omega (arith, last_digit b digit, tenfold)
+
+both_true : (a b : Bool) → a ≡ true → b ≡ true → (a && b) ≡ true
+both_true a b one other = rw (one, other) refl
+
+pub overflow_mul-number : goal.overflow_mul-number
+overflow_mul-number c = omega (arith, below_seven c.loop-b.b-index (omega arith), c.loop-b.invariant.bound)
+
+pub overflow_add-number : goal.overflow_add-number
+overflow_add-number c = omega (arith, below_seven c.loop-b.b-index (omega arith), c.loop-b.invariant.bound)
+
+pub returns-then-is_empty : goal.returns-then-is_empty
+returns-then-is_empty c =
+    elim c.then-is_empty.branch [
+      | then-is_empty-via-then-is_empty w ↦ no_number c.args.field.now (no_bytes _ (sym c.is_empty.ensures ∙ w.if-is_empty.true))
+      | then-is_empty-via-else-is_empty+then-field-gt8 w ↦ long_number c.args.field.now w.if-field-gt8.true
+    ]
+
+pub returns-then-not-is_ascii_digit : goal.returns-then-not-is_ascii_digit
+returns-then-not-is_ascii_digit c =
+    odd_number c.args.field.now (list_all_at is_ascii_digit c.args.field.now c.loop-b.b-index 0 c.loop-b-test.true (sym c.is_ascii_digit.ensures.value ∙ c.if-not-is_ascii_digit.true))
+
+pub loop-b-preserved : goal.loop-b-preserved
+loop-b-preserved c =
+    let text = c.args.field.now in
+    let i = c.loop-b.b-index in
+    let digit : is_ascii_digit (get_or text i 0) ≡ true = sym c.is_ascii_digit.ensures.value ∙ c.if-not-is_ascii_digit.false in
+    record {
+      value = ap (λ d. 10 * c.loop-b.number + d) c.from.ensures ∙ ap (λ n. more n (get_or text i 0)) c.loop-b.invariant.value ∙ sym (fold_more more 0 text i 0 c.loop-b-test.true);
+      bound = more_below i c.loop-b.number c.from.result (get_or text i 0) c.loop-b.invariant.bound c.from.ensures digit;
+      digits = list_all_more is_ascii_digit text i 0 c.loop-b-test.true ∙ both_true _ _ c.loop-b.invariant.digits digit;
+    }
+
+pub returns : goal.returns
+returns c =
+    let text = c.args.field.now in
+    let all = take_all c.loop-b.b-index text c.loop-b-test.false in
+    number_is text c.loop-b.number (some_bytes _ (sym c.is_empty.ensures ∙ c.if-is_empty.false)) c.if-field-gt8.false (c.loop-b.invariant.value ∙ ap (fold more 0) all)
+    (sym (ap (list_all is_ascii_digit) all) ∙ c.loop-b.invariant.digits)
