@@ -58,27 +58,32 @@ static void set_gate(unsigned char gate)
     sync_data(journal);
 }
 
+static void path_of(char path[PIECE], const char *name)
+{
+    snprintf(path, PIECE, "%s/%s", folder, name);
+}
+
 static int open_in(const char *of)
 {
     char path[PIECE];
-    snprintf(path, sizeof path, "%s/%s", folder, of);
+    path_of(path, of);
     int fd = open(path, O_RDWR | O_CREAT | O_CLOEXEC, 0666);
     if (fd < 0)
         fail(path);
     return fd;
 }
 
-static int opened(const unsigned char *name, size_t count)
+static struct file *opened(const unsigned char *name, size_t count)
 {
     for (size_t i = 0; i < file_count; i++)
         if (strlen(files[i].name) == count && memcmp(files[i].name, name, count) == 0)
-            return files[i].fd;
+            return &files[i];
     if (file_count == FILES || count >= NAME)
         exit(1);
     struct file *one = &files[file_count++];
     memcpy(one->name, name, count);
     one->fd = open_in(one->name);
-    return one->fd;
+    return one;
 }
 
 static uint64_t number(const unsigned char **at, int bytes)
@@ -89,6 +94,33 @@ static uint64_t number(const unsigned char **at, int bytes)
     return value;
 }
 
+static void try_file(const char *name, int fd)
+{
+    char path[PIECE];
+    struct statx now;
+    put_at(fd, "", 0, 0);
+    path_of(path, name);
+    if (statx(AT_FDCWD, path, 0, STATX_BASIC_STATS, &now) != 0)
+        fail("statx");
+}
+
+/* Tries the journal, and the files of a record. */
+static void try_all(const unsigned char *at)
+{
+    try_file("orgstore.journal", journal);
+    for (uint64_t entries = number(&at, 4); entries > 0; entries--) {
+        size_t named = number(&at, 2);
+        struct file *one = opened(at, named);
+        try_file(one->name, one->fd);
+        at += named + 8;
+        for (uint64_t patches = number(&at, 4); patches > 0; patches--) {
+            number(&at, 8);
+            uint64_t count = number(&at, 8);
+            at += count;
+        }
+    }
+}
+
 /* Lays the patches of a record, and syncs its files. */
 static void lay(const unsigned char *at)
 {
@@ -96,7 +128,7 @@ static void lay(const unsigned char *at)
     uint64_t entries = number(&at, 4);
     for (uint64_t entry = 0; entry < entries; entry++) {
         size_t named = number(&at, 2);
-        int fd = changed[entry] = opened(at, named);
+        int fd = changed[entry] = opened(at, named)->fd;
         at += named;
         uint64_t final = number(&at, 8);
         for (uint64_t patches = number(&at, 4); patches > 0; patches--) {
@@ -119,6 +151,7 @@ static void commit(void)
         exit(1);
     }
     size_t body = number(&script, 8);
+    try_all(script + HEADER);
     put_at(journal, script, body, 1);
     sync_data(journal);
     set_gate(1);

@@ -11,13 +11,12 @@ use Rattle.org_splice.proofs.Patching.{length-patched_each, last_end-place, leng
 use Rattle.org_splice.specs.declared.patch.Patch.{Patch}
 
 -- the pair of an item
-pub pair_at : (items patches : List Patch) (k : ℕ) (patch : Patch) (bytes : List ℕ) → items ≡ patches → k < length items → patch ≡ get_or items k patch → bytes ≡ patch.bytes
-    → slice_get (pairs_of patches) k ≡ Some (patch.from, bytes)
-pair_at items patches k patch bytes same within is of =
+pub pair_at : (items patches : List Patch) (k : ℕ) (patch : Patch) → items ≡ patches → k < length items → patch ≡ get_or items k patch
+    → slice_get (pairs_of patches) k ≡ Some (patch.from, patch.bytes)
+pair_at items patches k patch same within is =
     ap (λ (l : List Patch). slice_get (pairs_of l) k) (sym same)
     ∙ slice_get-map (λ (p : Patch). (p.from, p.bytes)) items k
     ∙ ap (λ (o : Option Patch). option_map (λ (p : Patch). (p.from, p.bytes)) o) (slice_get_read items (length items) k patch refl within is)
-    ∙ ap (λ (b : List ℕ). let o : Option (ℕ × List ℕ) = Some (patch.from, b) in o) (sym of)
 
 patched_each-append : (first later : List (ℕ × List ℕ)) (text : List ℕ) → patched_each (first ++ later) text ≡ patched_each later (patched_each first text)
 patched_each-append [] later text = refl

@@ -1,11 +1,13 @@
--- Files that were tried, by writes of no bytes.
-use Rattle.std.proofs.Common.{◌≡◌, ◌≢◌, ◌⊎◌, inl, inr, ⊎_elim, ℕ, suc, ◌+◌, ◌<◌, ◌++◌, List, [], ◌∷◌, length, get_or, take, set, Result, Ok, Err, OnOk, IsErr, sym, ◌∙◌, ap, subst, arith}
+-- Files that were tried, by writes of no bytes, and a commit that begins with that.
+use Rattle.std.proofs.Common.{◌≡◌, ◌≢◌, ◌⊎◌, inl, inr, ⊎_elim, ℕ, suc, ◌+◌, ◌<◌, ◌++◌, List, [], ◌∷◌, length, get_or, take, set, Result, Ok, Err, OnOk, IsErr, refl, sym, ◌∙◌, ap, subst, arith}
 use Rattle.std.proofs.lemmas.Bool.{cases_lt}
+use Rattle.std.proofs.lemmas.Result.{on_ok_weaker}
 use Rattle.std.proofs.lemmas.List.{get_or-take, get_or_append_left, get_or-set_same, get_or-set_other, length-append, length-set, length-take-le}
 use Rattle.org_disk.specs.declared.disk.Disk.{Ghosts}
 use Rattle.org_disk.specs.declared.disk.DiskFault.{DiskFault}
 use Rattle.org_disk.specs.Accounts.{LooksOver, PassesOver}
-use Rattle.org_disk.specs.Disk.{FileState, IsImage, IsOutside, IsStable, AreImages, AreLeftBy, Changes, write}
+use Rattle.org_disk.specs.Disk.{FileState, IsImage, IsOutside, IsStable, AreImages, AreLeftBy, Changes, MayLeave, write}
+use Rattle.org_disk.proofs.Accounting.{looks_none, looks_then}
 use Rattle.org_disk.proofs.Images.{only_image}
 use Rattle.org_disk.proofs.Moments.{Image, leaves_only, passes_as, passes_then}
 use Rattle.org_disk.proofs.Names.{name_cases}
@@ -18,8 +20,10 @@ use Rattle.org_fileset.proofs.Armed.{on_ok_never}
 use Rattle.org_fileset.proofs.Commits.{at_rest_recovers}
 use Rattle.org_fileset.proofs.Writes.{alone_looks, alone_then}
 
--- A file that was on the disk, and of which a crash leaves no more than before, is on the disk.
+-- A stable file of which a crash leaves no more than before is stable: of a file whose call failed
+-- nothing else is known.
 
+-- a position lies in none of the ranges, or in one
 outside_cases : (ranges : List (ℕ × ℕ)) (i : ℕ) → IsOutside ranges i ⊎ (IsOutside ranges i → ⊥)
 outside_cases [] i = inl tt
 outside_cases (range ∷ ranges) i = elim (outside_cases ranges i) [
@@ -33,6 +37,7 @@ outside_cases (range ∷ ranges) i = elim (outside_cases ranges i) [
       (cases_lt i range.0)
 ]
 
+-- a file whose content is its only image
 module _ (file : FileState) (own : IsImage file file.content) (only : (bytes : List ℕ) → IsImage file bytes → bytes ≡ file.content) where
   least_is : file.least ≡ length file.content
   least_is = ⊎_elim
@@ -84,74 +89,80 @@ pub still_stable : (old new : FileState) → IsStable old → IsImage new new.co
 still_stable old new stable own images =
     stable_alone new own (λ bytes image. only_image stable bytes (images bytes image) ∙ sym (only_image stable new.content (images new.content own)))
 
--- One try, of the file of this name
+-- A try of the file of this name, which is the journal's or one of the record's.
 
-module _ {D : Type 0} (g : Ghosts D) (name : List ℕ) (old new : D) (own : (n : List ℕ) → IsImage (g.files old n) (g.files old n).content)
-    (result : Result (Unit {0}) DiskFault) (changes : Changes (write 0 []) name (g.files old) (g.files new) result)
-    (time : PassesOver g old new (AreLeftBy (write 0 []) name (g.files old))) where
+module _ {D : Type 0} (g : Ghosts D) (entries : List Entry) (name : List ℕ) (old new : D) (own : (n : List ℕ) → IsImage (g.files old n) (g.files old n).content)
+    (tried : (n : List ℕ) → IsUnwritten entries n → n ≢ name) where
   nothing : write 0 [] (g.files old name) ≡ g.files old name
   nothing = nothing_written 0 (g.files old name) (omega arith) (own name)
 
-  before : (bytes : List ℕ) → IsImage (g.files old name) bytes ⊎ IsImage (write 0 [] (g.files old name)) bytes → IsImage (g.files old name) bytes
+  before : (bytes : List ℕ) → MayLeave (write 0 []) (g.files old name) bytes → IsImage (g.files old name) bytes
   before bytes may = ⊎_elim (λ image. image) (λ after. subst (λ (f : FileState). IsImage f bytes) nothing after) may
 
-  pub try_passes : PassesOver g old new (AreImages (g.files old))
-  try_passes = passes_as time (λ image left n. elim (name_cases n name) [
+  passes : PassesOver g old new (AreLeftBy (write 0 []) name (g.files old)) → PassesOver g old new (AreImages (g.files old))
+  passes time = passes_as time (λ image left n. elim (name_cases n name) [
     | inl same ↦ subst (λ (m : List ℕ). IsImage (g.files old m) (image m)) (sym same.0) (before (image name) left.here)
     | inr apart ↦ left.others n apart.0
   ])
 
-module _ {D : Type 0} (g : Ghosts D) (name : List ℕ) (old new : D) (own : (n : List ℕ) → IsImage (g.files old n) (g.files old n).content) where
-  -- that was answered by Ok: the files are the same
-  pub try_looks : (done : Unit {0}) → Changes (write 0 []) name (g.files old) (g.files new) (Ok done) → PassesOver g old new (AreLeftBy (write 0 []) name (g.files old))
-      → LooksOver g old new
-  try_looks done changes time = record { same = λ j n. same n j; time = try_passes g name old new own (Ok done) changes time }
-    where
-      same : (n : List ℕ) → g.files new n ≡ g.files old n
-      same n = elim (name_cases n name) [
-        | inl is ↦ ap (λ (m : List ℕ). g.files new m) is.0 ∙ changes.ok ∙ nothing_written 0 (g.files old name) (omega arith) (own name) ∙ ap (λ (m : List ℕ). g.files old m) (sym is.0)
-        | inr apart ↦ changes.others n apart.0
-      ]
-
-  -- whatever is answered, a crash leaves no more of its file
-  here_images : (result : Result (Unit {0}) DiskFault) → Changes (write 0 []) name (g.files old) (g.files new) result → (bytes : List ℕ)
-      → IsImage (g.files new name) bytes → IsImage (g.files old name) bytes
-  here_images (Ok done) changes bytes image =
-      subst (λ (f : FileState). IsImage f bytes) (nothing_written 0 (g.files old name) (omega arith) (own name)) (subst (λ (f : FileState). IsImage f bytes) changes.ok image)
-  here_images (Err fault) changes bytes image =
-      ⊎_elim (λ before. before) (λ after. subst (λ (f : FileState). IsImage f bytes) (nothing_written 0 (g.files old name) (omega arith) (own name)) after) (changes.err.images bytes image)
-
-  pub try_images : (result : Result (Unit {0}) DiskFault) → Changes (write 0 []) name (g.files old) (g.files new) result → (n bytes : List ℕ)
-      → IsImage (g.files new n) bytes → IsImage (g.files old n) bytes
-  try_images result changes n bytes image = elim (name_cases n name) [
-    | inl is ↦ subst (λ (m : List ℕ). IsImage (g.files old m) bytes) (sym is.0) (here_images result changes bytes (subst (λ (m : List ℕ). IsImage (g.files new m) bytes) is.0 image))
-    | inr apart ↦ subst (λ (f : FileState). IsImage f bytes) (changes.others n apart.0) image
+  -- what is so of this file is so of each, since the others are the same
+  each_file : (P : List ℕ → Type 0) → P name → ((n : List ℕ) → n ≢ name → P n) → (n : List ℕ) → P n
+  each_file P here others n = elim (name_cases n name) [
+    | inl is ↦ subst P (sym is.0) here
+    | inr apart ↦ others n apart.0
   ]
 
--- tries that only looked, and then one that failed
-pub tries_failed : {D : Type 0} (g : Ghosts D) (entries : List Entry) (name : List ℕ) (old mid new : D) → ((n : List ℕ) → IsImage (g.files mid n) (g.files mid n).content)
-    → LooksOver g old mid → (answer : Result (Unit {0}) DiskFault) → Changes (write 0 []) name (g.files mid) (g.files new) answer
-    → PassesOver g mid new (AreLeftBy (write 0 []) name (g.files mid)) → ((n : List ℕ) → IsUnwritten entries n → n ≢ name)
-    → (result : Result (Unit {0}) DiskFault) → IsErr result → TriesOver g entries old new result
-tries_failed g entries name old mid new own looks answer changes time apart result failed =
-    let same : (n : List ℕ) → g.files mid n ≡ g.files old n = λ n. ap (λ (f : List ℕ → FileState). f n) looks.same in
-    record {
-      ok = on_ok_never _ result failed;
-      time = passes_then looks.time (try_passes g name mid new own answer changes time) (λ image left n. subst (λ (f : FileState). IsImage f (image n)) (same n) (left n));
-      images = λ n bytes image. subst (λ (f : FileState). IsImage f bytes) (same n) (try_images g name mid new own answer changes n bytes image);
-      others = λ n is. changes.others n (apart n is) ∙ same n;
-    }
+  pub one_try : (result : Result (Unit {0}) DiskFault) → Changes (write 0 []) name (g.files old) (g.files new) result
+      → PassesOver g old new (AreLeftBy (write 0 []) name (g.files old)) → TriesOver g entries old new result
+  one_try (Ok done) changes time =
+      let same : (n : List ℕ) → g.files new n ≡ g.files old n = each_file (λ n. g.files new n ≡ g.files old n) (changes.ok ∙ nothing) changes.others in
+      record {
+        ok = record { same = λ j n. same n j; time = passes time };
+        time = passes time;
+        images = λ n bytes image. subst (λ (f : FileState). IsImage f bytes) (same n) image;
+        others = λ n is. same n;
+      }
+  one_try (Err fault) changes time = record {
+    ok = tt;
+    time = passes time;
+    images = each_file (λ n. (bytes : List ℕ) → IsImage (g.files new n) bytes → IsImage (g.files old n) bytes)
+        (λ bytes image. before bytes (changes.err.images bytes image))
+        (λ n apart bytes image. subst (λ (f : FileState). IsImage f bytes) (changes.others n apart) image);
+    others = λ n is. changes.others n (tried n is);
+  }
 
--- tries of which none failed
-pub tries_looked : {D : Type 0} (g : Ghosts D) (entries : List Entry) (old new : D) → LooksOver g old new → (done : Unit {0}) → TriesOver g entries old new (Ok done)
-tries_looked g entries old new looks done =
-    let same : (n : List ℕ) → g.files new n ≡ g.files old n = λ n. ap (λ (f : List ℕ → FileState). f n) looks.same in
-    record {
-      ok = looks;
-      time = looks.time;
-      images = λ n bytes image. subst (λ (f : FileState). IsImage f bytes) (same n) image;
-      others = λ n is. same n;
-    }
+-- Tries, one after another
+
+module _ {D : Type 0} (g : Ghosts D) (entries : List Entry) where
+  -- none yet
+  pub tries_none : (disk : D) (done : Unit {0}) → TriesOver g entries disk disk (Ok done)
+  tries_none disk done = record {
+    ok = looks_none g.files g.instant g.left_since disk;
+    time = (looks_none g.files g.instant g.left_since disk).time;
+    images = λ n bytes image. image;
+    others = λ n is. refl;
+  }
+
+  -- those before the last went well
+  pub tries_then : (old mid new : D) (done : Unit {0}) (result : Result (Unit {0}) DiskFault) → TriesOver g entries old mid (Ok done)
+      → TriesOver g entries mid new result → TriesOver g entries old new result
+  tries_then old mid new done result first last =
+      let same : (n : List ℕ) → g.files mid n ≡ g.files old n = λ n. ap (λ (f : List ℕ → FileState). f n) first.ok.same in
+      record {
+        ok = on_ok_weaker result (λ looks. looks_then first.ok looks) last.ok;
+        time = passes_then first.time last.time (λ image left n. subst (λ (f : FileState). IsImage f (image n)) (same n) (left n));
+        images = λ n bytes image. subst (λ (f : FileState). IsImage f bytes) (same n) (last.images n bytes image);
+        others = λ n is. last.others n is ∙ same n;
+      }
+
+  -- one failed, and so does the call that made it
+  pub tries_failed : (old new : D) (answer result : Result (Unit {0}) DiskFault) → TriesOver g entries old new answer → IsErr result → TriesOver g entries old new result
+  tries_failed old new answer result tries failed = record {
+    ok = on_ok_never _ result failed;
+    time = tries.time;
+    images = tries.images;
+    others = tries.others;
+  }
 
 -- The commit whose files were tried
 

@@ -45,8 +45,8 @@ pub record IsUnconcerned (journal : List ℕ) (name : List ℕ) : Type 0 where
       → IsFalse (is_named name entries)
 
 -- Calls that try the journal and the files of a record, where the disk is honest after them. After
--- Ok they only looked. Where one failed, they left no other file, and whatever a crash leaves,
--- meanwhile and then, it might have left before.
+-- Ok they only looked. After a failure all other files are the same, and what a crash leaves of
+-- each file, then or meanwhile, it might have left before.
 pub record TriesOver {D : Type 0} (g : Ghosts D) (entries : List Entry) (old new : D)
     (result : Result (Unit {0}) DiskFault) : Type 0 where
   pub ok : OnOk result (LooksOver g old new)

@@ -2,9 +2,9 @@
 //!
 //! Each step may be stopped and done again: a record makes the same text of whatever a crash left
 //! of its file. Nothing here looks at the journal.
-ghost use Rattle.std.specs.Prelude.{◌≡◌, ◌≢◌, List, ℕ, IsFalse, OnOk, IsErr};
-ghost use Rattle.org_disk.specs.Disk.{IsStable};
-ghost use Rattle.org_disk.specs.Accounts.{Accounts};
+ghost use Rattle.std.specs.Prelude.{◌≡◌, ◌≢◌, ◌+◌, ◌^◌, ◌<◌, ◌≤◌, List, ℕ, length, IsFalse, OnOk, IsErr};
+ghost use Rattle.org_disk.specs.Disk.{AreLeftBy, Changes, IsStable, write};
+ghost use Rattle.org_disk.specs.Accounts.{Accounts, PassesOver};
 ghost use Rattle.org_splice.specs.Patches.{patched};
 ghost use Rattle.org_splice.specs.Texts.{pairs_of};
 ghost use Rattle.org_journal.specs.Record.{is_named};
@@ -12,8 +12,27 @@ ghost use Rattle.org_journal.specs.Recovered.{contents, replayed};
 ghost use Rattle.org_fileset.specs.Replay.{AreApplicable, AreApplicableTo, CanPatch, AppliesPatchesOver, TakesOver};
 ghost use Rattle.org_fileset.specs.Writes.{LeavesAlone};
 
-use org_disk::{Disk, DiskFault};
+use org_disk::{Disk, DiskFault, FileName};
 use org_journal::Entry;
+use org_splice::Patch;
+
+/// Writes a patch over its file. One without bytes needs no call: as a write it would try the file,
+/// and the gate is open here.
+fn write_patch<D: Disk>(disk: &mut D, name: &FileName, patch: &Patch) -> Result<(), DiskFault>
+    requires within { D.honest disk.old
+        → patch.now.from ≤ length (D.files disk.old name.now).content }
+    requires fits { D.honest disk.old → patch.now.from + length patch.now.bytes < 2 ^ 64 }
+    ensures effect { D.honest disk.new → Changes (write patch.now.from patch.now.bytes) name.now
+        (D.files disk.old) (D.files disk.new) result }
+    ensures time { D.honest disk.new → PassesOver D.Disk disk.old disk.new
+        (AreLeftBy (write patch.now.from patch.now.bytes) name.now (D.files disk.old)) }
+    ensures accounts { Accounts D.Disk disk.old disk.new (IsErr result) }
+{
+    if patch.bytes.is_empty() {
+        return Ok(());
+    }
+    disk.write_at(name, patch.from, patch.bytes.as_slice())
+}
 
 /// Applies an entry's patches to its file, and cuts it to the entry's length. Before, within and
 /// after it, also where it fails, the entry makes the same text of whatever a crash leaves of the
@@ -33,7 +52,7 @@ pub fn apply_entry<D: Disk>(disk: &mut D, entry: &Entry) -> Result<(), DiskFault
     ensures accounts { Accounts D.Disk disk.old disk.new (IsErr result) }
 {
     for patch in entry.patches.as_slice() {
-        disk.write_at(&entry.name, patch.from, patch.bytes.as_slice())?;
+        write_patch(disk, &entry.name, patch)?;
     }
     let length = disk.length(&entry.name)?;
     if length > entry.length {

@@ -137,6 +137,9 @@ impl<D: Disk> FileSet<D> {
     /// hold, and within `LIMIT`; the names are the set's. What is asked and said of what files hold
     /// is so of an honest disk alone.
     ///
+    /// Before anything is written, the journal and the changed files are tried by writes of no
+    /// bytes. Where one of these fails, each file is as it was, and the gate stays closed.
+    ///
     /// Where all is on the disk when the call begins, then at every moment since what a crash
     /// leaves recovers to all files as they were, or to all files with the changed texts; after Ok
     /// all is on the disk again. No file is written but the changed ones and the journal, behind

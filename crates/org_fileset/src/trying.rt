@@ -1,6 +1,7 @@
 //! The journal and the files of a record, tried before anything is written.
 //!
-//! A try is a write of no bytes: it changes nothing, and it fails where a write is known to fail.
+//! A try is a write of no bytes: it changes nothing, and it fails where the disk can tell that a
+//! write would fail, or would go astray.
 ghost use Rattle.std.specs.Prelude.{◌≡◌, IsErr};
 ghost use Rattle.org_disk.specs.Accounts.{Accounts};
 ghost use Rattle.org_disk.specs.Names.{journal_name};
@@ -9,8 +10,11 @@ ghost use Rattle.org_fileset.specs.Writes.{TriesOver};
 use org_disk::{Disk, DiskFault, FileName};
 use org_journal::Entry;
 
-/// Tries the journal and the files of a record. Nothing is changed: after Ok all is as it was, and
-/// after a failure too each file that is on the disk.
+/// Tries the journal and the files of a record. After Ok all is as it was. After a failure each
+/// file that was on the disk is on it still, as it was.
+///
+/// Files of which the record holds the whole text are tried last. A file that isn't there is one of
+/// them, and a folder makes it by its try: so none is made before the others were tried.
 ///
 /// # Errors
 ///
@@ -25,8 +29,27 @@ pub fn try_all<D: Disk>(
     ensures accounts { Accounts D.Disk disk.old disk.new (IsErr result) }
 {
     disk.write_at(journal, 0, &[])?;
+    try_files(disk, entries, false)?;
+    try_files(disk, entries, true)
+}
+
+// Tries the files of which the record holds the whole text, or the others.
+fn try_files<D: Disk>(disk: &mut D, entries: &[Entry], are_whole: bool) -> Result<(), DiskFault>
+    ensures tries { D.honest disk.new → TriesOver D.Disk entries.now disk.old disk.new result }
+    ensures accounts { Accounts D.Disk disk.old disk.new (IsErr result) }
+{
     for entry in entries {
-        disk.write_at(&entry.name, 0, &[])?;
+        if is_whole(entry) == are_whole {
+            disk.write_at(&entry.name, 0, &[])?;
+        }
     }
     Ok(())
+}
+
+// Whether an entry holds the whole text of its file, so that nothing of the file stays.
+fn is_whole(entry: &Entry) -> bool {
+    match entry.patches.as_slice() {
+        [patch] => patch.from == 0 && patch.bytes.len() as u64 == entry.length,
+        _ => false,
+    }
 }

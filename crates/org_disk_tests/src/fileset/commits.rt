@@ -206,14 +206,22 @@ fn is_gate_open(is_write: bool, outcome: Outcome) -> bool {
     }
 }
 
-// Whether both files are changed after a crash at this call, the first of the commit being 1.
+// The calls of a commit of both files, counted from 1: three tries, of the journal and of both; the
+// body and its sync; the gate and its sync.
+const TRIES: u64 = 3;
+
+const BODY: u64 = 4;
+
+const GATE: u64 = 6;
+
+const GATE_SYNC: u64 = 7;
+
+// Whether both files are changed after a crash at this call of the commit.
 fn is_done(call: u64, outcome: Outcome) -> bool {
-    // the journal and both files are tried; the body is written and synced, and then the gate
     match call {
-        0..=5 => false,
-        6 => is_gate_open(true, outcome),
-        7 => is_gate_open(false, outcome),
-        _ => true,
+        GATE => is_gate_open(true, outcome),
+        GATE_SYNC => is_gate_open(false, outcome),
+        _ => call > GATE_SYNC,
     }
 }
 
@@ -252,14 +260,14 @@ fn a_crashed_commit_changes_both_files_or_none(rt: HostRuntime) {
     }
 }
 
-// A first call of a commit that crashes changes nothing.
+// A commit that crashes as it writes its body changes nothing.
 #[test]
 fn a_body_behind_a_short_journal_opens_nothing(rt: HostRuntime) {
     let alloc = rt.alloc();
     let before = calls_before_commit(&rt, alloc, &[1]);
     hold(
         &rt,
-        crashes_at(&rt, alloc, &[1], before, before.saturating_add(1)),
+        crashes_at(&rt, alloc, &[1], before, before.saturating_add(BODY)),
     );
 }
 
@@ -278,9 +286,26 @@ fn failing(rt: &impl Abort, alloc: Global, call: u64) -> MemoryDisk {
     disk
 }
 
+// Whether a commit whose call with this number fails ends there, and changes neither file.
+fn ends_at(rt: &impl Abort, alloc: Global, call: u64) -> bool {
+    let before = calls_before_commit(rt, alloc, b"");
+    let (disk, answer) = change(rt, alloc, failing(rt, alloc, call), &BOTH);
+    let is_last = disk.calls() == before.saturating_add(call);
+    is_last && answer.is_err() && is_changed(rt, alloc, disk, false)
+}
+
+// Where a file or the journal can't be written, nothing is.
+#[test]
+fn a_failed_try_ends_the_commit(rt: HostRuntime) {
+    let alloc = rt.alloc();
+    for call in 1..=TRIES {
+        hold_row(&rt, ends_at(&rt, alloc, call), call as usize);
+    }
+}
+
 // A disk on which a commit left the gate open, and failed to sync it.
 fn open_unsynced(rt: &impl Abort, alloc: Global) -> MemoryDisk {
-    let (disk, answer) = change(rt, alloc, failing(rt, alloc, 7), &BOTH);
+    let (disk, answer) = change(rt, alloc, failing(rt, alloc, GATE_SYNC), &BOTH);
     hold(rt, answer.is_err());
     disk
 }
@@ -310,7 +335,7 @@ fn an_opening_syncs_an_open_gate_first(rt: HostRuntime) {
 #[test]
 fn a_failed_sync_of_the_gate_breaks_the_set(rt: HostRuntime) {
     let alloc = rt.alloc();
-    let mut set = open(&rt, alloc, failing(&rt, alloc, 7), FILES);
+    let mut set = open(&rt, alloc, failing(&rt, alloc, GATE_SYNC), FILES);
     hold(&rt, is_broken_by_commit(&rt, alloc, &mut set));
     let disk = set.into_disk();
     let image = disk.image(alloc).expect(&rt, "memory");

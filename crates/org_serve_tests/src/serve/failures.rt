@@ -134,10 +134,11 @@ fn fail_each_settled(rt: &(impl Abort + AllocGlobal), rows: &[Settled]) {
 }
 
 const MOVED: &[Settled] = &[
-    // Each file is asked for its length and read; the journal and both are tried; the record and the open gate are written with a
-    // sync each; each file's patch is written, of which the source's has no bytes, and it is asked
-    // for its length; the source is cut; both are synced, and the gate is closed with a sync.
-    (20, &[ACROSS]),
+    // Each file is asked for its length and read; the journal and both are tried; the record and
+    // the open gate are written with a sync each. The target's patch is written, the source's has
+    // no bytes; both are asked for their length, the source is cut, and both are synced. The gate
+    // is closed with a sync.
+    (19, &[ACROSS]),
     // one file, of which the made headings and the entry are one insertion
     (13, &[REFILE_WITHIN, TO_A_HEAD, TO_A_DAY]),
 ];
@@ -148,7 +149,7 @@ fn each_failed_call_of_a_move(rt: HostRuntime) {
 }
 
 const CHANGED: &[Settled] = &[
-    (20, &[TO_THE_ARCHIVE]),
+    (19, &[TO_THE_ARCHIVE]),
     (13, &[ARCHIVE_WITHIN]),
     // The files up to that of the clock that runs, three, are asked for their length and read. Of
     // the two that change each is written in one place, and none is cut.

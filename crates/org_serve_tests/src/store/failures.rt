@@ -75,8 +75,9 @@ fn go_well(rt: &(impl Abort + AllocGlobal)) {
     assert!(rt; calls == calls_of_opening(rt).saturating_add(13));
 }
 
-// A capture reads a length and a text; then it writes the record, opens the gate, writes the file,
-// asks for its length, and closes the gate, with a sync behind each of the four writes.
+// A capture reads a length and a text, and tries the journal and its file; then it writes the
+// record, opens the gate, writes the file, asks for its length, and closes the gate, with a sync
+// behind each of the four writes.
 #[test]
 fn a_failing_device(rt: HostRuntime) {
     for call in 1..14u64 {

@@ -5,7 +5,7 @@ use Rattle.org_disk.specs.Disk.{FileState, write, cut}
 use Rattle.org_splice.specs.Texts.{pairs_of}
 use Rattle.org_fileset.proofs.Patching.{applies_none, applies_call, applies_read, takes_write, takes_cut}
 use Rattle.org_fileset.proofs.Steps.{pair_at, patched_each-more, next_within, next_small, long_enough, all_applied}
-use Rattle.org_disk.proofs.Accounting.{accounts_none, accounts_then, accounts_call, accounts_call_ok}
+use Rattle.org_disk.proofs.Accounting.{accounts_none, accounts_then, accounts_ok, accounts_call, accounts_call_ok}
 use Rattle.org_journal.proofs.Accounted.{accounts_failed, accounts_fine_test}
 use Rattle.org_fileset.proofs.Writes.{alone_none, alone_then, alone_looks, alone_call}
 use Rattle.org_fileset.proofs.apply.apply_entry.Goals as goal
@@ -18,46 +18,46 @@ loop-patch-init g c = record {
   applies = λ honest to takes. applies_none (g.D.Disk.instant c.args.disk.now) (g.D.Disk.left_since c.args.disk.now) (g.D.Disk.files c.args.disk.now) takes;
 }
 
-pub write_at-requires-clause-within : goal.write_at-requires-clause-within
-write_at-requires-clause-within g c h =
+pub write_patch-requires-clause-within : goal.write_patch-requires-clause-within
+write_patch-requires-clause-within g c h =
     let sofar = c.loop-patch.invariant in
     let honest = sofar.accounts.was_honest h in
     let patches = pairs_of c.args.entry.now.patches in
-    let is = pair_at c.as_slice-patch-items.result.now c.args.entry.now.patches c.loop-patch.patch-index c.patch-item.result c.as_slice.result.now
-    c.as_slice-patch-items.ensures c.loop-patch-test.true c.patch-item.is c.as_slice.ensures in
-    next_within patches c.args.entry.now.length c.loop-patch.patch-index c.patch-item.result.from c.as_slice.result.now (g.D.Disk.files c.args.disk.now c.args.entry.now.name).content
+    let is = pair_at c.as_slice-patch-items.result.now c.args.entry.now.patches c.loop-patch.patch-index c.patch-item.result
+    c.as_slice-patch-items.ensures c.loop-patch-test.true c.patch-item.is in
+    next_within patches c.args.entry.now.length c.loop-patch.patch-index c.patch-item.result.from c.patch-item.result.bytes (g.D.Disk.files c.args.disk.now c.args.entry.now.name).content
     (g.D.Disk.files c.loop-patch.disk c.args.entry.now.name).content (c.requires honest).formed (c.requires honest).fits is (sofar.content h)
 
-pub write_at-requires-clause-fits : goal.write_at-requires-clause-fits
-write_at-requires-clause-fits g c h =
+pub write_patch-requires-clause-fits : goal.write_patch-requires-clause-fits
+write_patch-requires-clause-fits g c h =
     let sofar = c.loop-patch.invariant in
     let honest = sofar.accounts.was_honest h in
     let patches = pairs_of c.args.entry.now.patches in
-    let is = pair_at c.as_slice-patch-items.result.now c.args.entry.now.patches c.loop-patch.patch-index c.patch-item.result c.as_slice.result.now
-    c.as_slice-patch-items.ensures c.loop-patch-test.true c.patch-item.is c.as_slice.ensures in
-    let small : c.patch-item.result.from + length c.as_slice.result.now ≤ c.args.entry.now.length =
-    next_small patches c.args.entry.now.length c.loop-patch.patch-index c.patch-item.result.from c.as_slice.result.now (g.D.Disk.files c.args.disk.now c.args.entry.now.name).content
+    let is = pair_at c.as_slice-patch-items.result.now c.args.entry.now.patches c.loop-patch.patch-index c.patch-item.result
+    c.as_slice-patch-items.ensures c.loop-patch-test.true c.patch-item.is in
+    let small : c.patch-item.result.from + length c.patch-item.result.bytes ≤ c.args.entry.now.length =
+    next_small patches c.args.entry.now.length c.loop-patch.patch-index c.patch-item.result.from c.patch-item.result.bytes (g.D.Disk.files c.args.disk.now c.args.entry.now.name).content
     (c.requires honest).formed (c.requires honest).fits is in
     omega (arith, small, (c.requires honest).small)
 
-pub returns-in_err-write_at-clause-applies : goal.returns-in_err-write_at-clause-applies
-returns-in_err-write_at-clause-applies g c ended to takes =
+pub returns-in_err-write_patch-clause-applies : goal.returns-in_err-write_patch-clause-applies
+returns-in_err-write_patch-clause-applies g c ended to takes =
     let sofar = c.loop-patch.invariant in
-    let h = c.write_at.ensures.accounts.was_honest ended in
+    let h = c.write_patch.ensures.accounts.was_honest ended in
     let honest = sofar.accounts.was_honest h in
     let patches = pairs_of c.args.entry.now.patches in
     let name = c.args.entry.now.name in
     let mid = g.D.Disk.files c.loop-patch.disk in
     let from = c.patch-item.result.from in
-    let bytes = c.as_slice.result.now in
-    let is = pair_at c.as_slice-patch-items.result.now c.args.entry.now.patches c.loop-patch.patch-index c.patch-item.result bytes
-    c.as_slice-patch-items.ensures c.loop-patch-test.true c.patch-item.is c.as_slice.ensures in
+    let bytes = c.patch-item.result.bytes in
+    let is = pair_at c.as_slice-patch-items.result.now c.args.entry.now.patches c.loop-patch.patch-index c.patch-item.result
+    c.as_slice-patch-items.ensures c.loop-patch-test.true c.patch-item.is in
     let le = next_within patches c.args.entry.now.length c.loop-patch.patch-index from bytes (g.D.Disk.files c.args.disk.now name).content
     (mid name).content (c.requires honest).formed (c.requires honest).fits is (sofar.content h) in
     let now = sofar.applies h to takes in
-    applies_call (write from bytes) c.write_at.result now
+    applies_call (write from bytes) c.write_patch.result now
     (takes_write (mid name) c.loop-patch.patch-index from bytes (c.requires honest).formed is le (g.met.D.Disk.content_is_image c.loop-patch.disk name h) now.takes)
-    (c.write_at.ensures.effect ended) (c.write_at.ensures.time ended)
+    (c.write_patch.ensures.effect ended) (c.write_patch.ensures.time ended)
 
 pub loop-patch-preserved : goal.loop-patch-preserved
 loop-patch-preserved g c =
@@ -66,26 +66,26 @@ loop-patch-preserved g c =
     let name = c.args.entry.now.name in
     let mid = g.D.Disk.files c.loop-patch.disk in
     let from = c.patch-item.result.from in
-    let bytes = c.as_slice.result.now in
-    let is = pair_at c.as_slice-patch-items.result.now c.args.entry.now.patches c.loop-patch.patch-index c.patch-item.result bytes
-    c.as_slice-patch-items.ensures c.loop-patch-test.true c.patch-item.is c.as_slice.ensures in
-    let back = c.write_at.ensures.accounts.was_honest in
+    let bytes = c.patch-item.result.bytes in
+    let is = pair_at c.as_slice-patch-items.result.now c.args.entry.now.patches c.loop-patch.patch-index c.patch-item.result
+    c.as_slice-patch-items.ensures c.loop-patch-test.true c.patch-item.is in
+    let back = c.write_patch.ensures.accounts.was_honest in
     record {
-      accounts = accounts_then sofar.accounts (accounts_call_ok c.in_ok-write_at.ensures.accounts);
+      accounts = accounts_then sofar.accounts (accounts_ok c.in_ok-write_patch.ensures.accounts);
       content = λ ended.
-          let done = (c.in_ok-write_at.ensures.effect ended).ok in
+          let done = (c.in_ok-write_patch.ensures.effect ended).ok in
           ap (λ (f : FileState). f.content) done
           ∙ ap (λ (t : List ℕ). (write from bytes (record (mid name) { content = t })).content) (sofar.content (back ended))
           ∙ sym (patched_each-more patches c.loop-patch.patch-index from bytes (g.D.Disk.files c.args.disk.now name).content is);
-      alone = λ ended. alone_then g.D.Disk (λ other. other ≢ name) c.args.disk.now c.loop-patch.disk c.write_at.new.self (sofar.alone (back ended))
-          (alone_call g.D.Disk (write from bytes) name c.loop-patch.disk c.write_at.new.self c.write_at.result (c.write_at.ensures.effect ended) (c.write_at.ensures.time ended));
+      alone = λ ended. alone_then g.D.Disk (λ other. other ≢ name) c.args.disk.now c.loop-patch.disk c.write_patch.new.disk (sofar.alone (back ended))
+          (alone_call g.D.Disk (write from bytes) name c.loop-patch.disk c.write_patch.new.disk c.write_patch.result (c.write_patch.ensures.effect ended) (c.write_patch.ensures.time ended));
       applies = λ ended to takes.
           let le = next_within patches c.args.entry.now.length c.loop-patch.patch-index from bytes (g.D.Disk.files c.args.disk.now name).content
           (mid name).content (c.requires (sofar.accounts.was_honest (back ended))).formed (c.requires (sofar.accounts.was_honest (back ended))).fits is (sofar.content (back ended)) in
           let now = sofar.applies (back ended) to takes in
-          applies_call (write from bytes) c.write_at.result now
+          applies_call (write from bytes) c.write_patch.result now
           (takes_write (mid name) c.loop-patch.patch-index from bytes (c.requires (sofar.accounts.was_honest (back ended))).formed is le (g.met.D.Disk.content_is_image c.loop-patch.disk name (back ended)) now.takes)
-          (c.write_at.ensures.effect ended) (c.write_at.ensures.time ended);
+          (c.write_patch.ensures.effect ended) (c.write_patch.ensures.time ended);
     }
 
 pub returns-in_err-length-clause-applies : goal.returns-in_err-length-clause-applies
@@ -138,13 +138,13 @@ returns-else-length-entry-clause-applies g c ended to takes =
     let h = c.length.ensures.accounts.was_honest ended in
     applies_read (sofar.applies h to takes) (c.length.ensures.looks ended).same (c.length.ensures.looks ended).time
 
-pub returns-in_err-write_at-clause-alone : goal.returns-in_err-write_at-clause-alone
-returns-in_err-write_at-clause-alone g c ended =
+pub returns-in_err-write_patch-clause-alone : goal.returns-in_err-write_patch-clause-alone
+returns-in_err-write_patch-clause-alone g c ended =
     let name = c.args.entry.now.name in
     let mid = c.loop-patch.disk in
-    alone_then g.D.Disk (λ other. other ≢ name) c.args.disk.now mid c.write_at.new.self (c.loop-patch.invariant.alone (c.write_at.ensures.accounts.was_honest ended))
-    (alone_call g.D.Disk (write c.patch-item.result.from c.as_slice.result.now) name mid c.write_at.new.self c.write_at.result
-    (c.write_at.ensures.effect ended) (c.write_at.ensures.time ended))
+    alone_then g.D.Disk (λ other. other ≢ name) c.args.disk.now mid c.write_patch.new.disk (c.loop-patch.invariant.alone (c.write_patch.ensures.accounts.was_honest ended))
+    (alone_call g.D.Disk (write c.patch-item.result.from c.patch-item.result.bytes) name mid c.write_patch.new.disk c.write_patch.result
+    (c.write_patch.ensures.effect ended) (c.write_patch.ensures.time ended))
 
 pub returns-in_err-length-clause-alone : goal.returns-in_err-length-clause-alone
 returns-in_err-length-clause-alone g c ended =
@@ -178,9 +178,9 @@ returns-else-length-entry-clause-alone g c ended =
     alone_then g.D.Disk Mine c.args.disk.now c.loop-patch.disk c.length.new.self (c.loop-patch.invariant.alone (c.length.ensures.accounts.was_honest ended))
     (alone_looks g.D.Disk Mine c.loop-patch.disk c.length.new.self (c.length.ensures.looks ended))
 
-pub returns-in_err-write_at-clause-accounts : goal.returns-in_err-write_at-clause-accounts
-returns-in_err-write_at-clause-accounts g c =
-    accounts_then c.loop-patch.invariant.accounts (accounts_failed c.from_residual.ensures.0 (accounts_call _ c.in_err-write_at.ensures.accounts))
+pub returns-in_err-write_patch-clause-accounts : goal.returns-in_err-write_patch-clause-accounts
+returns-in_err-write_patch-clause-accounts g c =
+    accounts_then c.loop-patch.invariant.accounts (accounts_failed c.from_residual.ensures.0 c.in_err-write_patch.ensures.accounts)
 
 pub returns-in_err-length-clause-accounts : goal.returns-in_err-length-clause-accounts
 returns-in_err-length-clause-accounts g c =
@@ -198,8 +198,8 @@ pub returns-else-length-entry-clause-accounts : goal.returns-else-length-entry-c
 returns-else-length-entry-clause-accounts g c =
     accounts_fine_test (accounts_then c.loop-patch.invariant.accounts (accounts_call_ok c.in_ok-length.ensures.accounts))
 
-pub returns-in_err-write_at-clause-content : goal.returns-in_err-write_at-clause-content
-returns-in_err-write_at-clause-content g c = not_ok _ _ c.from_residual.ensures.0
+pub returns-in_err-write_patch-clause-content : goal.returns-in_err-write_patch-clause-content
+returns-in_err-write_patch-clause-content g c = not_ok _ _ c.from_residual.ensures.0
 
 pub returns-in_err-length-clause-content : goal.returns-in_err-length-clause-content
 returns-in_err-length-clause-content g c = not_ok _ _ c.from_residual-in_err-length.ensures.0

@@ -1,55 +1,42 @@
-use Rattle.std.proofs.Common.{length, refl, ◌∙◌}
-use Rattle.std.proofs.lemmas.Option.{slice_get_read}
-use Rattle.org_disk.proofs.Accounting.{accounts_call, accounts_call_ok, accounts_then, looks_none, looks_then}
-use Rattle.org_journal.proofs.Accounted.{accounts_failed, accounts_fine_test}
-use Rattle.org_fileset.proofs.Takes.{named_apart}
-use Rattle.org_fileset.proofs.Tried.{try_looks, tries_failed, tries_looked}
+use Rattle.std.proofs.Common.{Ok, ◌∙◌}
+use Rattle.org_fileset.proofs.Tried.{one_try, tries_failed, tries_then}
 use Rattle.org_fileset.proofs.trying.try_all.Goals as goal
-
-pub loop-entry-init : goal.loop-entry-init
-loop-entry-init g c = record {
-  looks = λ ended.
-      try_looks g.D.Disk c.args.journal.now c.args.disk.now c.write_at.new.self (λ n. g.met.D.Disk.content_is_image c.args.disk.now n (c.write_at.ensures.accounts.was_honest ended)) tt
-      (c.in_ok-write_at.ensures.effect ended) (c.write_at.ensures.time ended);
-  accounts = accounts_call_ok c.in_ok-write_at.ensures.accounts;
-}
 
 pub returns-in_err-write_at-clause-tries : goal.returns-in_err-write_at-clause-tries
 returns-in_err-write_at-clause-tries g c ended =
-    tries_failed g.D.Disk c.args.entries.now c.args.journal.now c.args.disk.now c.args.disk.now c.write_at.new.self
-    (λ n. g.met.D.Disk.content_is_image c.args.disk.now n (c.write_at.ensures.accounts.was_honest ended))
-    (looks_none _ _ _ _) c.write_at.result (c.write_at.ensures.effect ended) (c.write_at.ensures.time ended)
-    (λ n is same. is.apart (same ∙ c.requires)) c.from_residual.result c.from_residual.ensures.0
+    let old = c.args.disk.now in
+    let new = c.write_at.new.self in
+    tries_failed g.D.Disk c.args.entries.now old new c.write_at.result c.from_residual.result
+    (one_try g.D.Disk c.args.entries.now c.args.journal.now old new (λ n. g.met.D.Disk.content_is_image old n (c.write_at.ensures.accounts.was_honest ended))
+    (λ n is same. is.apart (same ∙ c.requires)) c.write_at.result (c.write_at.ensures.effect ended) (c.write_at.ensures.time ended))
+    c.from_residual.ensures.0
 
-pub returns-in_err-write_at-2-clause-tries : goal.returns-in_err-write_at-2-clause-tries
-returns-in_err-write_at-2-clause-tries g c ended =
-    let call = c.write_at-in-loop-entry in
-    let back = call.ensures.accounts.was_honest ended in
-    let i = c.loop-entry.entry-index in
-    let entry = c.entry-item.result in
-    let is = slice_get_read c.args.entries.now (length c.args.entries.now) i entry refl c.loop-entry-test.true c.entry-item.is in
-    tries_failed g.D.Disk c.args.entries.now entry.name c.args.disk.now c.loop-entry.disk call.new.self
-    (λ n. g.met.D.Disk.content_is_image c.loop-entry.disk n back)
-    (c.loop-entry.invariant.looks back) call.result (call.ensures.effect ended) (call.ensures.time ended)
-    (λ n un. named_apart c.args.entries.now i entry n un.unnamed is) c.from_residual-in_err-write_at-2.result c.from_residual-in_err-write_at-2.ensures.0
-
-pub returns-in_err-write_at-2-clause-accounts : goal.returns-in_err-write_at-2-clause-accounts
-returns-in_err-write_at-2-clause-accounts g c =
-    accounts_then c.loop-entry.invariant.accounts (accounts_failed c.from_residual-in_err-write_at-2.ensures.0 (accounts_call _ c.in_err-write_at-2.ensures.accounts))
-
-pub loop-entry-preserved : goal.loop-entry-preserved
-loop-entry-preserved g c =
-    let call = c.write_at-in-loop-entry in
-    let back = call.ensures.accounts.was_honest in
-    record {
-      looks = λ ended. looks_then (c.loop-entry.invariant.looks (back ended))
-          (try_looks g.D.Disk c.entry-item.result.name c.loop-entry.disk call.new.self (λ n. g.met.D.Disk.content_is_image c.loop-entry.disk n (back ended)) tt
-          (c.in_ok-write_at-2.ensures.effect ended) (call.ensures.time ended));
-      accounts = accounts_then c.loop-entry.invariant.accounts (accounts_call_ok c.in_ok-write_at-2.ensures.accounts);
-    }
+pub returns-in_err-try_files-clause-tries : goal.returns-in_err-try_files-clause-tries
+returns-in_err-try_files-clause-tries g c ended =
+    let old = c.args.disk.now in
+    let mid = c.write_at.new.self in
+    let new = c.try_files.new.disk in
+    let entries = c.args.entries.now in
+    let back = c.try_files.ensures.accounts.was_honest ended in
+    tries_failed g.D.Disk entries old new c.try_files.result c.from_residual-in_err-try_files.result
+    (tries_then g.D.Disk entries old mid new tt c.try_files.result
+    (one_try g.D.Disk entries c.args.journal.now old mid (λ n. g.met.D.Disk.content_is_image old n (c.write_at.ensures.accounts.was_honest back))
+    (λ n is same. is.apart (same ∙ c.requires)) (Ok tt) (c.in_ok-write_at.ensures.effect back) (c.write_at.ensures.time back))
+    (c.try_files.ensures.tries ended))
+    c.from_residual-in_err-try_files.ensures.0
 
 pub returns-clause-tries : goal.returns-clause-tries
-returns-clause-tries g c ended = tries_looked g.D.Disk c.args.entries.now c.args.disk.now c.loop-entry.disk (c.loop-entry.invariant.looks ended) tt
-
-pub returns-clause-accounts : goal.returns-clause-accounts
-returns-clause-accounts g c = accounts_fine_test c.loop-entry.invariant.accounts
+returns-clause-tries g c ended =
+    let old = c.args.disk.now in
+    let mid = c.write_at.new.self in
+    let then = c.try_files.new.disk in
+    let new = c.try_files-2.new.disk in
+    let entries = c.args.entries.now in
+    let after = c.try_files-2.ensures.accounts.was_honest ended in
+    let back = c.try_files.ensures.accounts.was_honest after in
+    tries_then g.D.Disk entries old then new tt c.try_files-2.result
+    (tries_then g.D.Disk entries old mid then tt (Ok tt)
+    (one_try g.D.Disk entries c.args.journal.now old mid (λ n. g.met.D.Disk.content_is_image old n (c.write_at.ensures.accounts.was_honest back))
+    (λ n is same. is.apart (same ∙ c.requires)) (Ok tt) (c.in_ok-write_at.ensures.effect back) (c.write_at.ensures.time back))
+    (c.in_ok-try_files.ensures.tries after))
+    (c.try_files-2.ensures.tries ended)
