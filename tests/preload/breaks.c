@@ -24,6 +24,8 @@ ssize_t pwrite(int file, const void *bytes, size_t size, off_t from) {
     return fails() ? -1 : REAL(ssize_t (*)(int, const void *, size_t, off_t), "pwrite")(file, bytes, size, from);
 }
 
+int fchmod(int file, mode_t mode) { return fails() ? -1 : REAL(int (*)(int, mode_t), "fchmod")(file, mode); }
+
 int ftruncate(int file, off_t size) { return fails() ? -1 : REAL(int (*)(int, off_t), "ftruncate")(file, size); }
 
 int fsync(int file) { return fails() ? -1 : REAL(int (*)(int), "fsync")(file); }

@@ -10,10 +10,20 @@ use org_disk::{DiskFault, FileName};
 use seen::Seen;
 use std::cell::Cell;
 
+mod access;
 mod seen;
 mod system;
 
 pub use system::SystemCalls;
+
+// A file of the system, as it was found or made.
+#[derive(Drop)]
+struct Found<F> {
+    file: F,
+    // no link led to it, and it wasn't made
+    is_own: bool,
+    seen: Seen,
+}
 
 /// A file that was opened under a name. Its parts are seen by the calls of the system alone, so
 /// that no other code can take the file's entry in the folder for synced.
@@ -26,21 +36,21 @@ pub struct Opened<F> {
     // its entry in the folder is known to be on the device
     is_entered: bool,
     // what the system last said of it
-    seen: Cell<Option<Seen>>,
+    seen: Cell<Seen>,
 }
 
 impl<F: Drop> Opened<F> {
-    fn new(name: &FileName, file: F, is_own: bool) -> Result<Opened<F>, DiskFault>
+    fn new(name: &FileName, found: Found<F>) -> Result<Opened<F>, DiskFault>
         ensures name { IfOk result (λ opened. opened.name ≡ name.now) }
         ensures entry { IfOk result (λ opened. IsFalse opened.is_entered) }
     {
         match name.clone() {
             Ok(name) => Ok(Opened {
                 name,
-                file,
-                is_own,
+                file: found.file,
+                is_own: found.is_own,
                 is_entered: false,
-                seen: Cell::new(None),
+                seen: Cell::new(found.seen),
             }),
             Err(_) => Err(DiskFault),
         }
@@ -115,7 +125,8 @@ pub trait Calls {
         ensures err { OnErr result (history self.new ≡ history self.old) };
 
     /// Writes bytes over a file from `from` on, which is at most its length. A write of no bytes
-    /// changes nothing: it fails where the file can't be written, or isn't as these calls left it.
+    /// changes nothing: it tries the file. It fails where the file can't be written, or where
+    /// another program is seen to have changed or replaced it since these calls looked at it.
     fn write_at(
         &mut self,
         opened: &Opened<Self::File>,

@@ -20,9 +20,10 @@ use std::os::unix::fs::FileExt;
 
 /// The files of a folder, as a disk over the calls of a system. An absent file and an empty one are
 /// the same: a file is made by its first write, and none is ever removed or renamed. A write of no
-/// bytes tries the file. Where a file isn't there, the next call on it doesn't look again. A file stays open
-/// from its first use on; the first sync of a file also puts its entry in the folder on the device.
-/// A call of the system that fails, and want of memory, is a counted failure.
+/// bytes is one too; it fails where the file can't be written, or where another program is seen to
+/// have changed it. Where a file isn't there, the next call on it doesn't look again. A file stays
+/// open from its first use on; the first sync of a file also puts its entry in the folder on the
+/// device. A call of the system that fails, and want of memory, is a counted failure.
 ///
 /// Its files are those that the record of its calls stands for. It is an honest disk as long as
 /// each answer in that record was right, and a wrong one ends it for good; no contract says that a
@@ -33,10 +34,13 @@ pub struct CallsDisk<C: Calls> {
     failures: u64,
 }
 
-/// The files of a folder of the operating system, as a disk. Links are followed, and permissions
-/// stay as they are. A call that a signal interrupted is made again. Files that were found in the
-/// folder itself share one sync of it, which the first sync of one of them makes, until a file is
-/// made.
+/// The files of a folder of the operating system, as a disk. Links are followed. A call that a
+/// signal interrupted is made again. Files that were found in the folder itself share one sync of
+/// it, which the first sync of one of them makes, until a file is made.
+///
+/// Permissions of files that are there stay, but that a journal which others may use is narrowed. A
+/// journal is made for its owner, and for its group where that may write the folder; an archive file
+/// for those whom its Org file is for.
 ///
 /// That each answer in its record was right is a premise: no contract says what a real file gives.
 /// The record stands in proofs alone and takes no memory. `S` says what the files held at first,

@@ -41,6 +41,24 @@ const WRITTEN: &[Step] = &[
     ),
 ];
 
+// A write of no bytes fails where another program has put another file in the place of one, or has
+// changed it since the last look.
+const TRIED: &[Step] = &[
+    Step::Call("a.org", Call::Write(b"* A\n"), Ok(0), 0),
+    Step::Call("a.org", Call::Write(b""), Ok(0), 0),
+    Step::Other("tried/a.org", Entry::Gone),
+    Step::Call("a.org", Call::Write(b""), Err(DiskFault), 1),
+    Step::Other("tried/a.org", Entry::File(b"* A\n")),
+    Step::Call("a.org", Call::Write(b""), Err(DiskFault), 2),
+    Step::Call("b.org", Call::Write(b"* B\n"), Ok(0), 2),
+    Step::Call("b.org", Call::Length, Ok(4), 2),
+    Step::Call("b.org", Call::Write(b""), Ok(0), 2),
+    Step::Other("tried/b.org", Entry::File(b"* BB\n")),
+    Step::Call("b.org", Call::Write(b""), Err(DiskFault), 3),
+    Step::Call("b.org", Call::Length, Ok(5), 3),
+    Step::Call("b.org", Call::Write(b""), Ok(0), 3),
+];
+
 const LINKS: &[(&str, Entry)] = &[
     ("linked/folder.org", Entry::Folder),
     ("linked/link.org", Entry::Link("folder.org/target")),
@@ -113,6 +131,7 @@ const FOLDERS: &[(&str, &[(&str, Entry)], &[Step])] = &[
     ("absent", &[], ABSENT),
     ("asked", &[], ASKED_AGAIN),
     ("written", &[], WRITTEN),
+    ("tried", &[], TRIED),
     ("linked", LINKS, LINKED),
     ("entered", &[], ENTERED),
     ("found", FILES, FOUND),

@@ -1,16 +1,16 @@
-//! What the system says of a file, by which one that another program changed or replaced is told.
+//! What the system said of a file, by which a change that another program makes is noticed.
 use std::fs::Metadata;
 use std::os::unix::fs::MetadataExt;
 
-/// A file's device and number there, and how the last call left it, where that was asked.
+/// Which file it was, and how it was left as far as that was asked.
 #[derive(Clone, Copy)]
-pub struct Seen {
+pub(super) struct Seen {
     device: u64,
     number: u64,
     left: Option<Left>,
 }
 
-// A file's length, and the time of its last change.
+// How a file was left: its length, and the time of its last change.
 #[derive(Clone, Copy)]
 struct Left {
     length: u64,
@@ -19,7 +19,7 @@ struct Left {
 }
 
 impl Seen {
-    pub fn of(metadata: &Metadata) -> Seen {
+    pub(super) fn of(metadata: &Metadata) -> Seen {
         Seen {
             device: metadata.dev(),
             number: metadata.ino(),
@@ -31,8 +31,8 @@ impl Seen {
         }
     }
 
-    // The same file after a write, behind which nothing was asked yet.
-    pub fn written(&self) -> Seen {
+    // The same file after a write of our own, behind which the system wasn't asked again.
+    pub(super) fn written(&self) -> Seen {
         Seen {
             device: self.device,
             number: self.number,
@@ -40,8 +40,8 @@ impl Seen {
         }
     }
 
-    // Whether it is this file, as the last call left it as far as that was asked.
-    pub fn is_still(&self, now: &Seen) -> bool {
+    // Whether this is the same file, left as it was.
+    pub(super) fn is_still(&self, now: &Seen) -> bool {
         let is_left = match (&self.left, &now.left) {
             (Some(left), Some(now)) => {
                 left.length == now.length

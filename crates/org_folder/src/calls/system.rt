@@ -7,17 +7,18 @@ ghost use Rattle.std.specs.Prelude.{◌≡◌, [], ◌∷◌, string_bytes, IfOk
 ghost use Rattle.std.specs.Path.{path_buf_bytes, path_join};
 ghost use Rattle.org_folder.specs.Note.{event_of};
 
+use super::access::{Access, OWNER, is_shared};
 use super::seen::Seen;
-use super::{Calls, Opened};
+use super::{Calls, Found, Opened};
 use crate::absent_names::AbsentNames;
 use crate::record::{Call, Record};
 use crate::start::Start;
 use org_disk::{DiskFault, FileName};
 use std::alloc::{AllocError, Global};
-use std::fs::{File, Files, OpenFile, OpenOptions};
+use std::fs::{File, Files, Metadata, OpenFile, OpenOptions};
 use std::io::{Error, ErrorKind};
 use std::marker::PhantomData;
-use std::os::unix::fs::FileExt;
+use std::os::unix::fs::{FileExt, OpenOptionsExt};
 use std::path::{Path, PathBuf};
 use std::{fs, io};
 
@@ -61,16 +62,29 @@ where
         })
     }
 
-    // The file of a name, and whether it stands in the folder itself, so that no link leads to it.
-    // What is no plain file isn't opened: a pipe would wait for its other end.
-    fn find(&self, name: &FileName) -> io::Result<(R::File, bool)> {
+    // The file of a name. What is no plain file isn't opened: a pipe would wait for its other end.
+    fn find(&self, name: &FileName) -> io::Result<Found<R::File>> {
         let path = self.path_of(name)?;
         let path = path.as_path();
-        let is_own = fs::symlink_metadata(&self.rt, path)?.is_file();
-        if !is_own && !fs::metadata(&self.rt, path)?.is_file() {
+        let entry = fs::symlink_metadata(&self.rt, path)?;
+        let is_own = entry.is_file();
+        let metadata = if is_own {
+            entry
+        } else {
+            fs::metadata(&self.rt, path)?
+        };
+        if !metadata.is_file() {
             return Err(Error::from(ErrorKind::Unsupported));
         }
-        Ok((self.open_file(path)?, is_own))
+        let file = self.open_file(path)?;
+        if is_journal(name) && is_shared(&metadata) {
+            self.access_to_journal()?.limit(&file, &file.metadata()?);
+        }
+        Ok(Found {
+            file,
+            is_own,
+            seen: Seen::of(&metadata),
+        })
     }
 
     // A file that may not be written is opened for reading alone: writes to it fail then.
@@ -82,14 +96,45 @@ where
     }
 
     // A link that leads nowhere is followed: the file is made where it leads.
-    fn find_or_make(&self, name: &FileName) -> io::Result<R::File> {
+    fn find_or_make(&self, name: &FileName) -> io::Result<Found<R::File>> {
         let path = self.path_of(name)?;
-        let file = File::options()
-            .read(true)
-            .write(true)
-            .create(true)
-            .open(&self.rt, path.as_path())?;
-        only_empty(file)
+        let access = self.access_to(name)?;
+        let mut options = File::options();
+        options.read(true).write(true).create(true);
+        if access.is_some() {
+            options.mode(OWNER);
+        }
+        let file = options.open(&self.rt, path.as_path())?;
+        let metadata = file.metadata()?;
+        only_empty(&metadata)?;
+        if let Some(access) = access {
+            access.give(&file, &metadata);
+        }
+        Ok(Found {
+            file,
+            is_own: false,
+            seen: Seen::of(&metadata),
+        })
+    }
+
+    // Who may use a file of this name, once it is made. None leaves that to the user's own setting.
+    fn access_to(&self, name: &FileName) -> io::Result<Option<Access>> {
+        if is_journal(name) {
+            return Ok(Some(self.access_to_journal()?));
+        }
+        let Some(org_file) = name.as_str().strip_suffix("_archive") else {
+            return Ok(None);
+        };
+        let path = Path::new(self.path.as_str()).join(self.rt.alloc(), org_file)?;
+        match fs::metadata(&self.rt, path.as_path()) {
+            Ok(metadata) => Ok(Some(Access::to_archive(&metadata))),
+            Err(_) => Ok(None),
+        }
+    }
+
+    fn access_to_journal(&self) -> io::Result<Access> {
+        let folder = fs::metadata(&self.rt, Path::new(self.path.as_str()))?;
+        Ok(Access::to_journal(&folder))
     }
 
     fn sync_folder_of(&self, name: &FileName) -> io::Result<()> {
@@ -100,14 +145,15 @@ where
         File::open(&self.rt, folder)?.sync_all()
     }
 
-    // A file that may be written, and to which its name leads, as the calls so far left it.
+    // A file that may be written, and to which its name leads; it is as the calls so far left it.
     fn try_file(&self, opened: &Opened<R::File>) -> io::Result<()> {
         opened.file.write_at(&[], 0)?;
         let path = self.path_of(&opened.name)?;
         let now = Seen::of(&fs::metadata(&self.rt, path.as_path())?);
-        match opened.seen.get() {
-            Some(seen) if !seen.is_still(&now) => Err(Error::from(ErrorKind::Other)),
-            _ => Ok(()),
+        if opened.seen.get().is_still(&now) {
+            Ok(())
+        } else {
+            Err(Error::from(ErrorKind::Other))
         }
     }
 
@@ -126,24 +172,23 @@ where
     }
 }
 
+// The journal's is the one name on a disk that no text makes.
+fn is_journal(name: &FileName) -> bool {
+    !FileName::accepts(name.as_str())
+}
+
 // A file that was found absent. One that has bytes by now was made by another name or another
 // program since: it isn't written over.
-fn only_empty<F: OpenFile + Drop>(file: F) -> io::Result<F> {
-    if file.metadata()?.len() > 0 {
+fn only_empty(metadata: &Metadata) -> io::Result<()> {
+    if metadata.len() > 0 {
         return Err(Error::from(ErrorKind::AlreadyExists));
     }
-    Ok(file)
+    Ok(())
 }
 
 fn write_all<F: OpenFile + FileExt>(opened: &Opened<F>, from: u64, bytes: &[u8]) -> io::Result<()> {
     opened.file.write_all_at(bytes, from)?;
-    match opened.seen.get() {
-        Some(seen) => opened.seen.set(Some(seen.written())),
-        // it was made
-        None => {
-            look(opened)?;
-        }
-    }
+    opened.seen.set(opened.seen.get().written());
     Ok(())
 }
 
@@ -156,7 +201,7 @@ fn cut_off<F: OpenFile>(opened: &Opened<F>, to: u64) -> io::Result<()> {
 // The length of a file; what the system says of it is kept for the next try.
 fn look<F: OpenFile>(opened: &Opened<F>) -> io::Result<u64> {
     let metadata = opened.file.metadata()?;
-    opened.seen.set(Some(Seen::of(&metadata)));
+    opened.seen.set(Seen::of(&metadata));
     Ok(metadata.len())
 }
 
@@ -188,7 +233,7 @@ where
             return Ok(None);
         }
         match self.find(name) {
-            Ok((file, is_own)) => Ok(Some(Opened::new(name, file, is_own)?)),
+            Ok(found) => Ok(Some(Opened::new(name, found)?)),
             Err(error) if error.kind() == ErrorKind::NotFound => {
                 self.note(Call::Absent, name, &[]);
                 Ok(None)
@@ -200,8 +245,8 @@ where
     fn make(&mut self, name: &FileName) -> Result<Opened<R::File>, DiskFault> {
         self.is_synced = false;
         self.absent.take(name);
-        let file = answered(self.find_or_make(name))?;
-        Opened::new(name, file, false)
+        let found = answered(self.find_or_make(name))?;
+        Opened::new(name, found)
     }
 
     fn length(&mut self, opened: &Opened<R::File>) -> Result<u64, DiskFault> {
