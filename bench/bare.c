@@ -104,10 +104,9 @@ static void try_file(const char *name, int fd)
         fail("statx");
 }
 
-/* Tries the journal, and the files of a record. */
-static void try_all(const unsigned char *at)
+/* Tries the files of a record. */
+static void try_files(const unsigned char *at)
 {
-    try_file("orgstore.journal", journal);
     for (uint64_t entries = number(&at, 4); entries > 0; entries--) {
         size_t named = number(&at, 2);
         struct file *one = opened(at, named);
@@ -151,12 +150,14 @@ static void commit(void)
         exit(1);
     }
     size_t body = number(&script, 8);
-    try_all(script + HEADER);
+    try_file("orgstore.journal", journal);
+    try_files(script + HEADER);
     put_at(journal, script, body, 1);
     sync_data(journal);
     set_gate(1);
     lay(script + HEADER);
     set_gate(0);
+    try_files(script + HEADER);
     script += body;
     acknowledged = accepted;
 }

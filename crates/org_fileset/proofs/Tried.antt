@@ -6,6 +6,7 @@ use Rattle.std.proofs.lemmas.List.{get_or-take, get_or_append_left, get_or-set_s
 use Rattle.org_disk.specs.declared.disk.Disk.{Ghosts}
 use Rattle.org_disk.specs.declared.disk.DiskFault.{DiskFault}
 use Rattle.org_disk.specs.Accounts.{LooksOver, PassesOver}
+use Rattle.org_disk.specs.Names.{journal_name}
 use Rattle.org_disk.specs.Disk.{FileState, IsImage, IsOutside, IsStable, AreImages, AreLeftBy, Changes, MayLeave, write}
 use Rattle.org_disk.proofs.Accounting.{looks_none, looks_then}
 use Rattle.org_disk.proofs.Images.{only_image}
@@ -13,11 +14,13 @@ use Rattle.org_disk.proofs.Moments.{Image, leaves_only, passes_as, passes_then}
 use Rattle.org_disk.proofs.Names.{name_cases}
 use Rattle.org_disk.proofs.Ranges.{nothing_written}
 use Rattle.org_journal.specs.declared.record.Entry.{Entry}
-use Rattle.org_journal.specs.Recovered.{contents, replayed}
-use Rattle.org_fileset.specs.Replay.{CommitsEntriesOver, IsAtRest, IsBeforeOrAfter, IsCommitted}
+use Rattle.org_journal.specs.Gate.{is_open}
+use Rattle.org_journal.specs.Recovered.{RecoversTo, SameFiles, contents, replayed}
+use Rattle.org_fileset.specs.Replay.{CommitsEntriesOver, IsAtRest, IsBeforeOrAfter, IsClosedOver, IsCommitted}
 use Rattle.org_fileset.specs.Writes.{IsUnwritten, TriesOver}
 use Rattle.org_fileset.proofs.Armed.{on_ok_never}
-use Rattle.org_fileset.proofs.Commits.{at_rest_recovers}
+use Rattle.org_fileset.proofs.Commits.{at_rest_recovers, shut}
+use Rattle.org_fileset.proofs.Recovers.{recovers_closed}
 use Rattle.org_fileset.proofs.Writes.{alone_looks, alone_then}
 
 -- A stable file of which a crash leaves no more than before is stable: of a file whose call failed
@@ -166,6 +169,12 @@ module _ {D : Type 0} (g : Ghosts D) (entries : List Entry) where
 
 -- The commit whose files were tried
 
+-- a disk at rest recovers to the files that were made on it
+made_recovers : (files : List ℕ → FileState) → IsAtRest files → {after : Image} → SameFiles (contents files) after → (image : Image) → AreImages files image → RecoversTo after image
+made_recovers files rest {after} made image left =
+    let same : (name : List ℕ) → image name ≡ contents files name = λ name. only_image (rest.stable name) (image name) (left name) in
+    recovers_closed after image (ap is_open (same journal_name) ∙ shut (contents files journal_name) rest.gate.closed) (λ name not. same name ∙ made name not)
+
 module _ {D : Type 0} (g : Ghosts D) (entries : List Entry) (old : D) (only_now : (image : Image) → g.left_since old (g.instant old) image → AreImages (g.files old) image) where
   -- a try failed: nothing was done
   pub commits_failed : (new : D) (answer : Result (Unit {0}) DiskFault) → TriesOver g entries old new answer → ((n : List ℕ) → IsImage (g.files new n) (g.files new n).content)
@@ -195,4 +204,31 @@ module _ {D : Type 0} (g : Ghosts D) (entries : List Entry) (old : D) (only_now 
       alone = alone_then g (IsUnwritten entries) old mid new (alone_looks g (IsUnwritten entries) old mid looks) commits.commits.alone;
     };
     closed = commits.closed;
+  }
+
+  -- the commit failed, and so does the call that made it
+  pub commits_err : (new : D) (answer result : Result (Unit {0}) DiskFault) → CommitsEntriesOver g entries old new answer → IsErr result → CommitsEntriesOver g entries old new result
+  commits_err new answer result commits failed = record {
+    commits = record {
+      done = on_ok_never _ result failed;
+      any_moment = commits.commits.any_moment;
+      recoverable = commits.commits.recoverable;
+      alone = commits.commits.alone;
+    };
+    closed = on_ok_never _ result failed;
+  }
+
+  -- all was done, and the files were tried again
+  pub commits_tried : (mid new : D) (done : Unit {0}) (result : Result (Unit {0}) DiskFault) → CommitsEntriesOver g entries old mid (Ok done) → TriesOver g entries mid new result
+      → ((n : List ℕ) → IsImage (g.files new n) (g.files new n).content) → CommitsEntriesOver g entries old new result
+  commits_tried mid new done result first tries own = record {
+    commits = record {
+      done = on_ok_weaker result (λ looks. subst (λ (f : List ℕ → FileState). IsCommitted (replayed entries (contents (g.files old))) (g.files old) f) (sym looks.same) first.commits.done) tries.ok;
+      any_moment = λ rest. leaves_only (passes_then (first.commits.any_moment rest).passes tries.time
+          (λ image left. inr (made_recovers (g.files mid) (first.commits.done.rest rest) first.commits.done.made image left)))
+          (λ image left. inl (at_rest_recovers (g.files old) rest image (only_now image left)));
+      recoverable = λ rest. inl (λ n not. still_stable (g.files mid n) (g.files new n) ((first.commits.done.rest rest).stable n) (own n) (tries.images n));
+      alone = alone_then g (IsUnwritten entries) old mid new first.commits.alone (record { same = tries.others; time = passes_as tries.time (λ image left n this. left n) });
+    };
+    closed = on_ok_weaker result (λ looks. subst (λ (f : List ℕ → FileState). IsClosedOver entries f) (sym looks.same) first.closed) tries.ok;
   }

@@ -1,8 +1,8 @@
 //! A record made to count: written to the journal, applied to its files, and done with.
 //!
-//! The order is that of FORMATS: tries, record, sync, gate, sync, files, syncs, gate, sync. What a
-//! commit has to do it does for any entries that fit their files; that they are changes of a set is
-//! `set`'s matter.
+//! The order is that of FORMATS: tries, record, sync, gate, sync, files, syncs, gate, sync, tries.
+//! What a commit has to do it does for any entries that fit their files; that they are changes of a
+//! set is `set`'s matter.
 ghost use Rattle.std.specs.Prelude.{◌≡◌, List, IsErr};
 ghost use Rattle.org_disk.specs.Accounts.{Accounts};
 ghost use Rattle.org_disk.specs.Names.{journal_name};
@@ -12,7 +12,7 @@ ghost use Rattle.org_journal.specs.declared.record.Entry.{Entry};
 ghost use Rattle.org_fileset.specs.Replay.{AreApplicableTo, CommitsEntriesOver, IsOpenOver, ReplaysOver, WritesRecord};
 
 use crate::apply::{apply_all, sync_all};
-use crate::trying::try_all;
+use crate::trying::{try_all, try_files};
 use org_disk::{Disk, DiskFault, FileName};
 use org_journal::{Entry, arm, close_gate, open_gate};
 
@@ -74,7 +74,8 @@ fn write_and_replay<D: Disk>(
 /// the record stays.
 ///
 /// Before anything is written, the journal and the files are tried: where one can't be written, the
-/// gate stays closed.
+/// gate stays closed. Once all is done the files are tried again: where another program replaced
+/// one meanwhile, its change went astray, and isn't reported as done.
 ///
 /// # Errors
 ///
@@ -94,5 +95,6 @@ pub fn commit_entries<D: Disk>(
     ensures accounts { Accounts D.Disk disk.old disk.new (IsErr result) }
 {
     try_all(disk, journal, entries)?;
-    write_and_replay(disk, journal, entries, body)
+    write_and_replay(disk, journal, entries, body)?;
+    try_files(disk, entries)
 }

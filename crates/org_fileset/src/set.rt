@@ -138,7 +138,8 @@ impl<D: Disk> FileSet<D> {
     /// is so of an honest disk alone.
     ///
     /// Before anything is written, the journal and the changed files are tried by writes of no
-    /// bytes. Where one of these fails, each file is as it was, and the gate stays closed.
+    /// bytes. Where one of these fails, each file is as it was, and the gate stays closed. When all
+    /// is done the files are tried once more.
     ///
     /// Where all is on the disk when the call begins, then at every moment since what a crash
     /// leaves recovers to all files as they were, or to all files with the changed texts; after Ok

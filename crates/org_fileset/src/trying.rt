@@ -1,4 +1,4 @@
-//! The journal and the files of a record, tried before anything is written.
+//! The journal and the files of a record, tried: before anything is written, and once it is done.
 //!
 //! A try is a write of no bytes: it changes nothing, and it fails where the disk can tell that a
 //! write would fail, or would go astray.
@@ -13,9 +13,6 @@ use org_journal::Entry;
 /// Tries the journal and the files of a record. After Ok all is as it was. After a failure each
 /// file that was on the disk is on it still, as it was.
 ///
-/// Files of which the record holds the whole text are tried last. A file that isn't there is one of
-/// them, and a folder makes it by its try: so none is made before the others were tried.
-///
 /// # Errors
 ///
 /// `DiskFault`: a call of the disk failed.
@@ -29,12 +26,26 @@ pub fn try_all<D: Disk>(
     ensures accounts { Accounts D.Disk disk.old disk.new (IsErr result) }
 {
     disk.write_at(journal, 0, &[])?;
-    try_files(disk, entries, false)?;
-    try_files(disk, entries, true)
+    try_files(disk, entries)
+}
+
+/// Tries the files of a record, likewise. Those of which the record holds the whole text are tried
+/// last. A file that isn't there is one of them, and a folder makes it by its try: so none is made
+/// before the others were tried.
+///
+/// # Errors
+///
+/// `DiskFault`: a call of the disk failed.
+pub fn try_files<D: Disk>(disk: &mut D, entries: &[Entry]) -> Result<(), DiskFault>
+    ensures tries { D.honest disk.new → TriesOver D.Disk entries.now disk.old disk.new result }
+    ensures accounts { Accounts D.Disk disk.old disk.new (IsErr result) }
+{
+    try_those(disk, entries, false)?;
+    try_those(disk, entries, true)
 }
 
 // Tries the files of which the record holds the whole text, or the others.
-fn try_files<D: Disk>(disk: &mut D, entries: &[Entry], are_whole: bool) -> Result<(), DiskFault>
+fn try_those<D: Disk>(disk: &mut D, entries: &[Entry], are_whole: bool) -> Result<(), DiskFault>
     ensures tries { D.honest disk.new → TriesOver D.Disk entries.now disk.old disk.new result }
     ensures accounts { Accounts D.Disk disk.old disk.new (IsErr result) }
 {

@@ -206,8 +206,8 @@ fn is_gate_open(is_write: bool, outcome: Outcome) -> bool {
     }
 }
 
-// The calls of a commit of both files, counted from 1: three tries, of the journal and of both; the
-// body and its sync; the gate and its sync.
+// The first calls of a commit of both files, counted from 1: three tries, of the journal and of
+// both; the body and its sync; the gate and its sync.
 const TRIES: u64 = 3;
 
 const BODY: u64 = 4;

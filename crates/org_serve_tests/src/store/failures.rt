@@ -65,22 +65,22 @@ fn fail_at(rt: &(impl Abort + AllocGlobal), call: u64, is_accepted: bool) {
 
 const DONE: &[Row] = &[(Ask::Capture("a.org", "* B"), Answer::Done(1), 1, 1)];
 
-// A capture makes 13 calls, so it goes well where the next one fails.
+// A capture makes 14 calls, so it goes well where the next one fails.
 fn go_well(rt: &(impl Abort + AllocGlobal)) {
-    let mut store = failing(rt, 14);
+    let mut store = failing(rt, 15);
     ask_each(rt, &mut store, DONE);
     let disk = store.into_disk();
     let calls = disk.calls();
     drop(disk);
-    assert!(rt; calls == calls_of_opening(rt).saturating_add(13));
+    assert!(rt; calls == calls_of_opening(rt).saturating_add(14));
 }
 
 // A capture reads a length and a text, and tries the journal and its file; then it writes the
 // record, opens the gate, writes the file, asks for its length, and closes the gate, with a sync
-// behind each of the four writes.
+// behind each of the four writes, and tries the file again.
 #[test]
 fn a_failing_device(rt: HostRuntime) {
-    for call in 1..14u64 {
+    for call in 1..15u64 {
         fail_at(&rt, call, call > 2);
     }
     go_well(&rt);

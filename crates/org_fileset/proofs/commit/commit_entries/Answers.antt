@@ -1,11 +1,11 @@
-use Rattle.std.proofs.Common.{ℕ, List, sym, subst}
+use Rattle.std.proofs.Common.{ℕ, List, Ok, sym, subst}
 use Rattle.org_disk.specs.Disk.{FileState}
 use Rattle.org_disk.specs.Names.{journal_name}
 use Rattle.org_disk.proofs.Accounting.{accounts_then, accounts_ok}
 use Rattle.org_journal.proofs.Accounted.{accounts_failed}
 use Rattle.org_journal.specs.Gate.{HasClosedGate}
 use Rattle.org_fileset.specs.Replay.{AreApplicableTo}
-use Rattle.org_fileset.proofs.Tried.{commits_failed, commits_after}
+use Rattle.org_fileset.proofs.Tried.{commits_failed, commits_after, commits_err, commits_tried}
 use Rattle.org_fileset.proofs.commit.commit_entries.Goals as goal
 
 pub returns-in_err-try_all-clause-commits : goal.returns-in_err-try_all-clause-commits
@@ -25,15 +25,32 @@ write_and_replay-requires-clause-gate g c ended =
     let looks = (c.in_ok-try_all.ensures.tries ended).ok in
     subst (λ (f : List ℕ → FileState). HasClosedGate (f journal_name)) (sym looks.same) (c.requires.gate (c.try_all.ensures.accounts.was_honest ended))
 
-pub returns-clause-commits : goal.returns-clause-commits
-returns-clause-commits g c ended =
+pub returns-in_err-write_and_replay-clause-commits : goal.returns-in_err-write_and_replay-clause-commits
+returns-in_err-write_and_replay-clause-commits g c ended =
     let mid = c.write_and_replay.ensures.accounts.was_honest ended in
     let honest = c.try_all.ensures.accounts.was_honest mid in
-    commits_after g.D.Disk c.args.entries.now c.args.disk.now (λ image left. g.met.D.Disk.only_now c.args.disk.now image honest left)
-    c.try_all.new.disk c.write_and_replay.new.disk (c.in_ok-try_all.ensures.tries mid).ok c.write_and_replay.result (c.write_and_replay.ensures.commits ended)
+    commits_err g.D.Disk c.args.entries.now c.args.disk.now (λ image left. g.met.D.Disk.only_now c.args.disk.now image honest left) c.write_and_replay.new.disk c.write_and_replay.result c.from_residual-in_err-write_and_replay.result
+    (commits_after g.D.Disk c.args.entries.now c.args.disk.now (λ image left. g.met.D.Disk.only_now c.args.disk.now image honest left) c.try_all.new.disk c.write_and_replay.new.disk (c.in_ok-try_all.ensures.tries mid).ok
+    c.write_and_replay.result (c.write_and_replay.ensures.commits ended))
+    c.from_residual-in_err-write_and_replay.ensures.0
+
+pub returns-clause-commits : goal.returns-clause-commits
+returns-clause-commits g c ended =
+    let then = c.try_files.ensures.accounts.was_honest ended in
+    let mid = c.write_and_replay.ensures.accounts.was_honest then in
+    let honest = c.try_all.ensures.accounts.was_honest mid in
+    commits_tried g.D.Disk c.args.entries.now c.args.disk.now (λ image left. g.met.D.Disk.only_now c.args.disk.now image honest left) c.write_and_replay.new.disk c.try_files.new.disk tt c.try_files.result
+    (commits_after g.D.Disk c.args.entries.now c.args.disk.now (λ image left. g.met.D.Disk.only_now c.args.disk.now image honest left) c.try_all.new.disk c.write_and_replay.new.disk (c.in_ok-try_all.ensures.tries mid).ok
+    (Ok tt) (c.in_ok-write_and_replay.ensures.commits then))
+    (c.try_files.ensures.tries ended) (λ n. g.met.D.Disk.content_is_image c.try_files.new.disk n ended)
 
 pub returns-in_err-try_all-clause-accounts : goal.returns-in_err-try_all-clause-accounts
 returns-in_err-try_all-clause-accounts g c = accounts_failed c.from_residual.ensures.0 c.in_err-try_all.ensures.accounts
 
+pub returns-in_err-write_and_replay-clause-accounts : goal.returns-in_err-write_and_replay-clause-accounts
+returns-in_err-write_and_replay-clause-accounts g c =
+    accounts_then (accounts_ok c.in_ok-try_all.ensures.accounts) (accounts_failed c.from_residual-in_err-write_and_replay.ensures.0 c.in_err-write_and_replay.ensures.accounts)
+
 pub returns-clause-accounts : goal.returns-clause-accounts
-returns-clause-accounts g c = accounts_then (accounts_ok c.in_ok-try_all.ensures.accounts) c.write_and_replay.ensures.accounts
+returns-clause-accounts g c =
+    accounts_then (accounts_ok c.in_ok-try_all.ensures.accounts) (accounts_then (accounts_ok c.in_ok-write_and_replay.ensures.accounts) c.try_files.ensures.accounts)

@@ -11,32 +11,13 @@ returns-in_err-write_at-clause-tries g c ended =
     (λ n is same. is.apart (same ∙ c.requires)) c.write_at.result (c.write_at.ensures.effect ended) (c.write_at.ensures.time ended))
     c.from_residual.ensures.0
 
-pub returns-in_err-try_files-clause-tries : goal.returns-in_err-try_files-clause-tries
-returns-in_err-try_files-clause-tries g c ended =
-    let old = c.args.disk.now in
-    let mid = c.write_at.new.self in
-    let new = c.try_files.new.disk in
-    let entries = c.args.entries.now in
-    let back = c.try_files.ensures.accounts.was_honest ended in
-    tries_failed g.D.Disk entries old new c.try_files.result c.from_residual-in_err-try_files.result
-    (tries_then g.D.Disk entries old mid new tt c.try_files.result
-    (one_try g.D.Disk entries c.args.journal.now old mid (λ n. g.met.D.Disk.content_is_image old n (c.write_at.ensures.accounts.was_honest back))
-    (λ n is same. is.apart (same ∙ c.requires)) (Ok tt) (c.in_ok-write_at.ensures.effect back) (c.write_at.ensures.time back))
-    (c.try_files.ensures.tries ended))
-    c.from_residual-in_err-try_files.ensures.0
-
 pub returns-clause-tries : goal.returns-clause-tries
 returns-clause-tries g c ended =
     let old = c.args.disk.now in
     let mid = c.write_at.new.self in
-    let then = c.try_files.new.disk in
-    let new = c.try_files-2.new.disk in
     let entries = c.args.entries.now in
-    let after = c.try_files-2.ensures.accounts.was_honest ended in
-    let back = c.try_files.ensures.accounts.was_honest after in
-    tries_then g.D.Disk entries old then new tt c.try_files-2.result
-    (tries_then g.D.Disk entries old mid then tt (Ok tt)
+    let back = c.try_files.ensures.accounts.was_honest ended in
+    tries_then g.D.Disk entries old mid c.try_files.new.disk tt c.try_files.result
     (one_try g.D.Disk entries c.args.journal.now old mid (λ n. g.met.D.Disk.content_is_image old n (c.write_at.ensures.accounts.was_honest back))
     (λ n is same. is.apart (same ∙ c.requires)) (Ok tt) (c.in_ok-write_at.ensures.effect back) (c.write_at.ensures.time back))
-    (c.in_ok-try_files.ensures.tries after))
-    (c.try_files-2.ensures.tries ended)
+    (c.try_files.ensures.tries ended)

@@ -1,7 +1,7 @@
 use Rattle.std.proofs.Common.{Ok}
 use Rattle.org_disk.specs.Accounts.{Accounts}
 use Rattle.org_fileset.specs.Writes.{TriesOver}
-use Rattle.org_fileset.proofs.trying.try_files.Given as goal
+use Rattle.org_fileset.proofs.trying.try_those.Given as goal
 
 -- no try has failed
 abbrev pub invariant-loop-entry : goal.invariant-loop-entry
