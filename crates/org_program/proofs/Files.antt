@@ -1,21 +1,20 @@
 -- Names of a store that share a file.
-use Rattle.std.proofs.Common.{◌≡◌, ℕ, List, ◌∷◌, ◌++◌, None, Result, Ok, Err, IfErr}
-use Rattle.std.specs.Prelude.{IsTrue}
-use Rattle.std.specs.List.{All}
-use Rattle.org_disk.specs.Names.{journal_name, IsOrgFile}
+use Rattle.std.proofs.Common.{ℕ, List, ◌∷◌, ◌++◌, Result, Ok, Err, IfErr}
+use Rattle.org_disk.specs.Names.{journal_name}
 use Rattle.org_fileset.specs.Names.{with_archives, AreSorted, AreFew}
 use Rattle.org_folder.specs.Apart.{MayReport}
 use Rattle.org_folder.specs.declared.apart.AliasFault.{AliasFault}
 use Rattle.org_folder.specs.declared.apart.AliasFault.TheVariants as apart
-use Rattle.org_outline.specs.States.{Keywords, are_states}
-use Rattle.org_program.specs.Causes.{first_bad, sharing, IsCause, MayShare}
+use Rattle.org_program.specs.Causes.{sharing, IsCause, MayShare, NameAStore}
+use Rattle.org_program.specs.Lists.{names_in, AreListed}
+use Rattle.org_program.specs.declared.arguments.Arguments.{Arguments}
 
 -- a store's name that shares a file is told behind the words
-pub shared : (new listed : List (List ℕ)) (states : Keywords) (fault : AliasFault) → first_bad new ≡ None → IsTrue (are_states states) → All IsOrgFile listed
-    → MayShare (new ++ listed) fault → IsCause new states (sharing fault)
-shared new listed states (apart.SameFile name) good accepted org may = (good, accepted, (listed, org, may))
-shared new listed states apart.Device good accepted org may = (good, accepted)
-shared new listed states apart.OutOfMemory good accepted org may = tt
+pub shared : (arguments : Arguments) (listed : List (List ℕ)) (fault : AliasFault) → NameAStore arguments → AreListed arguments listed
+    → MayShare (names_in arguments ++ listed) fault → IsCause arguments (sharing fault)
+shared arguments listed (apart.SameFile name) good are may = (good, (listed, are, may))
+shared arguments listed apart.Device good are may = good
+shared arguments listed apart.OutOfMemory good are may = tt
 
 -- a name that is told of the files is one of the store's
 pub may_share : {T : Type 0} (names files : List (List ℕ)) → AreFew names → AreSorted (journal_name ∷ with_archives names) files → (result : Result T AliasFault) → IfErr result (MayReport files)

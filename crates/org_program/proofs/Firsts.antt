@@ -45,3 +45,21 @@ module _ {S X : Type 0} (f : S → X) where
   mapped_more i ss s xs x within is so_far more =
       ap (λ l. l ++ x ∷ []) so_far ∙ ap (λ y. map f (take i ss) ++ y ∷ []) (more ∙ ap f is)
       ∙ sym (map-append f (take i ss) (get_or ss i s ∷ [])) ∙ ap (map f) (sym (take_more ss i s within))
+
+-- of two lists, one behind the other
+module _ {X : Type 0} (test : X → Bool) where
+  -- the first of the front is the first of all
+  pub first_of_front : (xs ys : List X) (found : X) → find test xs ≡ Some found → find test (xs ++ ys) ≡ Some found
+  first_of_front [] ys found at = absurd (none-some found at)
+  first_of_front (x ∷ xs) ys found at = go (test x) (first_of_front xs ys found) at
+    where
+      go : (b : Bool) → (find test xs ≡ Some found → find test (xs ++ ys) ≡ Some found) → cond b (Some x) (find test xs) ≡ Some found → cond b (Some x) (find test (xs ++ ys)) ≡ Some found
+      go true later at = at
+      go false later at = later at
+
+  -- behind a front that has none, the first is that of the others
+  pub first_behind : (xs ys : List X) → find test xs ≡ None → find test (xs ++ ys) ≡ find test ys
+  first_behind [] ys none = refl
+  first_behind (x ∷ xs) ys none =
+      let front = past (test x) x (find test xs) none in
+      ap (λ b. cond b (Some x) (find test (xs ++ ys))) front.0 ∙ first_behind xs ys front.1

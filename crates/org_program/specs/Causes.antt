@@ -1,7 +1,7 @@
 -- Where each fault of the program comes from.
 use Rattle.std.specs.Prelude.{◌≡◌, ℕ, List, ◌∷◌, ◌++◌, drop, Option, Some, None, Result, Ok, Err, IsTrue, IsFalse, find, not, string_bytes}
-use Rattle.std.specs.List.{All, Contains}
-use Rattle.org_disk.specs.Names.{journal_name, IsOrgFile}
+use Rattle.std.specs.List.{Contains}
+use Rattle.org_disk.specs.Names.{journal_name}
 use Rattle.org_fileset.specs.declared.open.OpenFault.{OpenFault}
 use Rattle.org_fileset.specs.declared.open.OpenFault.TheVariants as refused
 use Rattle.org_fileset.specs.Names.{with_archives, AreSorted, AreFew}
@@ -12,13 +12,15 @@ use Rattle.org_folder.specs.declared.list.ListFault.{ListFault}
 use Rattle.org_folder.specs.declared.list.ListFault.TheVariants as list
 use Rattle.org_folder.specs.declared.lock.LockFault.{LockFault}
 use Rattle.org_folder.specs.declared.lock.LockFault.TheVariants as lock
-use Rattle.org_outline.specs.States.{Keywords, are_states}
+use Rattle.org_outline.specs.States.{are_states}
 use Rattle.org_outline.specs.declared.states.StatesFault.{StatesFault}
 use Rattle.org_outline.specs.declared.states.StatesFault.TheVariants as states
 use Rattle.org_serve.specs.declared.end.ServeEnd.{ServeEnd}
 use Rattle.org_serve.specs.declared.end.ServeEnd.TheVariants.{End, Unsettled, Device, Read, Write}
+use Rattle.org_program.specs.declared.arguments.Arguments.{Arguments}
 use Rattle.org_program.specs.declared.fault.Fault.{Fault}
-use Rattle.org_program.specs.declared.fault.Fault.TheVariants.{Usage, BadName, BadStates, Locked, SameFile, Open, Ended}
+use Rattle.org_program.specs.declared.fault.Fault.TheVariants.{BadName, BadStates, Locked, SameFile, Open, Ended}
+use Rattle.org_program.specs.Lists.{names_in, states_in, AreListed}
 
 -- what the program reports of how serving ended: nothing only where the input was served to its
 -- end, and all is settled
@@ -55,11 +57,11 @@ stating states.OutOfMemory = Open refused.OutOfMemory
 abbrev pub first_bad : List (List ℕ) → Option (List ℕ)
 first_bad names = find (λ name. not (is_org_file name)) names
 
--- why new names aren't a store's: the first bad one, or else want of memory
+-- why names aren't a store's: the first bad one, or else want of memory
 abbrev pub IsCauseOfNames : List (List ℕ) → Fault → Type 0
-IsCauseOfNames new (BadName name) = first_bad new ≡ Some (string_bytes name)
-IsCauseOfNames new (Open refused.OutOfMemory) = Unit {0}
-IsCauseOfNames new fault = ⊥
+IsCauseOfNames names (BadName name) = first_bad names ≡ Some (string_bytes name)
+IsCauseOfNames names (Open refused.OutOfMemory) = Unit {0}
+IsCauseOfNames names fault = ⊥
 
 -- A name that may be reported to share a file in a store with these names, which are few: behind
 -- the first one, in byte order, of theirs, their archive files' and the journal's.
@@ -75,15 +77,22 @@ MayShare names (apart.SameFile name) = MayBeShared names name
 MayShare names apart.Device = AreFew names
 MayShare names apart.OutOfMemory = Unit {0}
 
--- Why new names and states aren't a store's, or its folder can't be had beside them. What comes
--- first in this order is reported: the first bad name, bad states, a folder on which another store
--- is open, the rest of the folder. Want of memory may take the place of each.
-abbrev pub IsCause : List (List ℕ) → Keywords → Fault → Type 0
-IsCause new states (BadName name) = first_bad new ≡ Some (string_bytes name)
-IsCause new states BadStates = (first_bad new ≡ None) × IsFalse (are_states states)
-IsCause new states Locked = (first_bad new ≡ None) × IsTrue (are_states states)
-IsCause new states (Open refused.Device) = (first_bad new ≡ None) × IsTrue (are_states states)
-IsCause new states (SameFile name) = (first_bad new ≡ None) × IsTrue (are_states states)
-    × ((listed : List (List ℕ)) × All IsOrgFile listed × MayBeShared (new ++ listed) name)
-IsCause new states (Open refused.OutOfMemory) = Unit {0}
-IsCause new states fault = ⊥
+-- the names and the states of the arguments are a store's
+abbrev pub NameAStore : Arguments → Type 0
+NameAStore arguments =
+    (first_bad (names_in arguments) ≡ None) × IsTrue (are_states (states_in arguments))
+
+-- Why the names and states of the arguments aren't a store's, or its folder can't be had beside
+-- them. What comes first in this order is reported: the first bad name, bad states, a folder on
+-- which another store is open, the rest of the folder. Want of memory may take the place of each.
+abbrev pub IsCause : Arguments → Fault → Type 0
+IsCause arguments (BadName name) = first_bad (names_in arguments) ≡ Some (string_bytes name)
+IsCause arguments BadStates =
+    (first_bad (names_in arguments) ≡ None) × IsFalse (are_states (states_in arguments))
+IsCause arguments Locked = NameAStore arguments
+IsCause arguments (Open refused.Device) = NameAStore arguments
+IsCause arguments (SameFile name) = NameAStore arguments
+    × ((listed : List (List ℕ)) × AreListed arguments listed
+    × MayBeShared (names_in arguments ++ listed) name)
+IsCause arguments (Open refused.OutOfMemory) = Unit {0}
+IsCause arguments fault = ⊥

@@ -1,9 +1,8 @@
 -- Why a run of the program doesn't come to serve any line.
-use Rattle.std.specs.Prelude.{◌⊎◌, ℕ, List, map, string_bytes}
+use Rattle.std.specs.Prelude.{◌⊎◌, ℕ, List}
 use Rattle.org_program.specs.declared.arguments.Arguments.{Arguments}
 use Rattle.org_program.specs.declared.fault.Fault.{Fault}
 use Rattle.org_program.specs.Causes.{IsCause}
-use Rattle.org_program.specs.Lists.{states_in}
 use Rattle.org_program.specs.Words.{AreTaken, IsFaultBy, Say}
 
 -- of words that are taken: why their names and states aren't a store's, or its folder can't be had
@@ -11,7 +10,7 @@ use Rattle.org_program.specs.Words.{AreTaken, IsFaultBy, Say}
 pub record IsFaultOfStart (words : List (List ℕ)) (fault : Fault) : Type 0 where
   pub arguments : Arguments
   pub said : Say words arguments
-  pub cause : IsCause (map string_bytes arguments.new.items) (states_in arguments) fault
+  pub cause : IsCause arguments fault
 
 -- why words aren't taken, or a store isn't set up by them
 abbrev pub IsFaultOfRun : List (List ℕ) → Fault → Type 0

@@ -1,7 +1,7 @@
 pub mod Statuses
-pub mod Causes
 pub mod Folder
 pub mod Words
 pub mod Lists
+pub mod Causes
 pub mod Faults
 pub mod Runs

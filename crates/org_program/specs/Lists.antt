@@ -1,6 +1,7 @@
--- The states that two lists name.
-use Rattle.std.specs.Prelude.{ℕ, List, ◌==◌, string_bytes}
+-- The names and the states that the arguments list.
+use Rattle.std.specs.Prelude.{◌≡◌, ◌≢◌, ℕ, List, [], ◌++◌, ◌==◌, map, string_bytes, All}
 use Rattle.std.specs.List.{slice_split}
+use Rattle.org_disk.specs.Names.{IsOrgFile}
 use Rattle.org_outline.specs.States.{Keywords}
 use Rattle.org_program.specs.declared.arguments.Arguments.{Arguments}
 
@@ -15,3 +16,13 @@ states_of todo done = record { active = between_commas todo; done = between_comm
 -- the states that a store is to have
 abbrev pub states_in : Arguments → Keywords
 states_in arguments = states_of (string_bytes arguments.todo) (string_bytes arguments.done)
+
+-- the names that are given: those of `--new`, and then those of `--only`
+abbrev pub names_in : Arguments → List (List ℕ)
+names_in arguments = map string_bytes arguments.new.items ++ map string_bytes arguments.only.items
+
+-- The names that the folder's list adds to them: those of Org files, or none where `--only` is
+-- given.
+pub record AreListed (arguments : Arguments) (listed : List (List ℕ)) : Type 0 where
+  pub org_files : All IsOrgFile listed
+  pub only : arguments.only.items ≢ [] → listed ≡ []

@@ -1,7 +1,6 @@
 -- A run of the program over the folder that its arguments name. `world` is what the folder held at
 -- first, and what calls that failed left.
-use Rattle.std.specs.Prelude.{◌≡◌, ℕ, List, [], ◌++◌, map, string_bytes, All, Result}
-use Rattle.org_disk.specs.Names.{IsOrgFile}
+use Rattle.std.specs.Prelude.{◌≡◌, ℕ, List, [], ◌++◌, string_bytes, Result}
 use Rattle.org_fileset.specs.declared.open.OpenFault.{OpenFault}
 use Rattle.org_folder.specs.Calls.{World}
 use Rattle.org_folder.specs.FolderDisk.{path_of, record_of}
@@ -16,18 +15,18 @@ use Rattle.org_program.specs.declared.arguments.Arguments.{Arguments}
 use Rattle.org_program.specs.declared.fault.Fault.{Fault}
 use Rattle.org_program.specs.Causes.{reported}
 use Rattle.org_program.specs.Folder.{seen_of}
-use Rattle.org_program.specs.Lists.{states_in}
+use Rattle.org_program.specs.Lists.{names_in, states_in, AreListed}
 
 -- the most reads of an input
 abbrev pub turns : ℕ
 turns = 4294967295
 
--- A store is set up as the arguments say: its names are the new ones and those that were listed of
--- the folder.
+-- A store is set up as the arguments say: its names are those given and, where `--only` isn't, those
+-- that were listed of the folder.
 pub record IsSetUp (arguments : Arguments) (setup : Setup) : Type 0 where
   pub listed : List (List ℕ)
-  pub org_files : All IsOrgFile listed
-  pub names : setup.names.items ≡ map string_bytes arguments.new.items ++ listed
+  pub are_listed : AreListed arguments listed
+  pub names : setup.names.items ≡ names_in arguments ++ listed
   pub states : setup.states ≡ states_in arguments
   pub group : setup.group ≡ arguments.group
 

@@ -3,23 +3,23 @@ use Rattle.std.specs.Prelude.{◌≡◌, ℕ, List, [], ◌∷◌, Some, true, m
 use Rattle.std.specs.Str.Parse.{IsNumeral, digits_value}
 use Rattle.clap.specs.Words.{App, Rule, Row, new_app, new_rule, with_rule, matches_of, first_of, all_of, fault_of}
 use Rattle.clap.specs.declared.builder.action.ArgAction.TheVariants.{Append}
-use Rattle.org_fileset.specs.declared.open.OpenFault.TheVariants.{OutOfMemory, Device, TooManyFiles, BadJournal, TooLarge}
+use Rattle.org_fileset.specs.declared.open.OpenFault.TheVariants.{OutOfMemory}
 use Rattle.org_store.specs.Group.{IsGroupSize}
 use Rattle.org_program.specs.declared.arguments.Arguments.{Arguments}
 use Rattle.org_program.specs.declared.fault.Fault.{Fault}
-use Rattle.org_program.specs.declared.fault.Fault.TheVariants.{Usage, BadName, BadStates, Locked, SameFile, Open, Ended}
+use Rattle.org_program.specs.declared.fault.Fault.TheVariants.{Usage, Open}
 
--- The command line, as clap has it: a folder, which has to be there; any number of `--new NAME`;
--- and, at most once each, `--todo LIST`, `--done LIST` and `--group K`, which are TODO, DONE and 1
--- where they aren't there.
+-- The command line, as clap has it: a folder, which has to be there; any number of `--new NAME` and
+-- of `--only NAME`; and, at most once each, `--todo LIST`, `--done LIST` and `--group K`, which are
+-- TODO, DONE and 1 where they aren't there.
 
 abbrev pub folder_argument : Rule
 folder_argument = record (new_rule (codes "DIR")) { required = true }
 
-abbrev pub new_argument : Rule
-new_argument =
-    record (new_rule (codes "new"))
-    { long = Some (codes "new"); value_names = 1; action = Some Append }
+-- an option with one value, that may be given any number of times
+abbrev pub names_argument : List ℕ → Rule
+names_argument name =
+    record (new_rule name) { long = Some name; value_names = 1; action = Some Append }
 
 abbrev pub todo_argument : Rule
 todo_argument =
@@ -38,8 +38,9 @@ group_argument =
 
 abbrev pub command_line : App
 command_line =
-    with_rule (with_rule (with_rule (with_rule (with_rule (new_app (codes "orgstore"))
-    folder_argument) new_argument) todo_argument) done_argument) group_argument
+    with_rule (with_rule (with_rule (with_rule (with_rule (with_rule (new_app (codes "orgstore"))
+    folder_argument) (names_argument (codes "new"))) (names_argument (codes "only")))
+    todo_argument) done_argument) group_argument
 
 -- What the words give, of which the first is the program's name.
 
@@ -51,6 +52,9 @@ folder_in words = unwrap_or (first_of (codes "DIR") (given words)) []
 
 abbrev pub new_in : List (List ℕ) → List (List ℕ)
 new_in words = unwrap_or (all_of (codes "new") (given words)) []
+
+abbrev pub only_in : List (List ℕ) → List (List ℕ)
+only_in words = unwrap_or (all_of (codes "only") (given words)) []
 
 abbrev pub todo_in : List (List ℕ) → List ℕ
 todo_in words = unwrap_or (first_of (codes "todo") (given words)) (codes "TODO")
@@ -74,6 +78,7 @@ pub record Say (words : List (List ℕ)) (arguments : Arguments) : Type 0 where
   pub taken : AreTaken words
   pub folder : string_bytes arguments.folder ≡ folder_in words
   pub new : map string_bytes arguments.new.items ≡ new_in words
+  pub only : map string_bytes arguments.only.items ≡ only_in words
   pub todo : string_bytes arguments.todo ≡ todo_in words
   pub done : string_bytes arguments.done ≡ done_in words
   pub group : arguments.group ≡ digits_value 10 (group_in words)

@@ -2,7 +2,7 @@
 ghost use Rattle.std.specs.Prelude.{◌≡◌, ◌⊎◌, ℕ, List, [], ◌∷◌, Some, false, map, string_bytes, IfOk, IfErr, SomeIff};
 ghost use Rattle.std.specs.Str.Parse.{digits_value};
 ghost use Rattle.clap.specs.Words.{kind_of, app_of, fault_of, found_of, new_rule, rows_of, rule_of};
-ghost use Rattle.org_program.specs.Words.{command_line, folder_argument as folder_rule, given, new_argument as new_name_rule, AreTaken, Say, IsGroupText, IsFaultBy, IsFaultOfWords};
+ghost use Rattle.org_program.specs.Words.{command_line, folder_argument as folder_rule, given, names_argument as names_rule, AreTaken, Say, IsGroupText, IsFaultBy, IsFaultOfWords};
 
 use crate::fault::Fault;
 use clap::error::ErrorKind;
@@ -10,6 +10,10 @@ use clap::{Arg, ArgAction, ArgMatches, Command, Error};
 use org_store::OpenFault;
 use std::alloc::{AllocError, Global};
 use std::{env, io};
+
+const NEW: &str = "An Org file that the folder may lack";
+
+const ONLY: &str = "An Org file to open, in the place of all in the folder";
 
 const ACTIVE: &str = "The active states, with commas between them";
 
@@ -26,6 +30,9 @@ pub struct Arguments {
     pub folder: String,
     /// Names of files that the folder may lack.
     pub new: Vec<String>,
+    /// Names of the only other files of the store; where there are none, those of all Org files of
+    /// the folder.
+    pub only: Vec<String>,
     /// The active states, with a comma between each two.
     pub todo: String,
     /// The done states, likewise.
@@ -94,6 +101,7 @@ fn arguments_of(
     Ok(Arguments {
         folder: String::from_str(alloc, matches.get_str("DIR").unwrap_or(""))?,
         new: owned(alloc, matches.get_strs("new").unwrap_or(&[]))?,
+        only: owned(alloc, matches.get_strs("only").unwrap_or(&[]))?,
         todo: String::from_str(alloc, matches.get_str("todo").unwrap_or("TODO"))?,
         done: String::from_str(alloc, matches.get_str("done").unwrap_or("DONE"))?,
         group,
@@ -111,14 +119,14 @@ fn folder_argument<'a>(alloc: Global) -> Arg<'a>
 }
 
 // Any number of names.
-fn new_argument<'a>(alloc: Global) -> Arg<'a>
-    ensures rule { rule_of result ≡ new_name_rule }
+fn names_argument<'a>(alloc: Global, name: &'a str, help: &'a str) -> Arg<'a>
+    ensures rule { rule_of result ≡ names_rule name.now }
     ensures own { result.global ≡ false }
 {
-    Arg::new(alloc, "new")
-        .long("new")
+    Arg::new(alloc, name)
+        .long(name)
         .value_name("NAME")
-        .help("An Org file that the folder may lack")
+        .help(help)
         .action(ArgAction::Append)
 }
 
@@ -147,7 +155,8 @@ fn command<'a>(alloc: Global) -> Result<Command<'a>, AllocError>
 {
     Command::new(alloc, "orgstore")
         .arg(folder_argument(alloc))?
-        .arg(new_argument(alloc))?
+        .arg(names_argument(alloc, "new", NEW))?
+        .arg(names_argument(alloc, "only", ONLY))?
         .arg(option(alloc, "todo", "LIST", ACTIVE, "TODO"))?
         .arg(option(alloc, "done", "LIST", DONE, "DONE"))?
         .arg(option(alloc, "group", "K", GROUP, "1"))

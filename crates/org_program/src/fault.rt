@@ -23,7 +23,7 @@ pub enum Fault {
     /// says so, which may have several lines.
     #[error("{0}")]
     Usage(String),
-    /// A name given by `--new` is no file name in `.org`.
+    /// A name given by `--new` or `--only` is no file name in `.org`.
     #[error("orgstore: bad name {0}")]
     BadName(String),
     /// The states aren't ones that a store can have.

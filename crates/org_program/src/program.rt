@@ -1,24 +1,25 @@
 //! A run of the program: its arguments, the folder of its files, and how it ended.
 //!
-//! The order is fixed: words, names, states, lock, listing, two names of one file, opening.
+//! The order is fixed: words, names, states, lock, listing, two names of one file, opening. The
+//! folder isn't listed where the words name the only files of the store.
 ghost use Rattle.std.specs.Prelude.{◌≡◌, ◌++◌, map, string_bytes, IfOk, IfErr, All};
 ghost use Rattle.org_disk.specs.Names.{IsOrgFile};
 ghost use Rattle.org_serve.specs.Writes.{exchange};
 ghost use Rattle.org_store.specs.Group.{IsGroupSize};
 ghost use Rattle.org_program.specs.Causes.{reported, IsCause, MayShare};
 ghost use Rattle.org_program.specs.Faults.{IsFaultOfRun};
-ghost use Rattle.org_program.specs.Lists.{states_in};
+ghost use Rattle.org_program.specs.Lists.{AreListed};
 ghost use Rattle.org_program.specs.Runs.{IsSetUp, RunsFolder, ServesFolder};
 ghost use Rattle.org_program.specs.Words.{Say};
 
 use crate::arguments::{self, Arguments};
 use crate::fault::Fault;
-use crate::names::new_names;
+use crate::names::given_names;
 use crate::states::states;
 use org_disk::FileName;
 use org_folder::{
-    AbsentNames, AliasFault, FolderDisk, LockedFolder, Start, check_aliases, fill_streams,
-    lock_folder, org_files,
+    AbsentNames, AliasFault, FolderDisk, ListFault, LockedFolder, Start, check_aliases,
+    fill_streams, lock_folder, org_files,
 };
 use org_serve::{ServeEnd, Served, Setup, Sink, Source, file_names, serve_synced};
 use org_store::OpenFault;
@@ -93,8 +94,7 @@ fn serve<S: Start, R: Source, W: Sink>(
         served.end (exchange R.Source W.Sink reader.old reader.new writer.old writer.new)) }
     ensures unserved { IfErr result (λ _. (reader.new ≡ reader.old)
         × (writer.new ≡ writer.old)) }
-    ensures cause { IfErr result
-        (IsCause (map string_bytes arguments.now.new.items) (states_in arguments.now)) }
+    ensures cause { IfErr result (IsCause arguments.now) }
 {
     // The folder is locked until all is served.
     let (setup, folder, absent) = setup(rt, arguments)?;
@@ -122,13 +122,12 @@ fn setup<'a>(
     ensures folder { IfOk result (λ made. made.1.path.now ≡ string_bytes arguments.now.folder) }
     ensures names { IfOk result (λ made. All IsOrgFile made.0.names.items) }
     ensures is_set_up { IfOk result (λ made. IsSetUp arguments.now made.0) }
-    ensures cause { IfErr result
-        (IsCause (map string_bytes arguments.now.new.items) (states_in arguments.now)) }
+    ensures cause { IfErr result (IsCause arguments.now) }
 {
-    let mut names = new_names(rt.alloc(), &arguments.new)?;
+    let mut names = given_names(rt.alloc(), arguments)?;
     let states = states(rt.alloc(), &arguments.todo, &arguments.done)?;
     let folder = lock_folder(rt, &arguments.folder)?;
-    names.append(&mut org_files(rt, &folder)?)?;
+    names.append(&mut listed_names(rt, &folder, arguments)?)?;
     let absent = check_files(rt, &folder, &names)?;
     let group = arguments.group;
     Ok((
@@ -140,6 +139,20 @@ fn setup<'a>(
         folder,
         absent,
     ))
+}
+
+// The names of the folder's Org files, unless the arguments name the only ones.
+fn listed_names(
+    rt: &HostRuntime,
+    folder: &LockedFolder<'_>,
+    arguments: &Arguments,
+) -> Result<Vec<FileName>, ListFault>
+    ensures { IfOk result (λ names. AreListed arguments.now names.items) }
+{
+    if !arguments.only.is_empty() {
+        return Ok(Vec::new(rt.alloc()));
+    }
+    org_files(rt, folder)
 }
 
 // Checks that the files of a store with these names are one each, and answers which aren't there.

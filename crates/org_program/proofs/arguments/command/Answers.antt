@@ -6,7 +6,8 @@ use Rattle.org_program.proofs.arguments.command.Goals as goal
 pub returns : goal.returns
 returns c =
     let one_is = c.in_ok-arg.ensures.shape c.folder_argument.ensures.own ∙ ap₂ with_rule c.new.ensures.app c.folder_argument.ensures.rule in
-    let two_are = c.in_ok-arg-2.ensures.shape c.new_argument.ensures.own ∙ ap₂ with_rule one_is c.new_argument.ensures.rule in
-    let three_are = c.in_ok-arg-3.ensures.shape c.option.ensures.own ∙ ap₂ with_rule two_are c.option.ensures.rule in
-    let four_are = c.in_ok-arg-4.ensures.shape c.option-2.ensures.own ∙ ap₂ with_rule three_are c.option-2.ensures.rule in
-    IfOk-weaker c.arg-5.result _ _ (λ command adds. adds.shape c.option-3.ensures.own ∙ ap₂ with_rule four_are c.option-3.ensures.rule) c.arg-5.ensures
+    let two_are = c.in_ok-arg-2.ensures.shape c.names_argument.ensures.own ∙ ap₂ with_rule one_is c.names_argument.ensures.rule in
+    let three_are = c.in_ok-arg-3.ensures.shape c.names_argument-2.ensures.own ∙ ap₂ with_rule two_are c.names_argument-2.ensures.rule in
+    let four_are = c.in_ok-arg-4.ensures.shape c.option.ensures.own ∙ ap₂ with_rule three_are c.option.ensures.rule in
+    let five_are = c.in_ok-arg-5.ensures.shape c.option-2.ensures.own ∙ ap₂ with_rule four_are c.option-2.ensures.rule in
+    IfOk-weaker c.arg-6.result _ _ (λ command adds. adds.shape c.option-3.ensures.own ∙ ap₂ with_rule five_are c.option-3.ensures.rule) c.arg-6.ensures

@@ -1,6 +1,4 @@
-use Rattle.std.proofs.Common.{◌∙◌, ap₂}
-use Rattle.std.proofs.lemmas.Result.{IfErr-weaker}
-use Rattle.org_serve.specs.Writes.{pipes}
+use Rattle.std.proofs.Common.{◌∙◌}
 use Rattle.org_program.proofs.program.serve.Goals as goal
 
 pub returns-clause-serves : goal.returns-clause-serves

@@ -1,12 +1,12 @@
-use Rattle.std.proofs.Common.{Some, ap, codes}
+use Rattle.std.proofs.Common.{Some, ap}
 use Rattle.clap.specs.Words.{Rule}
 use Rattle.clap.specs.declared.builder.action.ArgAction.TheVariants.{Append}
-use Rattle.org_program.proofs.arguments.new_argument.Goals as goal
+use Rattle.org_program.proofs.arguments.names_argument.Goals as goal
 
 pub returns-clause-rule : goal.returns-clause-rule
 returns-clause-rule c =
     rw (c.action.ensures, c.help.ensures, c.value_name.ensures, c.long.ensures)
-    (ap (λ (r : Rule). record r { long = Some (codes "new"); value_names = 1; action = Some Append }) c.new.ensures.rule)
+    (ap (λ (r : Rule). record r { long = Some c.args.name.now; value_names = 1; action = Some Append }) c.new.ensures.rule)
 
 pub returns-clause-own : goal.returns-clause-own
 returns-clause-own c = rw (c.action.ensures, c.help.ensures, c.value_name.ensures, c.long.ensures) c.new.ensures.optional.1
