@@ -10,6 +10,7 @@ use Rattle.org_move.specs.Counts.{count_over}
 use Rattle.org_commands.specs.declared.command.Refusal.TheVariants.{NoSuchFile, BadTemplate, BadEntry, NotFound, InsideItself, NotThere}
 use Rattle.org_outline.specs.States.{Keywords}
 use Rattle.org_commands.specs.InOrder.{text_at}
+use Rattle.org_commands.specs.declared.tally.Group.TheVariants.{Of}
 use Rattle.org_commands.specs.Session.{Session}
 use Rattle.org_commands.specs.Outcome.{Outcome, Refuses, Shows, Accepts, capture, edit, refile, show}
 
@@ -18,7 +19,7 @@ abbrev store : List ℕ → List ℕ → Session
 store a b =
     let files : List (List ℕ) = a ∷ b ∷ [] in
     let states : Keywords = record { active = codes "TODO" ∷ []; done = codes "DONE" ∷ [] } in
-    record { states = states; names = codes "a.org" ∷ codes "b.org" ∷ []; files = files; settled = files; accepted = 0; acknowledged = 0; group = 1; broken = false }
+    record { states = states; names = codes "a.org" ∷ codes "b.org" ∷ []; files = files; settled = files; accepted = 0; acknowledged = 0; group = Of 1; broken = false }
 
 abbrev moment : Moment
 moment = at_minute (civil_day 2026 7 1) 600

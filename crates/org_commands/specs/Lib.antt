@@ -1,6 +1,7 @@
 pub mod Refusals
 pub mod InOrder
 pub mod Files
+pub mod Groups
 pub mod Session
 pub mod Capture
 pub mod Refile

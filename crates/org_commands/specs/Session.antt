@@ -5,6 +5,7 @@ use Rattle.org_disk.specs.Disk.{FileState}
 use Rattle.org_outline.specs.States.{Keywords}
 use Rattle.org_journal.specs.Recovered.{Image, contents}
 use Rattle.org_texts.specs.Texts.{held_over}
+use Rattle.org_commands.specs.declared.tally.Group.{Group}
 use Rattle.org_commands.specs.declared.tally.Tally.{Tally}
 use Rattle.org_commands.specs.Files.{OpenFiles}
 use Rattle.org_commands.specs.InOrder.{HoldsTexts, texts_of}
@@ -23,7 +24,7 @@ pub record Session : Type 0 where
   pub accepted : ℕ
   pub acknowledged : ℕ
   -- how many commands may be accepted and not acknowledged before they are settled
-  pub group : ℕ
+  pub group : Group
   -- a call of the disk failed: the store does nothing any more
   pub broken : Bool
 

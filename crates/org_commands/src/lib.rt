@@ -27,4 +27,4 @@ pub use command::{
 pub use executor::Executor;
 pub use files::Files;
 pub use kind::{Change, Kind, Question};
-pub use tally::Tally;
+pub use tally::{Group, Tally};

@@ -1,9 +1,9 @@
 -- The words of command lines, and what they give.
-use Rattle.std.proofs.Common.{◌≡◌, refl, ℕ, List, [], ◌∷◌, codes}
+use Rattle.std.proofs.Common.{◌≡◌, refl, ℕ, true, false, List, [], ◌∷◌, None, Some, codes}
 use Rattle.clap.specs.Words.{fault_of}
 use Rattle.clap.proofs.OnLiterals.{clap_on_literals}
 use Rattle.clap.specs.declared.error.kind.ErrorKind.TheVariants.{UnknownArgument, MissingRequiredArgument, ArgumentConflict, DisplayHelp}
-use Rattle.org_program.specs.Words.{command_line, folder_in, new_in, todo_in, done_in, group_in}
+use Rattle.org_program.specs.Words.{command_line, folder_in, new_in, only_in, todo_in, done_in, group_in, whole_in}
 use Rattle.org_program.specs.Lists.{between_commas}
 
 abbrev two_new : List (List ℕ)
@@ -30,7 +30,7 @@ two_new_names : new_in two_new ≡ codes "a.org" ∷ codes "b.org" ∷ []
 unfolding clap_on_literals
 two_new_names = refl
 
-no_group : group_in two_new ≡ codes "1"
+no_group : group_in two_new ≡ None
 unfolding clap_on_literals
 no_group = refl
 
@@ -38,7 +38,7 @@ in_twos_taken : fault_of command_line in_twos ≡ []
 unfolding clap_on_literals
 in_twos_taken = refl
 
-in_twos_group : group_in in_twos ≡ codes "2"
+in_twos_group : group_in in_twos ≡ Some (codes "2")
 unfolding clap_on_literals
 in_twos_group = refl
 
@@ -98,3 +98,26 @@ two_lists = refl
 help : fault_of command_line (codes "orgstore" ∷ codes "--help" ∷ []) ≡ DisplayHelp ∷ []
 unfolding clap_on_literals
 help = refl
+
+abbrev two_only : List (List ℕ)
+two_only = codes "orgstore" ∷ codes "--only=a.org" ∷ codes "notes" ∷ codes "--only" ∷ codes "b.org" ∷ codes "--whole" ∷ []
+
+two_only_taken : fault_of command_line two_only ≡ []
+unfolding clap_on_literals
+two_only_taken = refl
+
+two_only_names : only_in two_only ≡ codes "a.org" ∷ codes "b.org" ∷ []
+unfolding clap_on_literals
+two_only_names = refl
+
+none_only : only_in two_new ≡ []
+unfolding clap_on_literals
+none_only = refl
+
+is_whole : whole_in two_only ≡ true
+unfolding clap_on_literals
+is_whole = refl
+
+isnt_whole : whole_in two_new ≡ false
+unfolding clap_on_literals
+isnt_whole = refl

@@ -1,17 +1,20 @@
 -- What the words of the command line tell the program to do, and why they aren't taken.
-use Rattle.std.specs.Prelude.{◌≡◌, ℕ, List, [], ◌∷◌, Some, true, map, string_bytes, codes, unwrap_or}
+use Rattle.std.specs.Prelude.{◌≡◌, ℕ, Bool, true, false, List, [], ◌∷◌, Option, None, Some, map, string_bytes, codes, unwrap_or}
+use Rattle.std.specs.Str.{bytes_eq}
 use Rattle.std.specs.Str.Parse.{IsNumeral, digits_value}
 use Rattle.clap.specs.Words.{App, Rule, Row, new_app, new_rule, with_rule, matches_of, first_of, all_of, fault_of}
-use Rattle.clap.specs.declared.builder.action.ArgAction.TheVariants.{Append}
+use Rattle.clap.specs.declared.builder.action.ArgAction.TheVariants.{Append, SetTrue}
 use Rattle.org_fileset.specs.declared.open.OpenFault.TheVariants.{OutOfMemory}
+use Rattle.org_commands.specs.declared.tally.Group.{Group}
+use Rattle.org_commands.specs.declared.tally.Group.TheVariants.{Of, Whole}
 use Rattle.org_store.specs.Group.{IsGroupSize}
 use Rattle.org_program.specs.declared.arguments.Arguments.{Arguments}
 use Rattle.org_program.specs.declared.fault.Fault.{Fault}
 use Rattle.org_program.specs.declared.fault.Fault.TheVariants.{Usage, Open}
 
 -- The command line, as clap has it: a folder, which has to be there; any number of `--new NAME` and
--- of `--only NAME`; and, at most once each, `--todo LIST`, `--done LIST` and `--group K`, which are
--- TODO, DONE and 1 where they aren't there.
+-- of `--only NAME`; and, at most once each, `--todo LIST` and `--done LIST`, which are TODO and DONE
+-- where they aren't there, `--group K` and `--whole`.
 
 abbrev pub folder_argument : Rule
 folder_argument = record (new_rule (codes "DIR")) { required = true }
@@ -34,13 +37,17 @@ done_argument =
 abbrev pub group_argument : Rule
 group_argument =
     record (new_rule (codes "group"))
-    { long = Some (codes "group"); value_names = 1; defaults = codes "1" ∷ [] }
+    { long = Some (codes "group"); value_names = 1 }
+
+abbrev pub whole_argument : Rule
+whole_argument =
+    record (new_rule (codes "whole")) { long = Some (codes "whole"); action = Some SetTrue }
 
 abbrev pub command_line : App
 command_line =
-    with_rule (with_rule (with_rule (with_rule (with_rule (with_rule (new_app (codes "orgstore"))
-    folder_argument) (names_argument (codes "new"))) (names_argument (codes "only")))
-    todo_argument) done_argument) group_argument
+    with_rule (with_rule (with_rule (with_rule (with_rule (with_rule (with_rule
+    (new_app (codes "orgstore")) folder_argument) (names_argument (codes "new")))
+    (names_argument (codes "only"))) todo_argument) done_argument) group_argument) whole_argument
 
 -- What the words give, of which the first is the program's name.
 
@@ -62,16 +69,32 @@ todo_in words = unwrap_or (first_of (codes "todo") (given words)) (codes "TODO")
 abbrev pub done_in : List (List ℕ) → List ℕ
 done_in words = unwrap_or (first_of (codes "done") (given words)) (codes "DONE")
 
-abbrev pub group_in : List (List ℕ) → List ℕ
-group_in words = unwrap_or (first_of (codes "group") (given words)) (codes "1")
+abbrev pub group_in : List (List ℕ) → Option (List ℕ)
+group_in words = first_of (codes "group") (given words)
+
+abbrev pub whole_in : List (List ℕ) → Bool
+whole_in words =
+    bytes_eq (unwrap_or (first_of (codes "whole") (given words)) (codes "false")) (codes "true")
 
 -- decimal digits, without a sign, that write a group
 abbrev pub IsGroupText : List ℕ → Type 0
 IsGroupText text = IsNumeral 10 text × IsGroupSize (digits_value 10 text)
 
+-- How many commands are settled together: `--whole` stands without a number, and a number without
+-- `--whole`; where there is neither, it is 1.
+abbrev pub IsGroupGiven : Bool → Option (List ℕ) → Type 0
+IsGroupGiven true None = Unit {0}
+IsGroupGiven true (Some text) = ⊥
+IsGroupGiven false text = IsGroupText (unwrap_or text (codes "1"))
+
+abbrev pub group_of : Bool → Option (List ℕ) → Group
+group_of true text = Whole
+group_of false text = Of (digits_value 10 (unwrap_or text (codes "1")))
+
 -- clap refuses nothing of the words, and their group is one
 abbrev pub AreTaken : List (List ℕ) → Type 0
-AreTaken words = (fault_of command_line words ≡ []) × IsGroupText (group_in words)
+AreTaken words =
+    (fault_of command_line words ≡ []) × IsGroupGiven (whole_in words) (group_in words)
 
 -- words that are taken, and what they tell the program to do
 pub record Say (words : List (List ℕ)) (arguments : Arguments) : Type 0 where
@@ -81,7 +104,7 @@ pub record Say (words : List (List ℕ)) (arguments : Arguments) : Type 0 where
   pub only : map string_bytes arguments.only.items ≡ only_in words
   pub todo : string_bytes arguments.todo ≡ todo_in words
   pub done : string_bytes arguments.done ≡ done_in words
-  pub group : arguments.group ≡ digits_value 10 (group_in words)
+  pub group : arguments.group ≡ group_of (whole_in words) (group_in words)
 
 -- there was no memory for the words, or else they are refused, for this reason
 abbrev pub IsFaultBy : Type 0 → Fault → Type 0

@@ -2,12 +2,12 @@
 ghost use Rattle.std.specs.Prelude.{◌≡◌, ◌⊎◌, ℕ, List, [], ◌∷◌, Some, false, map, string_bytes, IfOk, IfErr, SomeIff};
 ghost use Rattle.std.specs.Str.Parse.{digits_value};
 ghost use Rattle.clap.specs.Words.{kind_of, app_of, fault_of, found_of, new_rule, rows_of, rule_of};
-ghost use Rattle.org_program.specs.Words.{command_line, folder_argument as folder_rule, given, names_argument as names_rule, AreTaken, Say, IsGroupText, IsFaultBy, IsFaultOfWords};
+ghost use Rattle.org_program.specs.Words.{command_line, folder_argument as folder_rule, given, group_argument as group_rule, group_in, group_of, names_argument as names_rule, whole_argument as whole_rule, whole_in, AreTaken, Say, IsGroupGiven, IsGroupText, IsFaultBy, IsFaultOfWords};
 
 use crate::fault::Fault;
 use clap::error::ErrorKind;
 use clap::{Arg, ArgAction, ArgMatches, Command, Error};
-use org_store::OpenFault;
+use org_store::{Group, OpenFault};
 use std::alloc::{AllocError, Global};
 use std::{env, io};
 
@@ -19,7 +19,9 @@ const ACTIVE: &str = "The active states, with commas between them";
 
 const DONE: &str = "The done states, with commas between them";
 
-const GROUP: &str = "How many commands are settled together, from 1 to 1000";
+const GROUP: &str = "How many commands are settled together, from 1 to 1000 [default: 1]";
+
+const WHOLE_AND_GROUP: &str = "the argument '--whole' cannot be used with '--group <K>'";
 
 const NO_GROUP: &str = "the value of '--group <K>' is a number from 1 to 1000";
 
@@ -37,8 +39,8 @@ pub struct Arguments {
     pub todo: String,
     /// The done states, likewise.
     pub done: String,
-    /// How many commands are accepted before they are settled.
-    pub group: u32,
+    /// How many accepted commands are settled together.
+    pub group: Group,
 }
 
 /// The words of the command line, the first being the program's name.
@@ -95,9 +97,7 @@ fn arguments_of(
         ⊎ ((words : List (List ℕ)) → rows_of (found_of matches.now) ≡ given words
         → AreTaken words → ⊥)) }
 {
-    let Some(group) = group_of(matches.get_str("group").unwrap_or("1")) else {
-        return Err(command.error(ErrorKind::ValueValidation, NO_GROUP)?);
-    };
+    let group = group(command, matches)?;
     Ok(Arguments {
         folder: String::from_str(alloc, matches.get_str("DIR").unwrap_or(""))?,
         new: owned(alloc, matches.get_strs("new").unwrap_or(&[]))?,
@@ -106,6 +106,29 @@ fn arguments_of(
         done: String::from_str(alloc, matches.get_str("done").unwrap_or("DONE"))?,
         group,
     })
+}
+
+// How many commands are settled together, where the words say it well.
+fn group(command: &mut Command<'_>, matches: &ArgMatches<'_>) -> Result<Group, Error>
+    ensures group { IfOk result (λ group. (words : List (List ℕ))
+        → rows_of (found_of matches.now) ≡ given words
+        → IsGroupGiven (whole_in words) (group_in words)
+        × (group ≡ group_of (whole_in words) (group_in words))) }
+    ensures fault { IfErr result (λ error. (kind_of error ≡ ErrorKind.OutOfMemory)
+        ⊎ ((words : List (List ℕ)) → rows_of (found_of matches.now) ≡ given words
+        → IsGroupGiven (whole_in words) (group_in words) → ⊥)) }
+{
+    let text = matches.get_str("group");
+    if matches.get_str("whole").unwrap_or("false") == "true" {
+        return match text {
+            None => Ok(Group::Whole),
+            Some(_) => Err(command.error(ErrorKind::ArgumentConflict, WHOLE_AND_GROUP)?),
+        };
+    }
+    match size_of(text.unwrap_or("1")) {
+        Some(size) => Ok(Group::Of(size)),
+        None => Err(command.error(ErrorKind::ValueValidation, NO_GROUP)?),
+    }
 }
 
 // The folder, which has to be there.
@@ -149,6 +172,29 @@ fn option<'a>(
         .default_value(default)
 }
 
+// The number of commands that are settled together. It has no default for clap, which then says
+// whether it was given.
+fn group_argument<'a>(alloc: Global) -> Arg<'a>
+    ensures rule { rule_of result ≡ group_rule }
+    ensures own { result.global ≡ false }
+{
+    Arg::new(alloc, "group")
+        .long("group")
+        .value_name("K")
+        .help(GROUP)
+}
+
+// An option without a value.
+fn whole_argument<'a>(alloc: Global) -> Arg<'a>
+    ensures rule { rule_of result ≡ whole_rule }
+    ensures own { result.global ≡ false }
+{
+    Arg::new(alloc, "whole")
+        .long("whole")
+        .help("Settle at the line settle alone, and stop at a line that isn't done")
+        .action(ArgAction::SetTrue)
+}
+
 // The command line, for clap.
 fn command<'a>(alloc: Global) -> Result<Command<'a>, AllocError>
     ensures { IfOk result (λ command. app_of command ≡ command_line) }
@@ -159,7 +205,8 @@ fn command<'a>(alloc: Global) -> Result<Command<'a>, AllocError>
         .arg(names_argument(alloc, "only", ONLY))?
         .arg(option(alloc, "todo", "LIST", ACTIVE, "TODO"))?
         .arg(option(alloc, "done", "LIST", DONE, "DONE"))?
-        .arg(option(alloc, "group", "K", GROUP, "1"))
+        .arg(group_argument(alloc))?
+        .arg(whole_argument(alloc))
 }
 
 fn owned(alloc: Global, words: &[&str]) -> Result<Vec<String>, AllocError>
@@ -173,15 +220,15 @@ fn owned(alloc: Global, words: &[&str]) -> Result<Vec<String>, AllocError>
     Ok(owned)
 }
 
-// The group that a decimal number is. It has no sign.
-fn group_of(text: &str) -> Option<u32>
+// The size of a group that a decimal number is. It has no sign.
+fn size_of(text: &str) -> Option<u32>
     ensures { SomeIff result (IsGroupText text.now) (digits_value 10 text.now) }
 {
     if let [b'+', ..] = text.as_bytes() {
         return None;
     }
     match text.parse::<u32>() {
-        Ok(group) if 1 <= group && group <= 1000 => Some(group),
+        Ok(size) if 1 <= size && size <= 1000 => Some(size),
         _ => None,
     }
 }

@@ -5,7 +5,7 @@
 ghost use Rattle.std.specs.Prelude.{◌≡◌, ◌++◌, map, string_bytes, IfOk, IfErr, All};
 ghost use Rattle.org_disk.specs.Names.{IsOrgFile};
 ghost use Rattle.org_serve.specs.Writes.{exchange};
-ghost use Rattle.org_store.specs.Group.{IsGroupSize};
+ghost use Rattle.org_store.specs.Group.{IsGroup};
 ghost use Rattle.org_program.specs.Causes.{reported, IsCause, MayShare};
 ghost use Rattle.org_program.specs.Faults.{IsFaultOfRun};
 ghost use Rattle.org_program.specs.Lists.{AreListed};
@@ -89,7 +89,7 @@ fn serve<S: Start, R: Source, W: Sink>(
     reader: &mut R,
     writer: &mut W,
 ) -> Result<Served<FolderDisk<HostRuntime, S>>, Fault>
-    requires { IsGroupSize arguments.now.group }
+    requires { IsGroup arguments.now.group }
     ensures serves { IfOk result (λ served. ServesFolder S.world arguments.now served.disk
         served.end (exchange R.Source W.Sink reader.old reader.new writer.old writer.new)) }
     ensures unserved { IfErr result (λ _. (reader.new ≡ reader.old)
@@ -118,7 +118,7 @@ fn setup<'a>(
     rt: &HostRuntime,
     arguments: &'a Arguments,
 ) -> Result<(Setup, LockedFolder<'a>, AbsentNames), Fault>
-    requires { IsGroupSize arguments.now.group }
+    requires { IsGroup arguments.now.group }
     ensures folder { IfOk result (λ made. made.1.path.now ≡ string_bytes arguments.now.folder) }
     ensures names { IfOk result (λ made. All IsOrgFile made.0.names.items) }
     ensures is_set_up { IfOk result (λ made. IsSetUp arguments.now made.0) }

@@ -1,5 +1,5 @@
 -- How calls of a store that may break it follow one another.
-use Rattle.std.proofs.Common.{◌≡◌, true, false, true≢false, refl, sym, ap, ◌∙◌, arith, inl, inr, ◌⊎◌, ⊎_elim, Bool, subst}
+use Rattle.std.proofs.Common.{◌≡◌, ◌≢◌, if◌then◌else◌, true, false, true≢false, refl, sym, ap, ◌∙◌, arith, inl, inr, ◌⊎◌, ⊎_elim, Bool, subst}
 use Rattle.org_disk.specs.declared.disk.Disk.{Ghosts}
 use Rattle.std.specs.Prelude.{IsTrue, IsFalse, IsErrOf, Result, Ok, Err}
 use Rattle.org_disk.specs.Accounts.{Accounts}
@@ -11,7 +11,7 @@ use Rattle.org_commands.specs.declared.command.RunFault.TheVariants as run
 use Rattle.org_commands.specs.Session.{Session, StoreView}
 use Rattle.org_serve.specs.declared.end.ServeEnd.{ServeEnd}
 use Rattle.org_serve.specs.declared.end.ServeEnd.TheVariants.{End, Unsettled, Device, Read, Write}
-use Rattle.org_serve.specs.Serving.{HasBroken, EndSaysBroken, end_of}
+use Rattle.org_serve.specs.Serving.{HasBroken, EndSaysBroken, end_of, refused_end}
 use Rattle.org_serve.specs.Whole.{SaysFailure}
 use Rattle.org_serve.proofs.Counting.{HasRisen-later, HasRisen-before}
 
@@ -146,3 +146,11 @@ end_unread is = cc is
 
 pub write_unread : Write ≡ Read → ⊥
 write_unread is = cc is
+
+-- how an input ends of which a line isn't done
+pub refused_told : (s : Session) (end : ServeEnd) → end ≡ refused_end s → (end ≢ Read) × (end ≢ Write)
+refused_told s end is = subst (λ e. (e ≢ Read) × (e ≢ Write)) (sym is) (by_broken s.broken)
+  where
+    by_broken : (broken : Bool) → ((if broken then Device else Unsettled) ≢ Read) × ((if broken then Device else Unsettled) ≢ Write)
+    by_broken true = (λ e. absurd (cc), λ e. absurd (cc))
+    by_broken false = (λ e. absurd (cc), λ e. absurd (cc))

@@ -10,6 +10,8 @@ use Rattle.org_fileset.specs.Replay.{IsAtRest}
 use Rattle.org_fileset.proofs.Commits.{at_rest_recovers}
 use Rattle.org_fileset.proofs.Recovers.{recovers_as}
 use Rattle.org_commands.specs.declared.command.Command.{Command}
+use Rattle.org_commands.specs.declared.tally.Group.{Group}
+use Rattle.org_commands.specs.declared.tally.Group.TheVariants.{Of, Whole}
 use Rattle.org_commands.specs.InOrder.{with_texts}
 use Rattle.org_commands.specs.Session.{Session, StoreView, Holds}
 use Rattle.org_commands.specs.Outcome.{outcome}
@@ -21,7 +23,7 @@ use Rattle.org_store.proofs.Runs.{Course, HaveTexts, IsBetween, course_none, cou
 use Rattle.org_store.specs.Calls.{Call, Machine, StepsBy, model}
 use Rattle.org_store.specs.Calls.Call.{Grouped, Ran, Settled}
 use Rattle.org_serve.specs.Pipes.{Exchange}
-use Rattle.org_serve.specs.Serving.{Answers, AnswersRead, HasSettled, RunsLines, RunsAndWrites, stores_while_honest, traces_while_honest}
+use Rattle.org_serve.specs.Serving.{Answers, AnswersRead, HasSettled, MayHaveSettled, RunsLines, RunsAndWrites, stores_while_honest, traces_while_honest}
 use Rattle.org_serve.specs.declared.fault.LineFault.{LineFault}
 use Rattle.org_serve.specs.declared.end.ServeEnd.{ServeEnd}
 use Rattle.org_serve.specs.History.{HoldsSince, Reaches}
@@ -58,6 +60,11 @@ module _ {D : Type 0} (g : Ghosts D) where
       (λ settled. inr (settled.0, record { before = settled.1.before; did = λ here. (settled.1.did here, refl) }))
       ends
 
+  lift_settled : (group : Group) (mid : Trace D) (new : StoreView D) → MayHaveSettled group (stores_while_honest g) mid.store new
+      → MayHaveSettled group (traces_while_honest g) mid (record { store = new; texts = mid.texts })
+  lift_settled (Of size) mid new settled = lift_end mid new settled
+  lift_settled Whole mid new same = ap (λ (k : StoreView D). record { store = k; texts = mid.texts }) same
+
   -- the whole run
   pub lift_run : (first : Trace D) {after : StoreView D} {end : ServeEnd} {io : Exchange} → RunsLines (stores_while_honest g) first.store after end io
       → (texts : Texts) × RunsLines (traces_while_honest g) first (record { store = after; texts = texts }) end io
@@ -79,11 +86,15 @@ module _ {D : Type 0} (g : Ghosts D) where
         },
       )
 
-  -- .. in which what was written is the same
+  -- .. of which what was written and settled is the same
   pub lift_wrote : (first : Trace D) {after : StoreView D} {end : ServeEnd} {io : Exchange} → (run : RunsAndWrites (stores_while_honest g) first.store after end io)
       → RunsAndWrites (traces_while_honest g) first (record { store = after; texts = (lift_run first run.0).0 }) end io
   unfolding lift_run
-  lift_wrote first run = ((lift_run first run.0).1, run.1)
+  lift_wrote first {after} run = (
+    (lift_run first run.0).1,
+    run.1,
+    lift_settled first.store.session.group (record { store = run.0.mid; texts = (lift_lines first run.0.ran run.0.out run.0.mid run.0.answered).0 }) after run.2,
+  )
 
 -- A run over a disk that is honest after each step.
 module _ {D : Type 0} (g : Ghosts D) where

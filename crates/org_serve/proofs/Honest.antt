@@ -3,6 +3,8 @@
 use Rattle.std.proofs.Common.{◌≡◌, ◌⊎◌, inl, inr, ⊎_elim, ℕ, Bool, true, false, nat_lt, List, [], ◌∷◌, ◌++◌, Option, Result, Ok, Err, refl, ap, ◌∙◌, subst, append_assoc}
 use Rattle.org_disk.specs.declared.disk.Disk.{Ghosts}
 use Rattle.org_commands.specs.declared.command.Command.{Command}
+use Rattle.org_commands.specs.declared.tally.Group.{Group}
+use Rattle.org_commands.specs.declared.tally.Group.TheVariants.{Of, Whole}
 use Rattle.org_commands.specs.Session.{StoreView}
 use Rattle.org_store.specs.Calls.{Machine, stores, traces}
 use Rattle.org_store.specs.History.{Trace}
@@ -11,9 +13,11 @@ use Rattle.org_serve.specs.declared.end.ServeEnd.{ServeEnd}
 use Rattle.org_serve.specs.declared.end.ServeEnd.TheVariants.{Write}
 use Rattle.org_serve.specs.declared.fault.LineFault.{LineFault}
 use Rattle.org_serve.specs.declared.pending.Pending.{Pending}
+use Rattle.org_serve.specs.declared.serving.Next.{Next}
+use Rattle.org_serve.specs.declared.serving.Next.TheVariants.{Line, Stop}
 use Rattle.org_serve.specs.History.{Reaches}
 use Rattle.org_serve.specs.Lines.{cut}
-use Rattle.org_serve.specs.Serving.{Answers, AnswersRead, EndsBy, EndsWith, HasSettled, RunsLines, RunsSome, stores_while_honest, traces_while_honest, if_good}
+use Rattle.org_serve.specs.Serving.{Answers, AnswersEach, AnswersLine, AnswersRead, EndsAt, EndsBy, EndsWith, Finishes, HasSettled, LineLeadsTo, MayHaveSettled, Passes, PassesAll, ReadLeadsTo, RunsLines, RunsSome, ServesToEnd, Stops, stores_while_honest, traces_while_honest, if_good}
 use Rattle.org_serve.proofs.Inputs.{Served}
 
 -- the same machine, where the state after each call is good
@@ -31,12 +35,56 @@ module _ {S : Type 0} (good : S → Type 0) (m : Machine S) where
   honest_read old (Err fault) out new ran here = ((ran.0, ran.1), subst good ran.1 here)
   honest_read old (Ok command) out new ran here = ((ran.0, (ran.1.did here, here), ran.2), ran.1.before here)
 
+  -- .. and what comes behind it
+  honest_leads : (group : Group) (next : Next) (old : S) (read : Result Command LineFault) (out : List ℕ) (new : S) → ReadLeadsTo group next Said old read out new → good new
+      → ReadLeadsTo group next Sound old read out new × good old
+  honest_leads (Of size) Line old read out new ran here = honest_read old read out new ran here
+  honest_leads (Of size) Stop old read out new ran here = absurd ran
+  honest_leads Whole Line old (Err fault) out new ran here = absurd ran
+  honest_leads Whole Line old (Ok command) out new ran here = ((ran.0, (ran.1.did here, here), ran.2), ran.1.before here)
+  honest_leads Whole Stop old (Err fault) out new ran here = ((ran.0, ran.1), subst good ran.1 here)
+  honest_leads Whole Stop old (Ok command) out new ran here = ((ran.0, (ran.1.did here, here), ran.2), ran.1.before here)
+
+  -- a way in which a line is answered, said where the state after it is good
+  abbrev Ways : (P Q : S → List ℕ → List ℕ → S → Type 0) → Type 0
+  Ways P Q = (old : S) (line out : List ℕ) (new : S) → P old line out new → good new → Q old line out new × good old
+
+  honest_line : Ways (AnswersLine Said) (AnswersLine Sound)
+  honest_line old line out new a here = let one = honest_read old a.0 out new a.2 here in ((a.0, a.1, one.0), one.1)
+
+  honest_leading : (group : Group) (next : Next) → Ways (LineLeadsTo group next Said) (LineLeadsTo group next Sound)
+  honest_leading group next old line out new a here = let one = honest_leads group next old a.0 out new a.2 here in ((a.0, a.1, one.0), one.1)
+
+  honest_each : (P Q : S → List ℕ → List ℕ → S → Type 0) → Ways P Q → (old : S) (lines : List (List ℕ)) (out : List ℕ) (new : S) → AnswersEach P old lines out new → good new
+      → AnswersEach Q old lines out new × good old
+  honest_each P Q one old [] out new a here = ((a.0, a.1), subst good a.1 here)
+  honest_each P Q one old (line ∷ lines) out new a here =
+      let rest = honest_each P Q one a.0 lines a.2 new a.5 here in
+      let first = one old line a.1 a.0 a.3 rest.1 in
+      ((a.0, a.1, a.2, first.0, a.4, rest.0), first.1)
+
   pub honest_lines : (old : S) (lines : List (List ℕ)) (out : List ℕ) (new : S) → Answers Said old lines out new → good new → Answers Sound old lines out new × good old
-  honest_lines old [] out new a here = ((a.0, a.1), subst good a.1 here)
-  honest_lines old (line ∷ lines) out new a here =
-      let rest = honest_lines a.0 lines a.2 new a.5 here in
-      let one = honest_read old a.3.0 a.1 a.0 a.3.2 rest.1 in
-      ((a.0, a.1, a.2, (a.3.0, a.3.1, one.0), a.4, rest.0), one.1)
+  honest_lines old lines out new a here = honest_each (AnswersLine Said) (AnswersLine Sound) honest_line old lines out new a here
+
+  honest_passes : (group : Group) (old : S) (lines : List (List ℕ)) (out : List ℕ) (new : S) → PassesAll group Said old lines out new → good new → PassesAll group Sound old lines out new × good old
+  honest_passes group old lines out new a here = honest_each (Passes group Said) (Passes group Sound) (honest_leading group Line) old lines out new a here
+
+  honest_ends_at : (group : Group) (P Q : S → List ℕ → List ℕ → S → Type 0) → Ways P Q → {old new : S} {lines : List (List ℕ)} {out : List ℕ} → EndsAt group Said P old lines out new → good new
+      → EndsAt group Sound Q old lines out new
+  honest_ends_at group P Q one {old} {new} ends here =
+      let last = one ends.mid ends.line ends.answer new ends.last here in
+      record {
+        passed = ends.passed;
+        line = ends.line;
+        others = ends.others;
+        before = ends.before;
+        answer = ends.answer;
+        mid = ends.mid;
+        all_lines = ends.all_lines;
+        all_out = ends.all_out;
+        passes = (honest_passes group old ends.passed ends.before ends.mid ends.passes last.1).0;
+        last = last.0;
+      }
 
   pub honest_settled : (old new : S) → HasSettled Said old new → good new → HasSettled Sound old new × good old
   honest_settled old new settled here = ((settled.0, (settled.1.did here, here)), settled.1.before here)
@@ -53,23 +101,36 @@ module _ {S : Type 0} (good : S → Type 0) (m : Machine S) where
   honest_ends false true old end out new ends here = ((ends.0, (ends.1.did here, here), ends.2, ends.3), ends.1.before here)
   honest_ends false false old end out new ends here = ((ends.0, ends.1, ends.2), subst good ends.2 here)
 
-  pub honest_end : (part : List ℕ) (old : S) (end : ServeEnd) (new : S) (output : Output) → EndsWith Said part old end new output → good new → EndsWith Sound part old end new output
-  honest_end part old end new output e here =
-      (e.0, e.1, e.2, (honest_ends (m.session old).broken (nat_lt (m.session old).acknowledged (m.session old).accepted) old end e.1 new e.3 here).0, e.4)
+  honest_finish : (group : Group) (part : List ℕ) (old : S) (end : ServeEnd) (out : List ℕ) (new : S) → Finishes group Said part old end out new → good new → Finishes group Sound part old end out new
+  honest_finish (Of size) part old end out new f here =
+      (honest_ends (m.session old).broken (nat_lt (m.session old).acknowledged (m.session old).accepted) old end out new f here).0
+  honest_finish Whole part old end out new f here = f
 
-  pub honest_served : {old new : S} {left left' written written' : Option (List ℕ)} {pending : Pending} → Served Said old new left left' written written' pending → good new
-      → Served Sound old new left left' written written' pending
-  honest_served {old} {new} s here = record {
+  pub honest_end : (group : Group) (part : List ℕ) (old : S) (end : ServeEnd) (new : S) (output : Output) → EndsWith group Said part old end new output → good new → EndsWith group Sound part old end new output
+  honest_end group part old end new output e here = (e.0, e.1, e.2, honest_finish group part old end e.1 new e.3 here, e.4)
+
+  pub honest_may : (group : Group) (old new : S) → MayHaveSettled group Said old new → good new → MayHaveSettled group Sound old new
+  honest_may (Of size) old new settled here = (honest_last old new settled here).0
+  honest_may Whole old new settled here = settled
+
+  pub honest_served : (group : Group) {old new : S} {left left' written written' : Option (List ℕ)} {pending : Pending} → Served group Said old new left left' written written' pending → good new
+      → Served group Sound old new left left' written written' pending
+  honest_served group {old} {new} s here = record {
     input = s.input;
     out = s.out;
     read = s.read;
-    answered = (honest_lines old (cut s.input).lines s.out new s.answered here).0;
+    passes = (honest_passes group old (cut s.input).lines s.out new s.passes here).0;
     wrote = s.wrote;
     stands = s.stands;
   }
 
-  pub honest_some : (old new : S) (io : Exchange) → RunsSome Said old new io → good new → RunsSome Sound old new io
-  honest_some old new io some here = (some.0, some.1, some.2, some.3, some.4, some.5, (honest_lines old some.1 some.3 new some.6 here).0)
+  pub honest_some : (group : Group) (old new : S) (io : Exchange) → RunsSome group Said old new io → good new → RunsSome group Sound old new io
+  honest_some group old new io some here = (some.0, some.1, some.2, honest_ends_at group (AnswersLine Said) (AnswersLine Sound) honest_line some.3 here)
+
+  pub honest_stop : (group : Group) (old : S) (end : ServeEnd) (new : S) (io : Exchange) → ServesToEnd group Said old end new io → good new → ServesToEnd group Sound old end new io
+  unfolding honest_ends_at
+  honest_stop group old end new io stop here =
+      (stop.0, stop.1, stop.2, stop.3, honest_ends_at group (Stops group Said) (Stops group Sound) (honest_leading group Stop) stop.4 here, stop.5, stop.6, stop.7, stop.8, stop.9)
 
   abbrev pub honest_runs : {old new : S} {end : ServeEnd} {io : Exchange} → RunsLines Said old new end io → good new → RunsLines Sound old new end io × good old
   honest_runs {old} {new} run here =
@@ -129,18 +190,22 @@ module _ {D : Type 0} (g : Ghosts D) where
   abbrev pub sound_traces : Machine (Trace D)
   sound_traces = and_good (λ trace. g.honest trace.store.disk) (traces g)
 
-  pub sound_served : {old new : StoreView D} {left left' written written' : Option (List ℕ)} {pending : Pending} → Served (stores_while_honest g) old new left left' written written' pending → g.honest new.disk
-      → Served sound_stores old new left left' written written' pending
-  sound_served s here = honest_served (λ (store : StoreView D). g.honest store.disk) (stores g) s here
+  pub sound_served : (group : Group) {old new : StoreView D} {left left' written written' : Option (List ℕ)} {pending : Pending} → Served group (stores_while_honest g) old new left left' written written' pending → g.honest new.disk
+      → Served group sound_stores old new left left' written written' pending
+  sound_served group s here = honest_served (λ (store : StoreView D). g.honest store.disk) (stores g) group s here
 
-  pub sound_some : (old new : StoreView D) (io : Exchange) → RunsSome (stores_while_honest g) old new io → g.honest new.disk → RunsSome sound_stores old new io
-  sound_some old new io some here = honest_some (λ (store : StoreView D). g.honest store.disk) (stores g) old new io some here
+  pub sound_some : (group : Group) (old new : StoreView D) (io : Exchange) → RunsSome group (stores_while_honest g) old new io → g.honest new.disk → RunsSome group sound_stores old new io
+  sound_some group old new io some here = honest_some (λ (store : StoreView D). g.honest store.disk) (stores g) group old new io some here
 
-  pub sound_end : (part : List ℕ) (old : StoreView D) (end : ServeEnd) (new : StoreView D) (output : Output) → EndsWith (stores_while_honest g) part old end new output → g.honest new.disk → EndsWith sound_stores part old end new output
-  sound_end part old end new output e here = honest_end (λ (store : StoreView D). g.honest store.disk) (stores g) part old end new output e here
+  pub sound_stop : (group : Group) (old : StoreView D) (end : ServeEnd) (new : StoreView D) (io : Exchange) → ServesToEnd group (stores_while_honest g) old end new io → g.honest new.disk → ServesToEnd group sound_stores old end new io
+  sound_stop group old end new io stop here = honest_stop (λ (store : StoreView D). g.honest store.disk) (stores g) group old end new io stop here
 
-  pub sound_settled : (old new : StoreView D) → HasSettled (stores_while_honest g) old new → g.honest new.disk → HasSettled sound_stores old new
-  sound_settled old new settled here = (honest_settled (λ (store : StoreView D). g.honest store.disk) (stores g) old new settled here).0
+  pub sound_end : (group : Group) (part : List ℕ) (old : StoreView D) (end : ServeEnd) (new : StoreView D) (output : Output) → EndsWith group (stores_while_honest g) part old end new output → g.honest new.disk
+      → EndsWith group sound_stores part old end new output
+  sound_end group part old end new output e here = honest_end (λ (store : StoreView D). g.honest store.disk) (stores g) group part old end new output e here
+
+  pub sound_may : (group : Group) (old new : StoreView D) → MayHaveSettled group (stores_while_honest g) old new → g.honest new.disk → MayHaveSettled group sound_stores old new
+  sound_may group old new settled here = honest_may (λ (store : StoreView D). g.honest store.disk) (stores g) group old new settled here
 
   pub sound_runs : {old new : StoreView D} {end : ServeEnd} {io : Exchange} → RunsLines (stores_while_honest g) old new end io → g.honest new.disk → RunsLines sound_stores old new end io
   sound_runs run here = (honest_runs (λ (store : StoreView D). g.honest store.disk) (stores g) run here).0

@@ -1,5 +1,5 @@
 -- A whole run over a disk: an opening, and what is served then.
-use Rattle.std.proofs.Common.{◌≡◌, ◌⊎◌, inl, inr, ⊎_elim, ℕ, ◌≤◌, Bool, true, false, nat_lt, is_some, List, [], ◌∷◌, Option, Some, None, Result, Ok, Err, refl, sym, ap, ◌∙◌, subst, arith}
+use Rattle.std.proofs.Common.{◌≡◌, ◌⊎◌, inl, inr, ⊎_elim, ℕ, ◌≤◌, Bool, true, false, ◌||◌, if◌then◌else◌, nat_lt, is_some, List, [], ◌∷◌, Option, Some, None, Result, Ok, Err, refl, sym, ap, ◌∙◌, subst, arith}
 use Rattle.org_disk.specs.declared.disk.Disk.{Ghosts}
 use Rattle.std.specs.Prelude.{IsSomeAnd, IsTrue, IsFalse, slice_get}
 use Rattle.org_disk.specs.Disk.{AreImages, HasRisen, LeavesOnly}
@@ -22,12 +22,15 @@ use Rattle.org_commands.specs.Session.{Session, StoreView, Holds}
 use Rattle.org_commands.specs.Step.{Settles}
 use Rattle.org_commands.proofs.Keeping.{others_same}
 use Rattle.org_serve.specs.declared.whole.Setup.{Setup}
-use Rattle.org_serve.specs.Pipes.{Exchange}
+use Rattle.org_commands.specs.declared.tally.Group.{Group}
+use Rattle.org_commands.specs.declared.tally.Group.TheVariants.{Of, Whole}
+use Rattle.org_serve.specs.Lines.{cut}
+use Rattle.org_serve.specs.Pipes.{Exchange, output_of}
 use Rattle.org_serve.specs.declared.end.ServeEnd.{ServeEnd}
-use Rattle.org_serve.specs.declared.end.ServeEnd.TheVariants.{End, Device, Read, Write}
+use Rattle.org_serve.specs.declared.end.ServeEnd.TheVariants.{End, Unsettled, Device, Read, Write}
 use Rattle.org_store.specs.History.{Trace, Lists}
 use Rattle.org_serve.specs.History.{Reaches}
-use Rattle.org_serve.specs.Serving.{EndsBy, Finishes, RunsLines, RunsAndWrites, Serves, end_of, stores_while_honest}
+use Rattle.org_serve.specs.Serving.{EndsBy, FinishesGroups, MayHaveSettled, RunsLines, RunsAndWrites, Serves, ServesAll, ServesInput, WritesSome, end_of, stores_while_honest, traces_while_honest, whole_end}
 use Rattle.org_serve.specs.Whole.{Begins, ServesOver, ServesDisk, HoldsServed, IsForeign, IsIntermediate, IsIntermediateTo, IsDurable}
 use Rattle.org_serve.proofs.Foreign.{leaves_foreign}
 use Rattle.org_serve.proofs.History.{at_first, lift_run, lift_wrote, session_of_traced, since, whole_prefix}
@@ -71,9 +74,10 @@ module _ {D : Type 0} (g : Ghosts D) (setup : Setup) (disk : D) (store begun : S
       → (ran : RunsAndWrites (stores_while_honest g) begun after end io)
       → (g.honest now → Serves begun.session end after.session io)
       → ServesOver g setup disk now end io
-  serves few sorted sized began reopened dirty_files alone after now given_up run reported =
+  serves few sorted sized began reopened dirty_files alone {io = io} after now given_up run reported =
       let first : Trace D = record { store = begun; texts = begun.session.files ∷ [] } in
-      let past = lift_wrote g first run in record {
+      let past = lift_wrote g first run in
+      let group_is : begun.session.group ≡ setup.group = ap (λ (k : StoreView D). k.session.group) is in record {
         first = first;
         last = record { store = after; texts = (lift_run g first run.0).0 };
         began = began;
@@ -85,7 +89,8 @@ module _ {D : Type 0} (g : Ghosts D) (setup : Setup) (disk : D) (store begun : S
         alone = λ h. alone_fewer g (IsForeign setup.names.items (contents (g.files disk) journal_name)) (IsUnconcerned (contents (g.files disk) journal_name)) disk begun.disk (alone h) (λ name foreign. foreign.unconcerned);
         run = past.0;
         given_up = given_up;
-        reported = past.1;
+        settled = subst (λ (group : Group). MayHaveSettled group (traces_while_honest g) past.0.mid (record { store = after; texts = (lift_run g first run.0).0 })) group_is past.2;
+        reported = λ write. subst (λ (group : Group). WritesSome group past.0.input past.0.others past.0.out after.session.acknowledged (output_of io)) group_is (past.1 write);
         so_far = λ here way honestly.
             session_of_traced g first way.answered way.written here
             (sound_lines g first way.answered way.written here way.before honestly).0;
@@ -131,6 +136,21 @@ ended false true s out new ends is none = settles ends.0 ends.1 ends.2
     settles (Err run.Device) step same = absurd (cc)
     settles (Err Broken) step same = absurd (cc)
 ended false false s out new ends is none = subst (λ (t : Session). (t.broken ≡ false) × (t.accepted ≤ t.acknowledged)) (sym ends.2) (sym is, none refl)
+
+-- .. and so has one that did an input whole
+end_unrefused : (broken : Bool) → End ≡ (if broken then Device else Unsettled) → ⊥
+end_unrefused true is = cc
+end_unrefused false is = cc
+
+ended_whole : (rest : List ℕ) (s : Session) → End ≡ whole_end rest s → (s.broken ≡ false) × (s.accepted ≤ s.acknowledged)
+ended_whole [] s is = go s.broken (nat_lt s.acknowledged s.accepted) refl refl is
+  where
+    go : (broken pending : Bool) → s.broken ≡ broken → nat_lt s.acknowledged s.accepted ≡ pending → End ≡ (if pending || broken then (if broken then Device else Unsettled) else End)
+        → (s.broken ≡ false) × (s.accepted ≤ s.acknowledged)
+    go broken true fell some same = absurd (end_unrefused broken same)
+    go true false fell some same = absurd (end_unrefused true same)
+    go false false fell none same = (fell, grind (arith, none))
+ended_whole (b ∷ rest) s is = absurd (end_unrefused s.broken is)
 
 module _ {D : Type 0} {g : Ghosts D}
     (only_now : (disk : D) (image : Image) → g.honest disk → g.left_since disk (g.instant disk) image → AreImages (g.files disk) image)
@@ -181,9 +201,24 @@ module _ {D : Type 0} {g : Ghosts D}
   all_settled : g.honest now → end ≡ End → (served.last.store.session.broken ≡ false) × (served.last.store.session.accepted ≤ served.last.store.session.acknowledged)
   all_settled honest_now well =
       let whole = (served.serves honest_now).all (λ (read : end ≡ Read). apart_read (sym well ∙ read)) (λ (write : end ≡ Write). apart_write (sym well ∙ write)) in
-      let tells = whole.4 in
-      let finish : Finishes model tells.0 End tells.3 served.last.store.session = subst (λ e. Finishes model tells.0 e tells.3 served.last.store.session) well tells.6 in
-      ended tells.0.broken (nat_lt tells.0.acknowledged tells.0.accepted) tells.0 tells.3 served.last.store.session finish refl (not_less tells.0.acknowledged tells.0.accepted)
+      all_of served.first.store.session.group whole
+    where
+      end_of_all : (group : Group) → ServesAll group model served.first.store.session end served.last.store.session io
+          → (served.last.store.session.broken ≡ false) × (served.last.store.session.accepted ≤ served.last.store.session.acknowledged)
+      end_of_all (Of size) all =
+          let tells = all.4 in
+          let finish : FinishesGroups model tells.0 End tells.3 served.last.store.session = subst (λ e. FinishesGroups model tells.0 e tells.3 served.last.store.session) well tells.6 in
+          ended tells.0.broken (nat_lt tells.0.acknowledged tells.0.accepted) tells.0 tells.3 served.last.store.session finish refl (not_less tells.0.acknowledged tells.0.accepted)
+      end_of_all Whole all =
+          let tells = all.4 in
+          let whole = ended_whole (cut all.0).rest tells.0 (sym well ∙ tells.6.0) in
+          subst (λ (t : Session). (t.broken ≡ false) × (t.accepted ≤ t.acknowledged)) (sym tells.6.2) whole
+
+      all_of : (group : Group) → ServesInput group model served.first.store.session end served.last.store.session io
+          → (served.last.store.session.broken ≡ false) × (served.last.store.session.accepted ≤ served.last.store.session.acknowledged)
+      all_of (Of size) all = end_of_all (Of size) all
+      all_of Whole (inl all) = end_of_all Whole all
+      all_of Whole (inr stop) = absurd (end_unrefused served.last.store.session.broken (sym well ∙ stop.9))
 
   -- What a crash leaves of the whole run.
   module _ (rest : g.honest served.first.store.disk → IsAtRest (g.files served.first.store.disk))

@@ -117,6 +117,7 @@ module _ {D : Type 0} (g : Ghosts D)
       alone = λ h. alone_behind served.first.store.disk (served.began h) (served.alone h);
       run = served.run;
       given_up = served.given_up;
+      settled = served.settled;
       reported = served.reported;
       so_far = served.so_far;
       serves = served.serves;

@@ -1,6 +1,6 @@
 -- What serving an input does, for any machine `m` that runs the lines: the model's sessions, stores
 -- over a disk, or these with their traces.
-use Rattle.std.specs.Prelude.{◌≡◌, ◌≢◌, ◌⊎◌, ℕ, ◌<◌, ◌≤◌, Bool, true, false, IsTrue, IsFalse, nat_lt, List, [], ◌∷◌, ◌++◌, length, None, Some, Result, Ok, Err}
+use Rattle.std.specs.Prelude.{◌≡◌, ◌≢◌, ◌⊎◌, ℕ, ◌<◌, ◌≤◌, Bool, true, false, ◌||◌, if◌then◌else◌, IsTrue, IsFalse, nat_lt, List, [], ◌∷◌, ◌++◌, length, None, Some, Result, Ok, Err}
 use Rattle.std.specs.Io.KnownBytes.{Consumes, IsAtEnd}
 use Rattle.org_disk.specs.declared.disk.Disk.{Ghosts}
 use Rattle.org_disk.specs.Accounts.{Accounts}
@@ -11,6 +11,8 @@ use Rattle.org_commands.specs.declared.command.Command.{Command}
 use Rattle.org_commands.specs.declared.command.Reply.{Reply}
 use Rattle.org_commands.specs.declared.command.RunFault.{RunFault}
 use Rattle.org_commands.specs.declared.command.RunFault.TheVariants as run
+use Rattle.org_commands.specs.declared.tally.Group.{Group}
+use Rattle.org_commands.specs.declared.tally.Group.TheVariants.{Of, Whole}
 use Rattle.org_commands.specs.InOrder.{with_texts}
 use Rattle.org_commands.specs.Runs.{IsOnDisk}
 use Rattle.org_commands.specs.Session.{Session, StoreView}
@@ -23,10 +25,12 @@ use Rattle.org_serve.specs.declared.fault.LineFault.{LineFault}
 use Rattle.org_serve.specs.declared.fault.LineFault.TheVariants.{BadLine, OutOfMemory}
 use Rattle.org_serve.specs.declared.pending.Pending.{Pending}
 use Rattle.org_serve.specs.declared.pipes.Sink as sinks
+use Rattle.org_serve.specs.declared.serving.Next.{Next}
+use Rattle.org_serve.specs.declared.serving.Next.TheVariants.{Line, Stop}
 use Rattle.org_serve.specs.Grammar.{command_of}
 use Rattle.org_serve.specs.Lines.{Stands, cut, limit}
 use Rattle.org_serve.specs.Pipes.{Adds, AddsSome, Exchange, Output, output_of}
-use Rattle.org_serve.specs.Replies.{answer_text, bad_line, fault_text, no_memory, settled_text}
+use Rattle.org_serve.specs.Replies.{answer_text, bad_line, fault_line, fault_text, no_memory, settled_text}
 use Rattle.org_serve.specs.Writes.{CountsFailure, Writes}
 
 -- The machines.
@@ -74,41 +78,135 @@ AnswersRead m old (Ok command) out new =
     × m.makes old (Ran command answer) new
     × (out ≡ answer_text answer (m.session old).acknowledged (m.session new).acknowledged)
 
+-- It is done: it is a command, and the answer is no refusal and no fault.
+abbrev pub DoesRead : {S : Type 0} → Machine S → S → Result Command LineFault → List ℕ → S → Type 0
+DoesRead m old (Err fault) out new = ⊥
+DoesRead m old (Ok command) out new =
+    (reply : Reply)
+    × m.makes old (Ran command (Ok reply)) new
+    × (out ≡ answer_text (Ok reply) (m.session old).acknowledged (m.session new).acknowledged)
+
+-- It isn't done: it isn't run, or is refused, or gets a fault.
+abbrev pub RefusesRead : {S : Type 0} → Machine S → S → Result Command LineFault → List ℕ → S
+    → Type 0
+RefusesRead m old (Err fault) out new = (out ≡ fault_text fault) × (new ≡ old)
+RefusesRead m old (Ok command) out new =
+    (fault : RunFault) × m.makes old (Ran command (Err fault)) new × (out ≡ fault_line fault)
+
+-- what comes behind a line in a store with this group: the next one; or the end, where commands are
+-- to be done whole, and the line isn't done
+abbrev pub behind : Group → Bool → Next
+behind (Of size) is_done = Line
+behind Whole true = Line
+behind Whole false = Stop
+
+-- what a line was read as is answered so, and this comes behind it
+abbrev pub ReadLeadsTo : {S : Type 0} → Group → Next → Machine S → S → Result Command LineFault
+    → List ℕ → S → Type 0
+ReadLeadsTo (Of size) Line m old read out new = AnswersRead m old read out new
+ReadLeadsTo (Of size) Stop m old read out new = ⊥
+ReadLeadsTo Whole Line m old read out new = DoesRead m old read out new
+ReadLeadsTo Whole Stop m old read out new = RefusesRead m old read out new
+
+-- .. or it is answered, and a write fails
+abbrev pub ReadOutcome : {S E : Type 0} → Group → Result Next E → Machine S → S
+    → Result Command LineFault → List ℕ → S → Type 0
+ReadOutcome group (Ok next) = ReadLeadsTo group next
+ReadOutcome group (Err fault) = AnswersRead
+
 -- a line is answered so, as what it may be read as
 abbrev pub AnswersLine : {S : Type 0} → Machine S → S → List ℕ → List ℕ → S → Type 0
 AnswersLine m old line out new =
     (read : Result Command LineFault) × IsReadAs line read × AnswersRead m old read out new
 
--- Lines are answered, one after another.
-abbrev pub Answers : {S : Type 0} → Machine S → S → List (List ℕ) → List ℕ → S → Type 0
-Answers m old [] out new = (out ≡ []) × (new ≡ old)
-Answers {S = S} m old (line ∷ lines) out new =
-    (mid : S) × (first : List ℕ) × (later : List ℕ)
-    × AnswersLine m old line first mid
-    × (out ≡ first ++ later)
-    × Answers m mid lines later new
+-- .. and this comes behind it
+abbrev pub LineLeadsTo : {S : Type 0} → Group → Next → Machine S → S → List ℕ → List ℕ → S → Type 0
+LineLeadsTo group next m old line out new =
+    (read : Result Command LineFault)
+    × IsReadAs line read
+    × ReadLeadsTo group next m old read out new
 
--- The whole lines of a piece of the input are answered, and the rest of it is kept.
-abbrev pub FeedsAll : {S : Type 0} → Machine S → S → List ℕ → S → Output → Pending → Type 0
-FeedsAll m old bytes new output pending =
+-- .. or a write fails
+abbrev pub LineOutcome : {S E : Type 0} → Group → Result Next E → Machine S → S → List ℕ → List ℕ
+    → S → Type 0
+LineOutcome group (Ok next) = LineLeadsTo group next
+LineOutcome group (Err fault) = AnswersLine
+
+-- .. and it is followed by the next one
+abbrev pub Passes : {S : Type 0} → Group → Machine S → S → List ℕ → List ℕ → S → Type 0
+Passes group = LineLeadsTo group Line
+
+-- .. and it is the last one
+abbrev pub Stops : {S : Type 0} → Group → Machine S → S → List ℕ → List ℕ → S → Type 0
+Stops group = LineLeadsTo group Stop
+
+-- Lines are answered, one after another, each of them in this way.
+abbrev pub AnswersEach : {S : Type 0} → (S → List ℕ → List ℕ → S → Type 0) → S → List (List ℕ)
+    → List ℕ → S → Type 0
+AnswersEach OneLine old [] out new = (out ≡ []) × (new ≡ old)
+AnswersEach {S = S} OneLine old (line ∷ lines) out new =
+    (mid : S) × (first : List ℕ) × (later : List ℕ)
+    × OneLine old line first mid
+    × (out ≡ first ++ later)
+    × AnswersEach OneLine mid lines later new
+
+abbrev pub Answers : {S : Type 0} → Machine S → S → List (List ℕ) → List ℕ → S → Type 0
+Answers m = AnswersEach (AnswersLine m)
+
+-- .. and behind the last of them serving goes on
+abbrev pub PassesAll : {S : Type 0} → Group → Machine S → S → List (List ℕ) → List ℕ → S → Type 0
+PassesAll group m = AnswersEach (Passes group m)
+
+-- Lines are answered up to one that is the last: `Last` says in which way.
+pub record EndsAt {S : Type 0} (group : Group) (m : Machine S)
+    (Last : S → List ℕ → List ℕ → S → Type 0) (old : S) (lines : List (List ℕ)) (out : List ℕ)
+    (new : S) : Type 0 where
+  pub passed : List (List ℕ)
+  pub line : List ℕ
+  pub others : List (List ℕ)
+  pub before : List ℕ
+  pub answer : List ℕ
+  pub mid : S
+  pub all_lines : lines ≡ passed ++ line ∷ others
+  pub all_out : out ≡ before ++ answer
+  pub passes : PassesAll group m old passed before mid
+  pub last : Last mid line answer new
+
+-- The whole lines of the input so far are answered, and the rest of it is kept.
+abbrev pub FeedsAll : {S : Type 0} → Group → Machine S → S → List ℕ → S → Output → Pending → Type 0
+FeedsAll group m old bytes new output pending =
     (out : List ℕ)
-    × Answers m old (cut bytes).lines out new
+    × PassesAll group m old (cut bytes).lines out new
     × Adds output out
     × Stands pending (cut bytes).rest
 
--- Some of its lines, from the first on, were run, and some of their replies written.
-abbrev pub FeedsSome : {S : Type 0} → Machine S → S → List ℕ → S → Output → Type 0
-FeedsSome m old bytes new output =
-    (ran : List (List ℕ)) × (others : List (List ℕ)) × (out : List ℕ)
-    × ((cut bytes).lines ≡ ran ++ others)
-    × Answers m old ran out new
+-- Its lines are answered up to one at which serving ends: of the last piece, which has so many
+-- bytes, fewer stand behind that line.
+abbrev pub FeedsToEnd : {S : Type 0} → Group → Machine S → S → List ℕ → ℕ → S → Output → Type 0
+FeedsToEnd group m old bytes piece new output =
+    (out : List ℕ) × (later : List ℕ)
+    × (ends : EndsAt group m (Stops group m) old (cut bytes).lines out new)
+    × ((cut later).lines ≡ ends.others)
+    × ((cut later).rest ≡ (cut bytes).rest)
+    × (length later < piece)
+    × Adds output out
+
+-- Its lines are run up to one, and some of their replies written.
+abbrev pub FeedsSome : {S : Type 0} → Group → Machine S → S → List ℕ → S → Output → Type 0
+FeedsSome group m old bytes new output =
+    (out : List ℕ)
+    × EndsAt group m (AnswersLine m) old (cut bytes).lines out new
     × AddsSome output out
 
--- a piece was served, or a write failed
-abbrev pub Feeds : {S A E : Type 0} → Machine S → S → List ℕ → S → Output → Pending → Result A E
-    → Type 0
-Feeds m old bytes new output pending (Ok _) = FeedsAll m old bytes new output pending
-Feeds m old bytes new output pending (Err _) = FeedsSome m old bytes new output
+-- A piece was served, before which this part of a line was read; or a write failed.
+abbrev pub Feeds : {S E : Type 0} → Group → Machine S → S → (part piece : List ℕ) → S → Output
+    → Pending → Result Next E → Type 0
+Feeds group m old part piece new output pending (Ok Line) =
+    FeedsAll group m old (part ++ piece) new output pending
+Feeds group m old part piece new output pending (Ok Stop) =
+    FeedsToEnd group m old (part ++ piece) (length piece) new output
+Feeds group m old part piece new output pending (Err _) =
+    FeedsSome group m old (part ++ piece) new output
 
 -- the store was broken meanwhile
 abbrev pub HasBroken : Session → Session → Type 0
@@ -116,12 +214,12 @@ HasBroken old new = IsFalse old.broken × IsTrue new.broken
 
 -- What answering the line that ends with these bytes does to a store over a disk and to a writer;
 -- `pending` is what was kept of it from the pieces before.
-pub record EndsLine {D W A E : Type 0} (g : Ghosts D) (w : sinks.Ghosts W) (pending : Pending)
-    (last : List ℕ) (result : Result A E) (old new : StoreView D) (writer writer' : W)
-    : Type 0 where
+pub record EndsLine {D W E : Type 0} (g : Ghosts D) (w : sinks.Ghosts W) (group : Group)
+    (pending : Pending) (last : List ℕ) (result : Result Next E) (old new : StoreView D)
+    (writer writer' : W) : Type 0 where
   pub step : (part : List ℕ) → Stands pending part
       → (out : List ℕ)
-      × AnswersLine (stores_while_honest g) old (part ++ last) out new
+      × LineOutcome group result (stores_while_honest g) old (part ++ last) out new
       × Writes w writer writer' result out
   pub counts : CountsFailure w writer writer' result
   -- a store that was broken is left
@@ -134,6 +232,20 @@ pub record EndsLine {D W A E : Type 0} (g : Ghosts D) (w : sinks.Ghosts W) (pend
 abbrev pub AnswersRest : List ℕ → List ℕ → Type 0
 AnswersRest [] out = out ≡ []
 AnswersRest (b ∷ bytes) out = (out ≡ bad_line) ⊎ (out ≡ no_memory)
+
+-- how an input ends of which a line isn't done, in a store that is to do it whole
+abbrev pub refused_end : Session → ServeEnd
+refused_end s = if s.broken then Device else Unsettled
+
+-- .. and one of which each line is done
+abbrev pub unrefused_end : Session → ServeEnd
+unrefused_end s =
+    if nat_lt s.acknowledged s.accepted || s.broken then refused_end s else End
+
+-- .. and one of which each line is done, and this stands behind the last newline
+abbrev pub whole_end : List ℕ → Session → ServeEnd
+whole_end [] s = unrefused_end s
+whole_end (b ∷ bytes) s = refused_end s
 
 -- how serving ends after the settling, which never answers a refusal
 abbrev pub end_of : Result (Unit {0}) RunFault → ServeEnd
@@ -165,79 +277,127 @@ EndsBy m false true old end out new =
     × (out ≡ settled_text answer (m.session new).acknowledged)
 EndsBy m false false old end out new = (end ≡ End) × (out ≡ []) × (new ≡ old)
 
-abbrev pub Finishes : {S : Type 0} → Machine S → S → ServeEnd → List ℕ → S → Type 0
-Finishes m old end out new =
+abbrev pub FinishesGroups : {S : Type 0} → Machine S → S → ServeEnd → List ℕ → S → Type 0
+FinishesGroups m old end out new =
     let s = m.session old in EndsBy m s.broken (nat_lt s.acknowledged s.accepted) old end out new
 
 -- What stands behind the last newline is answered, and then the settling.
-abbrev pub EndsWith : {S : Type 0} → Machine S → List ℕ → S → ServeEnd → S → Output → Type 0
-EndsWith m part old end new output =
+abbrev pub EndsGroupsWith : {S : Type 0} → Machine S → List ℕ → S → ServeEnd → S → Output → Type 0
+EndsGroupsWith m part old end new output =
     (last : List ℕ) × (tail : List ℕ)
     × AnswersRest part last
-    × Finishes m old end tail new
+    × FinishesGroups m old end tail new
+    × Adds output (last ++ tail)
+
+-- Serving ends at the end of an input behind whose last newline this stands. Commands of a group
+-- are settled then; where they are to be done whole, nothing is.
+abbrev pub Finishes : {S : Type 0} → Group → Machine S → List ℕ → S → ServeEnd → List ℕ → S
+    → Type 0
+Finishes (Of size) m rest old end out new = FinishesGroups m old end out new
+Finishes Whole m rest old end out new =
+    (end ≡ whole_end rest (m.session old)) × (out ≡ []) × (new ≡ old)
+
+-- What stands behind the last newline is answered, and then the end is made.
+abbrev pub EndsWith : {S : Type 0} → Group → Machine S → List ℕ → S → ServeEnd → S → Output → Type 0
+EndsWith group m part old end new output =
+    (last : List ℕ) × (tail : List ℕ)
+    × AnswersRest part last
+    × Finishes group m part old end tail new
     × Adds output (last ++ tail)
 
 -- What is written at the end of the input, where so many commands are acknowledged then: for what
 -- stands behind the last newline, and for the settling.
-abbrev pub EndsText : List ℕ → ℕ → List ℕ → Type 0
-EndsText rest acknowledged text =
+abbrev pub EndsGroupsText : List ℕ → ℕ → List ℕ → Type 0
+EndsGroupsText rest acknowledged text =
     (last : List ℕ) × (answer : Result (Unit {0}) RunFault)
     × AnswersRest rest last
     × (text ≡ last ++ settled_text answer acknowledged)
 
+abbrev pub EndsText : Group → List ℕ → ℕ → List ℕ → Type 0
+EndsText (Of size) rest acknowledged text = EndsGroupsText rest acknowledged text
+EndsText Whole rest acknowledged text = AnswersRest rest text
+
+-- the settling at the end was made or wasn't; where commands are to be done whole, it wasn't
+abbrev pub MayHaveSettled : {S : Type 0} → Group → Machine S → S → S → Type 0
+MayHaveSettled (Of size) m old new = (new ≡ old) ⊎ HasSettled m old new
+MayHaveSettled Whole m old new = new ≡ old
+
 -- A whole input.
 
 -- What is written for it, how serving ends, and the state after it.
-abbrev pub Transcript : {S : Type 0} → Machine S → S → List ℕ → ServeEnd → List ℕ → S → Type 0
-Transcript {S = S} m old input end out new =
+abbrev pub Transcript : {S : Type 0} → Group → Machine S → S → List ℕ → ServeEnd → List ℕ → S
+    → Type 0
+Transcript {S = S} group m old input end out new =
     (mid : S) × (answers : List ℕ) × (last : List ℕ) × (tail : List ℕ)
-    × Answers m old (cut input).lines answers mid
+    × PassesAll group m old (cut input).lines answers mid
     × AnswersRest (cut input).rest last
-    × Finishes m mid end tail new
+    × Finishes group m (cut input).rest mid end tail new
     × (out ≡ answers ++ (last ++ tail))
 
 -- The input was read to its end, and its transcript is what was written.
-abbrev pub ServesAll : {S : Type 0} → Machine S → S → ServeEnd → S → Exchange → Type 0
-ServesAll m old end new io =
+abbrev pub ServesAll : {S : Type 0} → Group → Machine S → S → ServeEnd → S → Exchange → Type 0
+ServesAll group m old end new io =
     (input : List ℕ) × (out : List ℕ)
     × Consumes io.before.left io.after.left input
     × IsAtEnd io.after.left
-    × Transcript m old input end out new
+    × Transcript group m old input end out new
     × Adds (output_of io) out
+
+-- the most bytes of one read
+abbrev pub most_read : ℕ
+most_read = 4096
+
+-- The input was read up to a line that isn't done, which is the last: the replies to the lines up
+-- to that one are what was written, and fewer bytes than one read gives were read behind it.
+abbrev pub ServesToEnd : {S : Type 0} → Group → Machine S → S → ServeEnd → S → Exchange → Type 0
+ServesToEnd group m old end new io =
+    (input : List ℕ) × (out : List ℕ) × (later : List ℕ)
+    × Consumes io.before.left io.after.left input
+    × (ends : EndsAt group m (Stops group m) old (cut input).lines out new)
+    × ((cut later).lines ≡ ends.others)
+    × ((cut later).rest ≡ (cut input).rest)
+    × (length later < most_read)
+    × Adds (output_of io) out
+    × (end ≡ refused_end (m.session new))
+
+-- The input was served to its end; or, where it is to be done whole, to a line that isn't done.
+abbrev pub ServesInput : {S : Type 0} → Group → Machine S → S → ServeEnd → S → Exchange → Type 0
+ServesInput (Of size) m old end new io = ServesAll (Of size) m old end new io
+ServesInput Whole m old end new io =
+    ServesAll Whole m old end new io ⊎ ServesToEnd Whole m old end new io
 
 -- The whole lines of what was read were answered, and nothing else was written.
-abbrev pub ServesLines : {S : Type 0} → Machine S → S → S → Exchange → Type 0
-ServesLines m old new io =
+abbrev pub ServesLines : {S : Type 0} → Group → Machine S → S → S → Exchange → Type 0
+ServesLines group m old new io =
     (input : List ℕ) × (out : List ℕ)
     × Consumes io.before.left io.after.left input
-    × Answers m old (cut input).lines out new
+    × PassesAll group m old (cut input).lines out new
     × Adds (output_of io) out
 
--- Some of the lines of what was read, from the first on, were run.
-abbrev pub RunsSome : {S : Type 0} → Machine S → S → S → Exchange → Type 0
-RunsSome m old new io =
-    (input : List ℕ) × (ran : List (List ℕ)) × (others : List (List ℕ)) × (out : List ℕ)
+-- The lines of what was read were run up to one.
+abbrev pub RunsSome : {S : Type 0} → Group → Machine S → S → S → Exchange → Type 0
+RunsSome group m old new io =
+    (input : List ℕ) × (out : List ℕ)
     × Consumes io.before.left io.after.left input
-    × ((cut input).lines ≡ ran ++ others)
-    × Answers m old ran out new
+    × EndsAt group m (AnswersLine m) old (cut input).lines out new
 
--- The input was read to its end, all its lines were run, and then the settling was made.
-abbrev pub RunsAllAndSettles : {S : Type 0} → Machine S → S → S → Exchange → Type 0
-RunsAllAndSettles {S = S} m old new io =
+-- The input was read to its end, all its lines were run, and then the settling was made or wasn't.
+abbrev pub RunsAll : {S : Type 0} → Group → Machine S → S → S → Exchange → Type 0
+RunsAll {S = S} group m old new io =
     (input : List ℕ) × (mid : S) × (out : List ℕ)
     × Consumes io.before.left io.after.left input
     × IsAtEnd io.after.left
-    × Answers m old (cut input).lines out mid
-    × HasSettled m mid new
+    × PassesAll group m old (cut input).lines out mid
+    × MayHaveSettled group m mid new
 
 -- What is read and written, by the sessions before it and after it.
 pub record Serves (old : Session) (end : ServeEnd) (new : Session) (io : Exchange) : Type 0 where
-  -- to the input's end
-  pub all : end ≢ Read → end ≢ Write → ServesAll model old end new io
+  -- to the input's end, or a line that is the last
+  pub all : end ≢ Read → end ≢ Write → ServesInput old.group model old end new io
   -- up to a read that failed, or to the last of the turns
-  pub read : end ≡ Read → ServesLines model old new io
+  pub read : end ≡ Read → ServesLines old.group model old new io
   -- up to a write that failed
-  pub write : end ≡ Write → RunsSome model old new io ⊎ RunsAllAndSettles model old new io
+  pub write : end ≡ Write → RunsSome old.group model old new io ⊎ RunsAll old.group model old new io
 
 -- Some of the lines of what was read, from the first on, were run, and then the settling was made
 -- or wasn't. Unless a write failed, what was written begins with the replies to these lines.
@@ -257,20 +417,22 @@ pub record RunsLines {S : Type 0} (m : Machine S) (old new : S) (end : ServeEnd)
 -- A write or a flush failed in a run: some of the replies to the lines that were run were written,
 -- from the first on; or all of them, all lines were run, and some was written of what is at the end
 -- of the input.
-abbrev pub WritesSome : List ℕ → List (List ℕ) → List ℕ → ℕ → Output → Type 0
-WritesSome input others out acknowledged output =
+abbrev pub WritesSome : Group → List ℕ → List (List ℕ) → List ℕ → ℕ → Output → Type 0
+WritesSome group input others out acknowledged output =
     AddsSome output out
     ⊎ ((others ≡ []) × (text : List ℕ)
-    × EndsText (cut input).rest acknowledged text
+    × EndsText group (cut input).rest acknowledged text
     × AddsSome output (out ++ text))
 
--- Some lines were run, then perhaps the settling; where a write failed, what was written begins
--- their answers.
+-- Some lines were run; where a write failed, what was written begins their answers. Then commands
+-- of a group may have been settled; those that are to be done whole were not.
 abbrev pub RunsAndWrites : {S : Type 0} → Machine S → S → S → ServeEnd → Exchange → Type 0
 RunsAndWrites m old new end io =
     (run : RunsLines m old new end io)
     × (end ≡ Write
-    → WritesSome run.input run.others run.out (m.session new).acknowledged (output_of io))
+    → WritesSome (m.session old).group run.input run.others run.out (m.session new).acknowledged
+    (output_of io))
+    × MayHaveSettled (m.session old).group m run.mid new
 
 -- What serving makes of a disk that is honest at the end: one that was at rest is left recoverable,
 -- and at rest again where the store isn't broken then; in that case the store's files have the

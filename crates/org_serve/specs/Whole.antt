@@ -22,7 +22,7 @@ use Rattle.org_serve.specs.declared.end.ServeEnd.TheVariants.{End, Device, Read,
 use Rattle.org_serve.specs.declared.whole.Setup.{Setup}
 use Rattle.org_serve.specs.History.{HoldsSince, Reaches}
 use Rattle.org_serve.specs.Pipes.{EndsForCause, Exchange, output_of}
-use Rattle.org_serve.specs.Serving.{Answers, RunsLines, Serves, WritesSome, traces_while_honest}
+use Rattle.org_serve.specs.Serving.{Answers, MayHaveSettled, RunsLines, Serves, WritesSome, traces_while_honest}
 use Rattle.org_serve.specs.Syncing.{IsNotStored, OutsideStable, IsAsFound}
 
 -- The session of a store that was just opened over these files, as it was set up: it has the given
@@ -68,10 +68,13 @@ pub record ServesOver {D : Type 0} (g : Ghosts D) (setup : Setup) (disk now : D)
       → LeavesAlone g (IsForeignTo g setup disk) disk first.store.disk
   pub run : RunsLines (traces_while_honest g) first last end io
   pub given_up : now ≡ last.store.disk
+  -- commands that are to be done whole aren't settled at the end
+  pub settled : MayHaveSettled setup.group (traces_while_honest g) run.mid last
   -- where a write or a flush failed, what was written begins the replies to the lines that were
   -- run, and what is written at the end
   pub reported : end ≡ Write
-      → WritesSome run.input run.others run.out last.store.session.acknowledged (output_of io)
+      → WritesSome setup.group run.input run.others run.out last.store.session.acknowledged
+      (output_of io)
   -- the lines that an intermediate store had answered, and their replies
   pub so_far : (here : Trace D)
       → (way : Reaches (traces_while_honest g) first run.ran run.out run.mid here)

@@ -4,9 +4,10 @@
 pub enum ServeEnd {
     /// The input ended, and every accepted command is settled.
     End,
-    /// The input ended, and memory for the last settling was refused.
+    /// Accepted commands are given up. Memory for the last settling was refused; or the input was to
+    /// be done whole, and a line of it wasn't done, or it ended without a settling.
     Unsettled,
-    /// The input ended, and the device has failed.
+    /// The input ended, or a line of it wasn't done, and the device has failed.
     Device,
     /// A read failed, or the turns were used up.
     Read,

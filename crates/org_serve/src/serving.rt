@@ -1,7 +1,8 @@
 //! Lines answered one by one, to the end of the input.
 //!
-//! A line is answered before the next one is run. What isn't settled at the end of the input is
-//! settled.
+//! A line is answered before the next one is run. In a store whose commands are settled in groups,
+//! what isn't settled at the end of the input is settled. In one whose group is whole, a line that
+//! isn't done is the last one, and what isn't settled then is given up.
 ghost use Rattle.std.specs.Prelude.{◌≡◌, ◌≢◌, ◌⊎◌, ◌++◌, List, ℕ, [], IsTrue, Result, Ok};
 ghost use Rattle.org_disk.specs.Disk.{IsCounted};
 ghost use Rattle.org_disk.specs.Accounts.{Accounts};
@@ -9,7 +10,7 @@ ghost use Rattle.org_commands.specs.declared.command.RunFault.{RunFault};
 ghost use Rattle.org_serve.specs.Lines.{cut, Stands};
 ghost use Rattle.org_serve.specs.Pipes.{Adds, AddsSome, EndsForCause};
 ghost use Rattle.org_serve.specs.Replies.{settled_text};
-ghost use Rattle.org_serve.specs.Serving.{AnswersRead, AnswersRest, EndSaysBroken, EndsLine, EndsText, EndsWith, Feeds, Finishes, HasBroken, HasSettled, IsReadAs, LeavesServedDisk, RunsAndWrites, Serves, end_of, stores_while_honest};
+ghost use Rattle.org_serve.specs.Serving.{AnswersRest, EndSaysBroken, EndsGroupsText, EndsGroupsWith, EndsLine, EndsText, EndsWith, Feeds, FinishesGroups, HasBroken, HasSettled, IsReadAs, LeavesServedDisk, MayHaveSettled, ReadOutcome, RunsAndWrites, Serves, behind, end_of, refused_end, stores_while_honest, unrefused_end, whole_end};
 ghost use Rattle.org_serve.specs.Writes.{CountsFailure, Writes, exchange, output};
 
 use crate::end::ServeEnd;
@@ -20,25 +21,35 @@ use crate::pipes::{PipeFault, Sink, Source};
 use crate::reading::read_command;
 use crate::replies::{write_answer, write_settled, write_unread};
 use org_disk::Disk;
-use org_store::{Command, RunFault, Store};
+use org_store::{Command, Group, RunFault, Store};
 use std::alloc::Global;
 
 // The most bytes of one read.
 const PIECE: usize = 4096;
 
-/// Answers the lines of a reader by a store, in at most this many reads; at the end of the input it
-/// settles what isn't settled yet. A line is answered as soon as its newline was read, whatever
-/// pieces the bytes come in.
+// What comes behind a line that was answered.
+#[derive(Clone, Copy)]
+enum Next {
+    // The next line.
+    Line,
+    // Nothing: the line isn't done, and the input is to be done whole.
+    Stop,
+}
+
+/// Answers the lines of a reader by a store, in at most this many reads. A line is answered as soon
+/// as its newline was read, whatever pieces the bytes come in. At the end of the input what isn't
+/// settled yet is settled. But where the store's group is whole, nothing is settled then, and a line
+/// that is answered by a refusal or a fault is the last one: no read is made behind it.
 ///
 /// Where it ends with `End`, `Unsettled` or `Device`, and the disk is honest then, the input was
-/// read to its end, and what was written is its transcript. It ends with `Read` where a read
+/// read to its end, and what was written is its transcript; or the group is whole, a line was the
+/// last one, and what was written are the replies up to it. It ends with `Read` where a read
 /// failed, and else only where the turns are used up: where the disk is honest then, the lines that
 /// were read whole are answered, and where no read failed each gave bytes, so the end of the input
-/// wasn't met. It ends with
-/// `Write` exactly where a write or a flush failed: of the lines some, from the first on, were run
-/// then, and what was written begins their replies, or is all of them and the beginning of what is
-/// written at the end. One failure is counted in either case, so neither reader nor writer is
-/// called once it has failed. There are no more reads than turns.
+/// wasn't met. It ends with `Write` exactly where a write or a flush failed: of the lines some,
+/// from the first on, were run then, and what was written begins their replies, or is all of them
+/// and the beginning of what is written at the end. One failure is counted in either case, so
+/// neither reader nor writer is called once it has failed. There are no more reads than turns.
 ///
 /// The store is changed by calls of `run` and `settle` alone. What each of them did is said where
 /// the disk is honest after it (`calls`): a wrong answer takes nothing from what was done before
@@ -65,31 +76,34 @@ pub fn serve<D: Disk, R: Source, W: Sink>(
     ensures accounts { Accounts D.Disk store.old.disk store.new.disk
         (HasBroken store.old.session store.new.session) }
 {
+    let group = store.group();
     let mut buffer = [0u8; PIECE];
     let mut pending = Pending::new(alloc);
     for _ in 0..turns {
         match reader.read(&mut buffer) {
             Err(PipeFault) => return ServeEnd::Read,
-            Ok(0) => return finish(store, &pending, writer),
-            Ok(n) => match feed(alloc, store, &mut pending, &buffer[..n], writer) {
+            Ok(0) => return finish(store, group, &pending, writer),
+            Ok(n) => match feed(alloc, store, group, &mut pending, &buffer[..n], writer) {
                 Err(PipeFault) => return ServeEnd::Write,
-                Ok(()) => {}
+                Ok(Next::Line) => {}
+                Ok(Next::Stop) => return refused_end(store),
             },
         }
     }
     ServeEnd::Read
 }
 
-// Answers each line that a piece completes, and keeps the rest of it.
+// Answers each line that a piece completes, and keeps the rest of it; or stops behind a line.
 fn feed<D: Disk, W: Sink>(
     alloc: Global,
     store: &mut Store<D>,
+    group: Group,
     pending: &mut Pending,
     piece: &[u8],
     writer: &mut W,
-) -> Result<(), PipeFault>
+) -> Result<Next, PipeFault>
     ensures fed { (part : List ℕ) → (cut part).lines ≡ [] → Stands pending.old part
-        → Feeds (stores_while_honest D.Disk) store.old (part ++ piece.now) store.new
+        → Feeds group (stores_while_honest D.Disk) store.old part piece.now store.new
         (output W.Sink writer.old writer.new) pending.new result }
     ensures counts { CountsFailure W.Sink writer.old writer.new result }
     ensures untouched { IsTrue store.old.session.broken → store.new ≡ store.old }
@@ -98,31 +112,34 @@ fn feed<D: Disk, W: Sink>(
 {
     let mut rest = piece;
     while let Some((line, more)) = first_line(rest) {
-        answer(alloc, store, pending, line, writer)?;
-        rest = more;
+        match answer(alloc, store, group, pending, line, writer)? {
+            Next::Line => rest = more,
+            Next::Stop => return Ok(Next::Stop),
+        }
     }
     pending.add(rest);
-    Ok(())
+    Ok(Next::Line)
 }
 
 // Answers the line that ends with these bytes, and keeps nothing of it.
 fn answer<D: Disk, W: Sink>(
     alloc: Global,
     store: &mut Store<D>,
+    group: Group,
     pending: &mut Pending,
     last: &[u8],
     writer: &mut W,
-) -> Result<(), PipeFault>
-    ensures answers { EndsLine D.Disk W.Sink pending.old last.now result store.old store.new
+) -> Result<Next, PipeFault>
+    ensures answers { EndsLine D.Disk W.Sink group pending.old last.now result store.old store.new
         writer.old writer.new }
     ensures cleared { Stands pending.new [] }
 {
     // Most lines lie whole in one piece, and are read where they stand.
     if !pending.is_whole(last) {
-        return answer_kept(alloc, store, pending, last, writer);
+        return answer_kept(alloc, store, group, pending, last, writer);
     }
     let read = read_command(alloc, last);
-    let answered = answer_read(store, &read, writer);
+    let answered = answer_read(store, group, &read, writer);
     // By name, or all fields of each command would be dropped here, one by one.
     drop(read);
     answered
@@ -134,17 +151,18 @@ fn answer<D: Disk, W: Sink>(
 fn answer_kept<D: Disk, W: Sink>(
     alloc: Global,
     store: &mut Store<D>,
+    group: Group,
     pending: &mut Pending,
     last: &[u8],
     writer: &mut W,
-) -> Result<(), PipeFault>
-    ensures answers { EndsLine D.Disk W.Sink pending.old last.now result store.old store.new
+) -> Result<Next, PipeFault>
+    ensures answers { EndsLine D.Disk W.Sink group pending.old last.now result store.old store.new
         writer.old writer.new }
     ensures cleared { Stands pending.new [] }
 {
     pending.add(last);
     let read = read_kept(alloc, pending);
-    let answered = answer_read(store, &read, writer);
+    let answered = answer_read(store, group, &read, writer);
     drop(read);
     pending.clear();
     answered
@@ -163,11 +181,12 @@ fn read_kept(alloc: Global, pending: &Pending) -> Result<Command<'_>, LineFault>
 // Runs what a line was read as, and writes the answer.
 fn answer_read<D: Disk, W: Sink>(
     store: &mut Store<D>,
+    group: Group,
     read: &Result<Command<'_>, LineFault>,
     writer: &mut W,
-) -> Result<(), PipeFault>
+) -> Result<Next, PipeFault>
     ensures step { (out : List ℕ)
-        × AnswersRead (stores_while_honest D.Disk) store.old read.now out store.new
+        × ReadOutcome group result (stores_while_honest D.Disk) store.old read.now out store.new
         × Writes W.Sink writer.old writer.new result out }
     ensures untouched { IsTrue store.old.session.broken → store.new ≡ store.old }
     ensures accounts { Accounts D.Disk store.old.disk store.new.disk
@@ -177,24 +196,113 @@ fn answer_read<D: Disk, W: Sink>(
         Ok(command) => {
             let before = store.acknowledged();
             let answer = store.run(command);
-            write_answer(writer, &answer, before, store.acknowledged())
+            let next = behind(group, answer.is_ok());
+            write_answer(writer, &answer, before, store.acknowledged()).and(Ok(next))
         }
-        Err(fault) => write_unread(writer, *fault),
+        Err(fault) => write_unread(writer, *fault).and(Ok(behind(group, false))),
+    }
+}
+
+// What comes behind a line that is done or isn't.
+fn behind(group: Group, is_done: bool) -> Next
+    ensures { result ≡ behind group is_done }
+{
+    match group {
+        Group::Whole if !is_done => Next::Stop,
+        _ => Next::Line,
     }
 }
 
 // Ends serving at the end of the input.
-fn finish<D: Disk, W: Sink>(store: &mut Store<D>, pending: &Pending, writer: &mut W) -> ServeEnd
+fn finish<D: Disk, W: Sink>(
+    store: &mut Store<D>,
+    group: Group,
+    pending: &Pending,
+    writer: &mut W,
+) -> ServeEnd
     ensures never { result ≢ ServeEnd.Read }
     ensures reported { result ≢ ServeEnd.Write → (W.failures writer.new ≡ W.failures writer.old)
         × ((part : List ℕ) → Stands pending.now part
-        → EndsWith (stores_while_honest D.Disk) part store.old result store.new
+        → EndsWith group (stores_while_honest D.Disk) part store.old result store.new
+        (output W.Sink writer.old writer.new)) }
+    ensures write { result ≡ ServeEnd.Write
+        → MayHaveSettled group (stores_while_honest D.Disk) store.old store.new
+        × IsCounted (W.failures writer.old) (W.failures writer.new)
+        × ((part : List ℕ) → Stands pending.now part
+        → (text : List ℕ) × EndsText group part store.new.session.acknowledged text
+        × AddsSome (output W.Sink writer.old writer.new) text) }
+    ensures broken { EndSaysBroken result store.new.session }
+    ensures untouched { IsTrue store.old.session.broken → store.new ≡ store.old }
+    ensures accounts { Accounts D.Disk store.old.disk store.new.disk
+        (HasBroken store.old.session store.new.session) }
+{
+    match group {
+        Group::Of(_) => finish_groups(store, pending, writer),
+        Group::Whole => finish_whole(store, pending, writer),
+    }
+}
+
+// Ends an input that is to be done whole: nothing is settled, and a line without its newline isn't
+// done.
+fn finish_whole<D: Disk, W: Sink>(store: &Store<D>, pending: &Pending, writer: &mut W) -> ServeEnd
+    ensures never { result ≢ ServeEnd.Read }
+    ensures reported { result ≢ ServeEnd.Write → (W.failures writer.new ≡ W.failures writer.old)
+        × ((part : List ℕ) → Stands pending.now part → (last : List ℕ)
+        × AnswersRest part last × (result ≡ whole_end part store.now.session)
+        × Adds (output W.Sink writer.old writer.new) last) }
+    ensures write { result ≡ ServeEnd.Write
+        → IsCounted (W.failures writer.old) (W.failures writer.new)
+        × ((part : List ℕ) → Stands pending.now part → (last : List ℕ)
+        × AnswersRest part last × AddsSome (output W.Sink writer.old writer.new) last) }
+    ensures broken { EndSaysBroken result store.now.session }
+{
+    if let Err(PipeFault) = answer_rest(pending, writer) {
+        return ServeEnd::Write;
+    }
+    match pending.unended() {
+        None => unrefused_end(store),
+        Some(_) => refused_end(store),
+    }
+}
+
+// How an input ends of which a line isn't done.
+fn refused_end<D: Disk>(store: &Store<D>) -> ServeEnd
+    ensures value { result ≡ refused_end store.now.session }
+    ensures broken { EndSaysBroken result store.now.session }
+{
+    if store.is_broken() {
+        return ServeEnd::Device;
+    }
+    ServeEnd::Unsettled
+}
+
+// How an input ends of which each line is done.
+fn unrefused_end<D: Disk>(store: &Store<D>) -> ServeEnd
+    ensures value { result ≡ unrefused_end store.now.session }
+    ensures broken { EndSaysBroken result store.now.session }
+{
+    if store.acknowledged() < store.accepted() || store.is_broken() {
+        return refused_end(store);
+    }
+    ServeEnd::End
+}
+
+// Ends an input whose commands are settled in groups.
+fn finish_groups<D: Disk, W: Sink>(
+    store: &mut Store<D>,
+    pending: &Pending,
+    writer: &mut W,
+) -> ServeEnd
+    ensures never { result ≢ ServeEnd.Read }
+    ensures reported { result ≢ ServeEnd.Write → (W.failures writer.new ≡ W.failures writer.old)
+        × ((part : List ℕ) → Stands pending.now part
+        → EndsGroupsWith (stores_while_honest D.Disk) part store.old result store.new
         (output W.Sink writer.old writer.new)) }
     ensures write { result ≡ ServeEnd.Write → ((store.new ≡ store.old)
         ⊎ HasSettled (stores_while_honest D.Disk) store.old store.new)
         × IsCounted (W.failures writer.old) (W.failures writer.new)
         × ((part : List ℕ) → Stands pending.now part
-        → (text : List ℕ) × EndsText part store.new.session.acknowledged text
+        → (text : List ℕ) × EndsGroupsText part store.new.session.acknowledged text
         × AddsSome (output W.Sink writer.old writer.new) text) }
     ensures broken { EndSaysBroken result store.new.session }
     ensures untouched { IsTrue store.old.session.broken → store.new ≡ store.old }
@@ -225,7 +333,7 @@ fn settle<D: Disk, W: Sink>(store: &mut Store<D>, writer: &mut W) -> ServeEnd
     ensures never { result ≢ ServeEnd.Read }
     ensures reported { result ≢ ServeEnd.Write → (W.failures writer.new ≡ W.failures writer.old)
         × (tail : List ℕ)
-        × Finishes (stores_while_honest D.Disk) store.old result tail store.new
+        × FinishesGroups (stores_while_honest D.Disk) store.old result tail store.new
         × Adds (output W.Sink writer.old writer.new) tail }
     ensures write { result ≡ ServeEnd.Write
         → HasSettled (stores_while_honest D.Disk) store.old store.new

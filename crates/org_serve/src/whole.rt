@@ -1,7 +1,7 @@
 //! A whole run over a disk, from the opening to the end of the input.
 ghost use Rattle.std.specs.Prelude.{◌≡◌, All, IfErr};
 ghost use Rattle.org_disk.specs.Names.{IsOrgFile};
-ghost use Rattle.org_store.specs.Group.{IsGroupSize};
+ghost use Rattle.org_store.specs.Group.{IsGroup};
 ghost use Rattle.org_serve.specs.Whole.{RunsDisk, RunsSynced};
 ghost use Rattle.org_serve.specs.Writes.{exchange};
 
@@ -11,7 +11,7 @@ use crate::serving::serve;
 use crate::syncing::sync_files;
 use org_disk::{Disk, FileName};
 use org_outline::States;
-use org_store::{OpenFault, OpenRefused, Store};
+use org_store::{Group, OpenFault, OpenRefused, Store};
 use std::alloc::Global;
 
 /// What a store is opened with.
@@ -22,8 +22,8 @@ pub struct Setup {
     pub names: Vec<FileName>,
     /// The words that are TODO keywords.
     pub states: States,
-    /// How many commands are accepted before they are settled, from 1 to 1,000.
-    pub group: u32,
+    /// How many accepted commands are settled together.
+    pub group: Group,
 }
 
 /// How a run over a disk ended.
@@ -73,7 +73,7 @@ pub fn serve_disk<D: Disk, R: Source, W: Sink>(
     turns: u64,
 ) -> Served<D>
     requires names { All IsOrgFile setup.names.items }
-    requires group { IsGroupSize setup.group }
+    requires group { IsGroup setup.group }
     ensures runs { RunsDisk D.Disk setup turns disk result.disk result.end
         (exchange R.Source W.Sink reader.old reader.new writer.old writer.new) }
     ensures unserved { IfErr result.end (λ _. (reader.new ≡ reader.old)
@@ -122,7 +122,7 @@ pub fn serve_synced<D: Disk, R: Source, W: Sink>(
     turns: u64,
 ) -> Served<D>
     requires names { All IsOrgFile setup.names.items }
-    requires group { IsGroupSize setup.group }
+    requires group { IsGroup setup.group }
     ensures runs { RunsSynced D.Disk setup turns disk result.disk result.end
         (exchange R.Source W.Sink reader.old reader.new writer.old writer.new) }
     ensures unserved { IfErr result.end (λ _. (reader.new ≡ reader.old)

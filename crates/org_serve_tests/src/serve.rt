@@ -4,7 +4,7 @@
 //! is dropped there, which the function's proof would have to follow.
 ghost use Rattle.std.specs.Prelude.{All};
 ghost use Rattle.org_disk.specs.Names.{IsOrgFile};
-ghost use Rattle.org_store.specs.Group.{IsGroupSize};
+ghost use Rattle.org_store.specs.Group.{IsGroup};
 
 pub mod crashes;
 mod failures;
@@ -14,13 +14,14 @@ mod groups;
 mod pipes;
 pub mod steps;
 mod syncs;
+mod whole;
 
 use crate::shared::must;
 use org_disk::{Disk, MemoryDisk};
 use org_fixtures::org_names;
 use org_outline::States;
 use org_serve::{Counted, ServeEnd, Served, Setup, Sink, Source, serve_disk, serve_synced};
-use org_store::OpenFault;
+use org_store::{Group, OpenFault};
 use std::process::Abort;
 
 // What was written, how it ended, and the disk then.
@@ -31,12 +32,14 @@ struct Ended<D> {
     disk: D,
 }
 
-// A store of a.org, of b.org and of inbox.org, which is absent, in groups of this size.
-fn setup(rt: &(impl Abort + AllocGlobal), group: u32) -> Setup
+// A store of a.org, of b.org and of inbox.org, which is absent.
+fn setup(rt: &(impl Abort + AllocGlobal), group: Group) -> Setup
     ensures names { All IsOrgFile result.names.items }
-    ensures group { IsGroupSize result.group }
+    ensures group { IsGroup result.group }
 {
-    assert!(rt; group > 0 && group <= 1_000);
+    if let Group::Of(size) = group {
+        assert!(rt; size > 0 && size <= 1_000);
+    }
     Setup {
         names: must(rt, org_names(rt.alloc(), &["inbox.org", "b.org", "a.org"])),
         states: States::new(rt.alloc(), &["TODO"], &["DONE"]).expect(rt, "states"),
@@ -44,11 +47,11 @@ fn setup(rt: &(impl Abort + AllocGlobal), group: u32) -> Setup
     }
 }
 
-// Serves what comes from a reader over a disk, in groups of this size.
+// Serves what comes from a reader over a disk.
 fn serve_over<D: Disk, R: Source, W: Sink>(
     rt: &(impl Abort + AllocGlobal),
     disk: D,
-    group: u32,
+    group: Group,
     reader: &mut R,
     writer: &mut W,
     turns: u64,
@@ -58,6 +61,16 @@ fn serve_over<D: Disk, R: Source, W: Sink>(
 
 // Serves this input over a disk, in groups of this size.
 fn run<D: Disk>(rt: &(impl Abort + AllocGlobal), disk: D, group: u32, input: &[u8]) -> Ended<D> {
+    run_in(rt, disk, Group::Of(group), input)
+}
+
+// Serves this input over a disk.
+fn run_in<D: Disk>(
+    rt: &(impl Abort + AllocGlobal),
+    disk: D,
+    group: Group,
+    input: &[u8],
+) -> Ended<D> {
     let mut reader = Counted::new(input);
     let mut writer = Counted::new(Vec::new(rt.alloc()));
     let Served { disk, end } = serve_over(rt, disk, group, &mut reader, &mut writer, 10_000_000);

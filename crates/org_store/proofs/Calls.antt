@@ -19,6 +19,7 @@ use Rattle.org_store.specs.History.{Trace, Lists, HoldsPrefix}
 use Rattle.org_commands.specs.Left.{IsLeftAlone, MayHaveWritten}
 use Rattle.org_commands.specs.Outcome.{AsksToSettle, outcome}
 use Rattle.org_commands.specs.Runs.{RunsOver, SettlesOver, IsOnDisk}
+use Rattle.org_commands.specs.declared.tally.Group.{Group}
 use Rattle.org_commands.specs.Session.{Session, StoreView, Holds}
 use Rattle.org_commands.specs.Step.{Step, Settles}
 use Rattle.org_commands.specs.Dirty.{DirtyAfter, DirtyAfterSettled}
@@ -115,7 +116,7 @@ module _ {D : Type 0} (g : Ghosts D) where
   begin_calls old new [] run = subst (λ (p : Trace D). Begin old.texts p.texts) (sym run) (λ k texts is. is)
   begin_calls old new (call ∷ calls) run = λ k texts is. begin_calls run.0 new calls run.2 k texts (begin_call old run.0 call run.1 k texts is)
 
-  -- A store that was broken stays as it is, but for the size of its group.
+  -- A store that was broken stays as it is, but for its group.
 
   pub record Keeps (old new : Trace D) : Type 0 where
     pub store : new.store ≡ grouped new.store.session.group old.store
@@ -180,7 +181,7 @@ module _ {D : Type 0} (g : Ghosts D) where
       (cases_Bool run.0.store.session.broken)
 
   -- the group is set, and a run after it
-  course_group : (old new : StoreView D) (group : ℕ) (P Later : Session → Type 0) → old.session.broken ≡ false → Goes (grouped group old) new Later → ((s : Session) → Later s → P s) → Goes old new P
+  course_group : (old new : StoreView D) (group : Group) (P Later : Session → Type 0) → old.session.broken ≡ false → Goes (grouped group old) new Later → ((s : Session) → Later s → P s) → Goes old new P
   course_group old new group P Later sound course later = record {
     passes = λ rest disk ok. passes_as (course.passes rest disk ok) (λ image left. ⊎_elim
         (λ held. inl held)

@@ -1,13 +1,16 @@
 -- What follows from the relation between a store before and after a call.
-use Rattle.std.proofs.Common.{◌≡◌, inl, inr, ⊎_elim, ℕ, ◌+◌, ◌<◌, true, false, List, [], ◌∷◌, ◌++◌, Result, Ok, Err, refl, sym, ◌∙◌, ap, subst, if◌then◌else◌, arith}
+use Rattle.std.proofs.Common.{◌≡◌, inl, inr, ⊎_elim, ℕ, ◌+◌, ◌-◌, ◌<◌, nat_le, true, false, List, [], ◌∷◌, ◌++◌, Result, Ok, Err, refl, sym, ◌∙◌, ap, subst, if◌then◌else◌, arith}
 use Rattle.std.proofs.lemmas.Bool.{cases_Bool}
 use Rattle.org_commands.specs.declared.command.Command.{Command}
 use Rattle.org_commands.specs.declared.command.Reply.{Reply}
 use Rattle.org_commands.specs.declared.command.Reply.TheVariants.{Done, Safe, Text, Time}
 use Rattle.org_commands.specs.declared.command.RunFault.{RunFault}
 use Rattle.org_commands.specs.declared.command.RunFault.TheVariants.{Refused, OutOfMemory, Device, Broken}
+use Rattle.org_commands.specs.Groups.{are_group}
 use Rattle.org_commands.specs.Session.{Session}
 use Rattle.org_commands.specs.Outcome.{Outcome, Accepts, Shows, Tells, AsksToSettle, Refuses, outcome}
+use Rattle.org_commands.specs.declared.tally.Group.{Group}
+use Rattle.org_commands.specs.declared.tally.Group.TheVariants.{Of, Whole}
 use Rattle.org_commands.specs.Step.{fills, done, settled, Steps, Step, Run, IsReply}
 
 same_done : (old new other : Session) (names others files more : List (List ℕ)) → Accepts names files ≡ Accepts others more → new ≡ done old files → other ≡ done old more → new ≡ other
@@ -76,18 +79,26 @@ pub step_one : (old new other : Session) (command : Command) (answer second : Re
 step_one old new other command answer second a b x y = does_one old new other (outcome old command) answer second a b x y
 
 -- what an accepted command makes of the counts
-done_few : (s : Session) (files : List (List ℕ)) → 0 < s.group → (done s files).accepted < (done s files).acknowledged + (done s files).group
-done_few s files some = ⊎_elim full part (cases_Bool (fills s))
+done_few : (s : Session) (files : List (List ℕ)) (size : ℕ) → s.group ≡ Of size → 0 < size → (done s files).accepted < (done s files).acknowledged + size
+done_few s files size of some = ⊎_elim full part (cases_Bool (fills s))
   where
-    full : fills s ≡ true → (done s files).accepted < (done s files).acknowledged + (done s files).group
+    full : fills s ≡ true → (done s files).accepted < (done s files).acknowledged + size
     full is = rw is (omega (arith, some))
 
-    part : fills s ≡ false → (done s files).accepted < (done s files).acknowledged + (done s files).group
-    part is = let short : s.accepted + 1 < s.acknowledged + s.group = grind (arith, is) in rw is short
+    part : fills s ≡ false → (done s files).accepted < (done s files).acknowledged + size
+    part is =
+        let less : nat_le size (s.accepted + 1 - s.acknowledged) ≡ false = sym (ap (λ (g : Group). are_group g (s.accepted + 1 - s.acknowledged)) of) ∙ is in
+        let short : s.accepted + 1 < s.acknowledged + size = grind (arith, less) in rw is short
 
-pub step_few : (old new : Session) (command : Command) (n : ℕ) → 0 < old.group → Step old command (Ok (Done n)) new → new.accepted < new.acknowledged + new.group
-step_few old new command n some step =
-    subst (λ (s : Session). s.accepted < s.acknowledged + s.group) (sym step.1.3) (done_few old step.1.0 some)
+pub step_few : (old new : Session) (command : Command) (n size : ℕ) → old.group ≡ Of size → 0 < size → Step old command (Ok (Done n)) new → new.accepted < new.acknowledged + size
+step_few old new command n size of some step =
+    subst (λ (s : Session). s.accepted < s.acknowledged + size) (sym step.1.3) (done_few old step.1.0 size of some)
+
+-- nothing fills the group of all commands up to the next settling
+pub step_waits : (old new : Session) (command : Command) (n : ℕ) → old.group ≡ Whole → Step old command (Ok (Done n)) new → (new.acknowledged ≡ old.acknowledged) × (new.settled ≡ old.settled)
+step_waits old new command n whole step =
+    let none : fills old ≡ false = ap (λ (g : Group). are_group g (old.accepted + 1 - old.acknowledged)) whole in
+    subst (λ (s : Session). (s.acknowledged ≡ old.acknowledged) × (s.settled ≡ old.settled)) (sym step.1.3) (rw none (refl, refl))
 
 -- the parts that no command changes
 abbrev SameSetting : Session → Session → Type 0

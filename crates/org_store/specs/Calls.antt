@@ -1,10 +1,10 @@
--- The calls that change a store, and what makes them: commands, settlings, and new sizes of the
--- group.
+-- The calls that change a store, and what makes them: commands, settlings, and new groups.
 use Rattle.std.specs.Prelude.{◌≡◌, ℕ, List, [], ◌∷◌, Result}
 use Rattle.org_disk.specs.declared.disk.Disk.{Ghosts}
 use Rattle.org_commands.specs.declared.command.Command.{Command}
 use Rattle.org_commands.specs.declared.command.Reply.{Reply}
 use Rattle.org_commands.specs.declared.command.RunFault.{RunFault}
+use Rattle.org_commands.specs.declared.tally.Group.{Group}
 use Rattle.org_store.specs.History.{Adds, Trace}
 use Rattle.org_commands.specs.Outcome.{outcome}
 use Rattle.org_commands.specs.Runs.{RunsOver, SettlesOver}
@@ -18,7 +18,7 @@ pub data Call : Type 0 where
   -- `Store::settle`
   Settled : Result (Unit {0}) RunFault → Call
   -- `Store::set_group`
-  Grouped : ℕ → Call
+  Grouped : Group → Call
 
 -- What calls are made on: states of the type S, with the session of each, and what a call makes of
 -- one.
@@ -43,7 +43,7 @@ model = record { session = λ session. session; makes = StepsBy }
 
 -- Stores over a disk of the type D, which is honest after the call: the clauses of the function
 -- that was called.
-abbrev pub grouped : {D : Type 0} → ℕ → StoreView D → StoreView D
+abbrev pub grouped : {D : Type 0} → Group → StoreView D → StoreView D
 grouped group old = record old { session = record old.session { group = group } }
 
 abbrev pub MakesOver : {D : Type 0} → Ghosts D → StoreView D → Call → StoreView D → Type 0

@@ -7,6 +7,7 @@ use Rattle.org_fileset.specs.declared.open.OpenFault.{OpenFault}
 use Rattle.org_fileset.specs.declared.open.OpenRefused.{OpenRefused}
 use Rattle.org_fileset.specs.declared.open.OpenFault.TheVariants.{Device, OutOfMemory}
 use Rattle.org_outline.specs.States.{Keywords}
+use Rattle.org_commands.specs.declared.tally.Group.TheVariants.{Of}
 use Rattle.org_commands.specs.InOrder.{texts_of}
 use Rattle.org_commands.specs.Session.{Session, StoreView}
 
@@ -20,7 +21,7 @@ opened states names texts =
       settled = texts;
       accepted = 0;
       acknowledged = 0;
-      group = 1;
+      group = Of 1;
       broken = false;
     }
 

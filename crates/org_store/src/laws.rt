@@ -24,6 +24,7 @@ ghost use Rattle.org_commands.specs.declared.command.Reply.{Reply};
 ghost use Rattle.org_commands.specs.declared.command.Reply.TheVariants.{Done};
 ghost use Rattle.org_commands.specs.declared.command.RunFault.{RunFault};
 ghost use Rattle.org_commands.specs.declared.command.RunFault.TheVariants as run_fault;
+ghost use Rattle.org_commands.specs.declared.tally.Group.TheVariants.{Of, Whole};
 ghost use Rattle.org_store.specs.Calls.{Call, MakesAll, MakesOver, Traces, grouped, traces};
 ghost use Rattle.org_store.specs.Calls.Call.{Ran};
 ghost use Rattle.org_store.specs.History.{Trace, Lists, HoldsPrefix};
@@ -47,10 +48,19 @@ pub fn one_answer()
         → (answer ≡ second) × (new ≡ other) }
 {}
 
-/// Where a command is accepted, fewer commands than a group has are left without acknowledgement.
+/// Where a command is accepted, fewer commands than its group has are left without
+/// acknowledgement.
 pub fn few_unacknowledged()
-    ensures { (old new : Session) (command : Command) (n : ℕ) → 0 < old.group
-        → Step old command (Ok (Done n)) new → new.accepted < new.acknowledged + new.group }
+    ensures { (old new : Session) (command : Command) (n size : ℕ) → old.group ≡ Of size
+        → 0 < size → Step old command (Ok (Done n)) new
+        → new.accepted < new.acknowledged + size }
+{}
+
+/// Where the group is all commands up to the next settling, no command that is accepted settles.
+pub fn whole_groups_wait()
+    ensures { (old new : Session) (command : Command) (n : ℕ) → old.group ≡ Whole
+        → Step old command (Ok (Done n)) new
+        → (new.acknowledged ≡ old.acknowledged) × (new.settled ≡ old.settled) }
 {}
 
 /// No command changes the states, the names or the group.
@@ -103,8 +113,8 @@ pub fn only_its_own_files_are_written<D: Disk>()
         × AreNames last.store.session.names last.store.dirty }
 {}
 
-/// What a crash leaves of a run of the calls that change a store: commands, settlings and new sizes
-/// of the group. A run is described by one list, of the texts of all files after each accepted
+/// What a crash leaves of a run of the calls that change a store: commands, settlings and new
+/// groups. A run is described by one list, of the texts of all files after each accepted
 /// command. On a disk that was at rest and honest when it began, under a store that wasn't broken,
 /// a crash since then leaves the files as they were settled then, or as they were after one prefix
 /// of the accepted commands, which has all that were accepted then; a command in which the disk
@@ -149,7 +159,7 @@ pub fn calls_leave_a_prefix<D: Disk>()
 /// What a run of such calls does to a disk that was at rest when it began: it is recoverable then,
 /// and at rest where the store isn't broken.
 pub fn calls_keep_the_disk_recoverable<D: Disk>()
-    // A broken store leaves its disk as it is, and all else but the size of the group.
+    // A broken store leaves its disk as it is, and all else but the group.
     ensures broken { (first last : Trace D) (calls : List Call)
         → IsTrue first.store.session.broken
         → MakesAll (traces D.Disk) first calls last

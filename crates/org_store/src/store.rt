@@ -8,13 +8,13 @@ ghost use Rattle.org_disk.specs.Accounts.{Accounts};
 ghost use Rattle.org_disk.specs.Names.{IsOrgFile};
 ghost use Rattle.org_fileset.specs.Opening.{Opens};
 ghost use Rattle.org_fileset.specs.Replay.{files_on};
-ghost use Rattle.org_store.specs.Group.{IsGroupSize};
+ghost use Rattle.org_store.specs.Group.{IsGroup};
 ghost use Rattle.org_store.specs.Opening.{IsOpened, IsTransient, disk_of};
 ghost use Rattle.org_store.specs.Reopening.{IsOpenable};
 ghost use Rattle.org_commands.specs.Runs.{SaysBroken, StaysWhereNeedless, Runs, SettlesAll};
 ghost use Rattle.org_commands.specs.Counts.{Counts, SettledCounts};
 
-use org_commands::{Command, Executor, Files, Kind, Reply, RunFault, Tally};
+use org_commands::{Command, Executor, Files, Group, Kind, Reply, RunFault, Tally};
 use org_disk::{Disk, FileName};
 use org_fileset::OpenRefused;
 use org_outline::States;
@@ -78,7 +78,7 @@ impl<D: Disk> Store<D> {
                     tally: Tally {
                         accepted: 0,
                         acknowledged: 0,
-                        group: 1,
+                        group: Group::Of(1),
                     },
                 },
             }),
@@ -107,10 +107,16 @@ impl<D: Disk> Store<D> {
         self.executor.files.is_broken()
     }
 
-    /// Sets how many commands are accepted before they are settled, from 1 to 1,000. It settles
-    /// nothing by itself.
-    pub fn set_group(&mut self, group: u32)
-        requires { IsGroupSize group }
+    /// How many accepted commands are settled together.
+    pub fn group(&self) -> Group
+        ensures { result ≡ self.now.session.group }
+    {
+        self.executor.tally.group
+    }
+
+    /// Sets how many accepted commands are settled together. It settles nothing by itself.
+    pub fn set_group(&mut self, group: Group)
+        requires { IsGroup group }
         ensures { self.new ≡ record self.old {
           session = record self.old.session
               { group = group };

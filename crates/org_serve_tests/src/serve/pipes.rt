@@ -3,6 +3,7 @@ use super::serve_over;
 use crate::shared::two;
 use org_disk::MemoryDisk;
 use org_serve::{PipeFault, ServeEnd, Served, Sink, Source};
+use org_store::Group;
 use std::alloc::Global;
 use std::process::Abort;
 
@@ -104,7 +105,7 @@ pub fn pipe(
     writer: &mut Page,
     turns: u64,
 ) -> (ServeEnd, MemoryDisk) {
-    let Served { disk, end } = serve_over(rt, disk, group, reader, writer, turns);
+    let Served { disk, end } = serve_over(rt, disk, Group::Of(group), reader, writer, turns);
     match end {
         Ok(end) => (end, disk),
         Err(_) => panic!(rt; "not opened"),

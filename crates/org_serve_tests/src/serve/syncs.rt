@@ -5,6 +5,7 @@ use crate::shared::{image, must, two};
 use org_disk::{Disk, MemoryDisk, Outcome};
 use org_fixtures::file_name;
 use org_serve::{Counted, Served, serve_synced};
+use org_store::Group;
 use std::process::Abort;
 
 // The files of the store: three names, their archive files, and the journal.
@@ -30,7 +31,7 @@ fn run_synced(rt: &(impl Abort + AllocGlobal), disk: MemoryDisk) -> Ended<Memory
     let Served { disk, end } = serve_synced(
         rt.alloc(),
         disk,
-        setup(rt, 1),
+        setup(rt, Group::Of(1)),
         &mut reader,
         &mut writer,
         10_000_000,

@@ -3,7 +3,7 @@ use super::asking::{Answer, Ask, Row, answers, ask_each};
 use super::open;
 use crate::shared::two;
 use org_disk::MemoryDisk;
-use org_store::{Refusal, RunFault, Store};
+use org_store::{Group, Refusal, RunFault, Store};
 use std::process::Abort;
 
 // Asks for both files, which hold these texts, before a command is accepted.
@@ -48,7 +48,7 @@ const GROUPED: &[Row] = &[
 fn settles_by_command(rt: HostRuntime) {
     let mut store = open(&rt, two(&rt, "", ""));
     ask_each(&rt, &mut store, SETTLED);
-    store.set_group(1000);
+    store.set_group(Group::Of(1000));
     ask_each(&rt, &mut store, GROUPED);
     show_again(&rt, store, &["* B\n* C\n", ""]);
 }

@@ -5,7 +5,7 @@ use crate::serve::crashes::{done_in, way, ways};
 use crate::serve::steps::{BOTH, Step};
 use crate::shared::{image, two};
 use org_disk::{MemoryDisk, Outcome};
-use org_store::Store;
+use org_store::{Group, Store};
 use std::process::Abort;
 
 // The texts of both files with none, one and two of the captures.
@@ -30,7 +30,7 @@ fn captured_twice(
 ) -> (u64, u64, MemoryDisk) {
     let mut store = store;
     assert!(rt; group > 0 && group <= 1_000);
-    store.set_group(group);
+    store.set_group(Group::Of(group));
     answers(
         rt,
         &mut store,

@@ -10,4 +10,5 @@ returns c =
     let three_are = c.in_ok-arg-3.ensures.shape c.names_argument-2.ensures.own ∙ ap₂ with_rule two_are c.names_argument-2.ensures.rule in
     let four_are = c.in_ok-arg-4.ensures.shape c.option.ensures.own ∙ ap₂ with_rule three_are c.option.ensures.rule in
     let five_are = c.in_ok-arg-5.ensures.shape c.option-2.ensures.own ∙ ap₂ with_rule four_are c.option-2.ensures.rule in
-    IfOk-weaker c.arg-6.result _ _ (λ command adds. adds.shape c.option-3.ensures.own ∙ ap₂ with_rule five_are c.option-3.ensures.rule) c.arg-6.ensures
+    let six_are = c.in_ok-arg-6.ensures.shape c.group_argument.ensures.own ∙ ap₂ with_rule five_are c.group_argument.ensures.rule in
+    IfOk-weaker c.arg-7.result _ _ (λ command adds. adds.shape c.whole_argument.ensures.own ∙ ap₂ with_rule six_are c.whole_argument.ensures.rule) c.arg-7.ensures

@@ -1,5 +1,7 @@
-use Rattle.std.proofs.Common.{inr}
+use Rattle.std.proofs.Common.{inr, sym, subst}
 use Rattle.std.proofs.lemmas.Result.{err_from_is_err_and}
+use Rattle.org_store.specs.Group.{IsGroup}
+use Rattle.org_program.proofs.Words.{group_is_given}
 use Rattle.org_program.proofs.program.run.Goals as goal
 
 pub returns-in_err-disk-clause-fault : goal.returns-in_err-disk-clause-fault
@@ -10,3 +12,8 @@ returns-in_err-disk-clause-fault g c =
       said = c.in_ok-arguments.ensures.said;
       cause = c.in_err-disk.ensures.cause;
     }))
+
+pub serve-requires : goal.serve-requires
+serve-requires g c =
+    let said = c.in_ok-arguments.ensures.said in
+    subst IsGroup (sym said.group) (group_is_given _ _ said.taken.1)

@@ -6,6 +6,7 @@ use Rattle.org_serve.specs.declared.fault.LineFault.TheVariants.{BadLine, OutOfM
 use Rattle.org_serve.specs.Grammar.{Gives, command_of}
 use Rattle.org_serve.specs.Lines.{limit}
 use Rattle.org_serve.specs.Serving.{IsReadAs}
+use Rattle.org_serve.proofs.Joins.{outcome_of}
 use Rattle.org_serve.proofs.serving.answer.Goals as goal
 
 -- a line within the limit is read as the command that it is
@@ -30,7 +31,7 @@ returns-clause-answers g c =
       step = λ part stands.
           let is = (c.is_whole.ensures.exact part stands).0 whole in
           let read = read_as line c.read_command-read.result is.1 c.read_command-read.ensures in
-          (made.step.0, (c.read_command-read.result, subst (λ (p : List ℕ). IsReadAs (p ++ line) c.read_command-read.result) (sym is.0) read, made.step.1), made.step.2);
+          (made.step.0, outcome_of c.args.group c.answer_read-answered.result _ _ (part ++ line) c.read_command-read.result _ _ (subst (λ (p : List ℕ). IsReadAs (p ++ line) c.read_command-read.result) (sym is.0) read) made.step.1, made.step.2);
       counts = record { same = made.step.2.same; counted = made.step.2.counted };
       untouched = made.untouched;
       accounts = made.accounts;

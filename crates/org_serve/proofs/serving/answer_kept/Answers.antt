@@ -1,11 +1,12 @@
 use Rattle.std.proofs.Common.{◌++◌}
+use Rattle.org_serve.proofs.Joins.{outcome_of}
 use Rattle.org_serve.proofs.serving.answer_kept.Goals as goal
 
 pub returns-clause-answers : goal.returns-clause-answers
 returns-clause-answers g c =
     let made = c.answer_read-answered.ensures in
     record {
-      step = λ part stands. (made.step.0, (c.read_kept-read.result, c.read_kept-read.ensures (part ++ c.args.last.now) (c.add.ensures part stands), made.step.1), made.step.2);
+      step = λ part stands. (made.step.0, outcome_of c.args.group c.answer_read-answered.result _ _ (part ++ c.args.last.now) c.read_kept-read.result _ _ (c.read_kept-read.ensures (part ++ c.args.last.now) (c.add.ensures part stands)) made.step.1, made.step.2);
       counts = record { same = made.step.2.same; counted = made.step.2.counted };
       untouched = made.untouched;
       accounts = made.accounts;

@@ -1,8 +1,8 @@
-use Rattle.std.proofs.Common.{◌∙◌, ℕ, subst}
+use Rattle.std.proofs.Common.{◌∙◌, arith, ℕ, length, subst}
 use Rattle.org_disk.specs.Disk.{IsCounted}
 use Rattle.std.proofs.lemmas.Result.{err_from_is_err_and}
 use Rattle.org_serve.proofs.Breaking.{untouched_then, breaks_then}
-use Rattle.org_serve.proofs.Feeding.{Fed-step, Fed-err, Fed-end, less_left}
+use Rattle.org_serve.proofs.Feeding.{Fed-step, Fed-err, Fed-stop, Fed-end, less_left}
 use Rattle.org_serve.proofs.Joins.{on_err, passed_never}
 use Rattle.org_serve.proofs.serving.feed.Goals as goal
 
@@ -18,11 +18,27 @@ loop-line-preserved g c = (
   λ part free stands.
       Fed-step (c.loop-line.invariant.0 part free stands) c.in-Some.line.now c.in-Some.more.now c.in-Some.ensures.whole c.in-Some.ensures.free
       c.answer.new.store (g.W.Sink.written c.answer.new.writer) c.answer.new.pending
-      (λ had stood. let s = c.in_ok-answer.ensures.answers.step had stood in (s.0, s.1, s.2.ok)) c.in_ok-answer.ensures.cleared,
+      (λ had stood. let s = (rw c.in-Line.is at c.in_ok-answer.ensures.answers).step had stood in (s.0, s.1, s.2.ok)) c.in_ok-answer.ensures.cleared,
   untouched_then c.loop-line.invariant.1 c.in_ok-answer.ensures.answers.untouched,
   breaks_then c.loop-line.invariant.1 c.in_ok-answer.ensures.answers.untouched c.loop-line.invariant.2 c.in_ok-answer.ensures.answers.accounts,
   c.in_ok-answer.ensures.answers.counts.same ∙ c.loop-line.invariant.3,
+  omega (arith, c.loop-line.invariant.4, less_left _ _ _ c.in-Some.ensures.whole),
 )
+
+pub returns-in-Stop-clause-fed : goal.returns-in-Stop-clause-fed
+returns-in-Stop-clause-fed g c = λ part free stands.
+    let f = c.loop-line.invariant.0 part free stands in
+    let s = (rw c.in-Stop.is at c.in_ok-answer.ensures.answers).step f.part f.stands in
+    Fed-stop f c.in-Some.line.now c.in-Some.more.now c.in-Some.ensures.whole c.in-Some.ensures.free c.answer.new.store (g.W.Sink.written c.answer.new.writer) s.0 (length c.args.piece.now) s.1 s.2.ok c.loop-line.invariant.4
+
+pub returns-in-Stop-clause-untouched : goal.returns-in-Stop-clause-untouched
+returns-in-Stop-clause-untouched g c = untouched_then c.loop-line.invariant.1 c.in_ok-answer.ensures.answers.untouched
+
+pub returns-in-Stop-clause-accounts : goal.returns-in-Stop-clause-accounts
+returns-in-Stop-clause-accounts g c = breaks_then c.loop-line.invariant.1 c.in_ok-answer.ensures.answers.untouched c.loop-line.invariant.2 c.in_ok-answer.ensures.answers.accounts
+
+pub returns-in-Stop-clause-counts : goal.returns-in-Stop-clause-counts
+returns-in-Stop-clause-counts g c = record { same = c.in_ok-answer.ensures.answers.counts.same ∙ c.loop-line.invariant.3; counted = tt }
 
 pub returns-clause-fed : goal.returns-clause-fed
 returns-clause-fed g c = λ part free stands.

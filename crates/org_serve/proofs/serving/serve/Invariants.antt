@@ -10,7 +10,7 @@ use Rattle.org_serve.proofs.serving.serve.Given as goal
 -- reader or the writer has failed
 abbrev pub invariant-loop : goal.invariant-loop
 invariant-loop g l =
-    (Served (stores_while_honest g.D.Disk) l.initial.store l.store
+    (Served l.initial.store.session.group (stores_while_honest g.D.Disk) l.initial.store l.store
     (g.R.Source.left l.initial.reader) (g.R.Source.left l.reader) (g.W.Sink.written l.initial.writer) (g.W.Sink.written l.writer) l.pending)
     × (IsTrue l.initial.store.session.broken → l.store ≡ l.initial.store)
     × Accounts g.D.Disk l.initial.store.disk l.store.disk (HasBroken l.initial.store.session l.store.session)

@@ -4,6 +4,7 @@ use Rattle.org_journal.specs.Recovered.{Image, contents}
 use Rattle.org_texts.specs.Texts.{held_over}
 use Rattle.org_commands.specs.declared.command.RunFault.TheVariants.{Device}
 use Rattle.org_commands.specs.declared.commands.running.Clock.{Clock}
+use Rattle.org_commands.specs.declared.tally.Group.TheVariants.{Of}
 use Rattle.org_commands.specs.declared.tally.Tally.{Tally}
 use Rattle.org_commands.specs.Clocks.{RunsHeld, RunsIn}
 use Rattle.org_commands.specs.InOrder.{is_name, texts_of}
@@ -72,7 +73,7 @@ loop-index-preserved g c =
       unedited = looked.unedited;
       files = reads_files_then sofar.files (reads_files_ok looked.files);
       passed = λ h.
-          let tally : Tally = record { accepted = 0; acknowledged = 0; group = 1; ordered = omega arith } in
+          let tally : Tally = record { accepted = 0; acknowledged = 0; group = Of 1; ordered = omega arith } in
           let files = held_over old.held.before (texts old.disk) in
           let now = held_over new.held.before (texts new.disk) in
           let read : session_over texts states new tally ≡ session_over texts states old tally = looked.files.reads states tally h ∙ sofar.files.reads states tally (back h) in
@@ -100,7 +101,7 @@ loop-index-preserved-then-is_clockless g c =
       unedited = sofar.unedited;
       files = sofar.files;
       passed = λ h.
-          let tally : Tally = record { accepted = 0; acknowledged = 0; group = 1; ordered = omega arith } in
+          let tally : Tally = record { accepted = 0; acknowledged = 0; group = Of 1; ordered = omega arith } in
           let files = held_over old.held.before (texts old.disk) in
           let now = held_over new.held.before (texts new.disk) in
           let read : session_over texts c.args.states.now new tally ≡ session_over texts c.args.states.now old tally = sofar.files.reads c.args.states.now tally h in

@@ -1,5 +1,6 @@
 use Rattle.std.proofs.Common.{◌∙◌, refl, sym, ap}
 use Rattle.org_journal.specs.Recovered.{contents}
+use Rattle.org_commands.specs.declared.tally.Group.TheVariants.{Of}
 use Rattle.org_texts.specs.Texts.{TextSet}
 use Rattle.org_fileset.proofs.Openings.{opened_as, refused_as}
 use Rattle.org_store.proofs.Reopening.{only_faults}
@@ -40,4 +41,4 @@ pub invariant_of-result-in-Ok : goal.invariant_of-result-in-Ok
 invariant_of-result-in-Ok g c =
     let files = c.in-Ok.files in
     let opened = c.in-Ok.ensures.opened in
-    (opened.1 ∙ sym opened.2, λ honest. settled_new g.D.Disk.files c.args.states files (record { accepted = 0; acknowledged = 0; group = 1; ordered = none_counted }) opened.2)
+    (opened.1 ∙ sym opened.2, λ honest. settled_new g.D.Disk.files c.args.states files (record { accepted = 0; acknowledged = 0; group = Of 1; ordered = none_counted }) opened.2)

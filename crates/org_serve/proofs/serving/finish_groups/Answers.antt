@@ -1,7 +1,7 @@
 use Rattle.std.proofs.Common.{◌++◌, ◌∙◌, Ok, inl, inr, refl}
 use Rattle.org_serve.specs.Replies.{settled_text}
 use Rattle.org_serve.proofs.Joins.{Appends-append, some_first, some_then}
-use Rattle.org_serve.proofs.serving.finish.Goals as goal
+use Rattle.org_serve.proofs.serving.finish_groups.Goals as goal
 
 pub returns-in-Ok-clause-reported : goal.returns-in-Ok-clause-reported
 returns-in-Ok-clause-reported g c = λ not.
