@@ -31,6 +31,7 @@ NO_CLOCK = Refusal("12 NoClock")
 CLOCK_BACKWARDS = Refusal("13 ClockBackwards")
 BAD_LOCATION = Refusal("15 BadLocation")
 NOT_THERE = Refusal("16 NotThere")
+BAD_LINE = Refusal("20 BadLine")
 
 
 class Room:

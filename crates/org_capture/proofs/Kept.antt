@@ -21,7 +21,7 @@ use Rattle.org_outline.specs.Numbers.{weigh, weigh_node}
 use Rattle.org_outline.specs.Paths.{find_headed, find_path}
 use Rattle.org_outline.proofs.Changes.{append_heading_valid, insert_before_valid}
 use Rattle.org_outline.proofs.ByNumber.{count-is}
-use Rattle.org_outline.proofs.Found.{found_in, some_holds}
+use Rattle.org_outline.proofs.Found.{found_in, headed_in, some_holds}
 use Rattle.org_outline.proofs.Trees.{tree-is}
 use Rattle.org_outline.proofs.Valid.{IsNode-shift_node, IsValid-insert, tree-print}
 use Rattle.org_outline.proofs.Weights.{Weight, weigh-shift, insert-weight, beside-weight, made-weight, one_each}
@@ -36,7 +36,7 @@ use Rattle.org_capture.specs.Entry.{entry_in, only_root}
 use Rattle.org_capture.specs.Capture.{rest_of, is_only_title, can_be_title, below_found, below_made, below_head, below_day, captured, date_base}
 use Rattle.org_capture.specs.Dates.{key_len, key_on, behind_key, month_name, weekday_name, first_dated, put_dated, found_or_made, made_over, dated}
 use Rattle.org_capture.specs.Made.{added, date_rest, missing, missing_below, missing_dates, missing_title}
-use Rattle.org_capture.proofs.Numbers.{dated_in, base_in, headed_in}
+use Rattle.org_capture.proofs.Numbers.{dated_in, base_in}
 
 -- ---- the three ways in which a capture makes a document
 
@@ -91,12 +91,12 @@ day_way states place moment entry d new P ways (Err fault) in_d is = absurd cc
 way : (states : Keywords) (target : Target) (place : Place) (moment : Moment) (entry : Node) (d new : Document) (P : List (List ℕ) → Document → Type 0)
     → Ways states place moment.day entry d P → captured states target place moment entry d ≡ Ok new → P (missing states target moment d) new
 way states Top place moment entry d new P ways is = ok_holds (P []) (insert None place entry d) new is (ways.put_in None (λ i none. absurd cc))
-way states (Head title) place moment entry d new P ways is =
-    head_way states place moment.day entry d new P ways title (find_headed states d title) (headed_in states d title) is
-way states (Path titles) place moment entry d new P ways is =
-    path_way states place moment.day entry d new P ways (find_path states d titles) (found_in states d titles) is
-way states (Date titles) place moment entry d new P ways is =
-    day_way states place moment entry d new P ways (date_base states d titles) (base_in states d titles) is
+way states (Head step) place moment entry d new P ways is =
+    head_way states place moment.day entry d new P ways step.title (find_headed states d step) (headed_in states d step) is
+way states (Path path) place moment entry d new P ways is =
+    path_way states place moment.day entry d new P ways (find_path states d path) (found_in states d path) is
+way states (Date path) place moment entry d new P ways is =
+    day_way states place moment entry d new P ways (date_base states d path) (base_in states d path) is
 
 -- ---- titles are lines
 

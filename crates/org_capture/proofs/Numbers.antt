@@ -1,16 +1,16 @@
 -- What is found in a document is one of its nodes.
-use Rattle.std.proofs.Common.{◌≡◌, ℕ, suc, ◌+◌, ◌<◌, ◌≤◌, Bool, find, List, [], ◌∷◌, length, Option, Some, None, Ok, Err, refl, subst, arith, inl, inr}
+use Rattle.std.proofs.Common.{◌≡◌, ℕ, suc, ◌+◌, ◌<◌, ◌≤◌, Bool, find, List, [], ◌∷◌, Option, Some, None, Ok, Err, refl, subst, arith, inl, inr}
 use Rattle.std.specs.Prelude.{Result}
 use Rattle.std.specs.List.{AllByRecursion}
 use Rattle.std.specs.Option.{ForSome}
-use Rattle.std.specs.Str.{bytes_eq}
 use Rattle.std.specs.declared.cmp.Ordering.{Ordering}
 use Rattle.std.proofs.lemmas.Bool.{cases_Bool}
 use Rattle.org_outline.specs.declared.paths.PathFault.{PathFault}
+use Rattle.org_outline.specs.declared.steps.Step.{Step}
 use Rattle.org_outline.specs.States.{Keywords}
-use Rattle.org_outline.specs.Tree.{Forest, Empty, Tree, Document, Placed, node_at, node_count, nodes, total}
+use Rattle.org_outline.specs.Tree.{Forest, Empty, Tree, Document, node_at, node_count, total}
 use Rattle.org_outline.specs.Numbers.{roots_from, children_of}
-use Rattle.org_outline.specs.Paths.{title_of, find_path, titled_nodes, one_or_none, find_headed}
+use Rattle.org_outline.specs.Paths.{find_path}
 use Rattle.org_outline.proofs.ByNumber.{count-is}
 use Rattle.org_outline.proofs.Found.{found_in, some_holds}
 use Rattle.org_outline.proofs.Taking.{size_of-room}
@@ -51,25 +51,6 @@ some_in P (Ok k) base each is =
     subst (λ base. ForSome base P) here (some_holds P k (each k refl))
 some_in P (Err fault) base each is = absurd cc
 
-pub base_in : (states : Keywords) (d : Document) (path : List (List ℕ)) (base : Option ℕ) → date_base states d path ≡ Ok base → ForSome base (λ i. i < node_count d)
+pub base_in : (states : Keywords) (d : Document) (path : List Step) (base : Option ℕ) → date_base states d path ≡ Ok base → ForSome base (λ i. i < node_count d)
 base_in states d [] base is = λ i some. absurd cc
-base_in states d (title ∷ titles) base is = some_in (λ i. i < node_count d) (find_path states d (title ∷ titles)) base (found_in states d (title ∷ titles)) is
-
--- ---- titles
-
-nodes_in : (states : Keywords) (title : List ℕ) (end i : ℕ) (ps : List Placed) → i + length ps ≤ end → AllByRecursion (λ k. k < end) (titled_nodes states title i ps)
-nodes_in states title end i [] le = tt
-nodes_in states title end i (p ∷ ps) le =
-    let more = nodes_in states title end (suc i) ps (omega (arith, le)) in
-    elim (cases_Bool (bytes_eq (title_of states p.node.rest) title)) [
-      | inl e ↦ rw e (omega (arith, le), more)
-      | inr e ↦ rw e more
-    ]
-
-one_holds : (P : ℕ → Type 0) (is : List ℕ) (k : ℕ) → AllByRecursion P is → one_or_none is ≡ Ok (Some k) → P k
-one_holds P [] k all is = absurd cc
-one_holds P (i ∷ []) k all is = let same : i ≡ k = cc in subst P same all.0
-one_holds P (i ∷ j ∷ more) k all is = absurd cc
-
-pub headed_in : (states : Keywords) (d : Document) (title : List ℕ) (i : ℕ) → find_headed states d title ≡ Ok (Some i) → i < node_count d
-headed_in states d title i is = one_holds (λ k. k < node_count d) _ i (nodes_in states title (node_count d) 0 (nodes d) (omega arith)) is
+base_in states d (step ∷ path) base is = some_in (λ i. i < node_count d) (find_path states d (step ∷ path)) base (found_in states d (step ∷ path)) is

@@ -2,6 +2,7 @@
 use Rattle.std.proofs.Common.{◌≡◌, ℕ, List, [], ◌∷◌, ◌++◌, Some, None, codes, refl}
 use Rattle.std.specs.Prelude.{Result, Ok, Err}
 use Rattle.org_outline.specs.declared.moves.Place.TheVariants.{Last}
+use Rattle.org_outline.specs.declared.steps.Step.{Step}
 use Rattle.org_outline.specs.States.{Keywords}
 use Rattle.org_outline.specs.Tree.{Empty, Node, Document, tree, print}
 use Rattle.org_stamp.specs.Calendar.{Moment, civil_day}
@@ -82,20 +83,33 @@ with_entry text target =
     printed (Ok d) = print d
     printed (Err fault) = []
 
+-- a step without a number, and one with it
+abbrev only : List ℕ → Step
+only title = record { title = title; number = None }
+
+abbrev nth : ℕ → List ℕ → Step
+nth n title = record { title = title; number = Some n }
+
 top : with_entry (line (codes "* A")) Top ≡ line (codes "* A") ++ line (codes "* N")
 top = refl
 
-below_path : with_entry (line (codes "* A") ++ line (codes "* B")) (Path (codes "A" ∷ [])) ≡ line (codes "* A") ++ line (codes "** N") ++ line (codes "* B")
+below_path : with_entry (line (codes "* A") ++ line (codes "* B")) (Path (only (codes "A") ∷ [])) ≡ line (codes "* A") ++ line (codes "** N") ++ line (codes "* B")
 below_path = refl
 
-head_made : with_entry (line (codes "x")) (Head (codes "Tasks")) ≡ line (codes "x") ++ line (codes "* Tasks") ++ line (codes "** N")
+head_made : with_entry (line (codes "x")) (Head (only (codes "Tasks"))) ≡ line (codes "x") ++ line (codes "* Tasks") ++ line (codes "** N")
 head_made = refl
 
-head_with_keyword : with_entry (line (codes "x")) (Head (codes "TODO x")) ≡ []
+head_with_keyword : with_entry (line (codes "x")) (Head (only (codes "TODO x"))) ≡ []
 head_with_keyword = refl
 
-head_twice : with_entry (line (codes "* T") ++ line (codes "** T")) (Head (codes "T")) ≡ []
+head_twice : with_entry (line (codes "* T") ++ line (codes "** T")) (Head (only (codes "T"))) ≡ []
 head_twice = refl
+
+head_numbered : with_entry (line (codes "* T") ++ line (codes "* U") ++ line (codes "** T")) (Head (nth 2 (codes "T"))) ≡ line (codes "* T") ++ line (codes "* U") ++ line (codes "** T") ++ line (codes "*** N")
+head_numbered = refl
+
+numbered_never_made : with_entry (line (codes "x")) (Head (nth 1 (codes "Tasks"))) ≡ []
+numbered_never_made = refl
 
 used_again : with_entry (line (codes "* 2026") ++ line (codes "** 2026-07 July") ++ line (codes "*** 2026-07-01 Wednesday")) (Date [])
     ≡ line (codes "* 2026") ++ line (codes "** 2026-07 July") ++ line (codes "*** 2026-07-01 Wednesday") ++ line (codes "**** N")
@@ -121,8 +135,8 @@ year_there = refl
 none_missing : missing states (Date []) now (tree (line (codes "* 2026") ++ line (codes "** 2026-07 July") ++ line (codes "*** 2026-07-01"))) ≡ []
 none_missing = refl
 
-title_missing : missing states (Head (codes "Tasks")) now (tree (line (codes "x"))) ≡ codes " Tasks" ∷ []
+title_missing : missing states (Head (only (codes "Tasks"))) now (tree (line (codes "x"))) ≡ codes " Tasks" ∷ []
 title_missing = refl
 
-title_there : missing states (Head (codes "Tasks")) now (tree (line (codes "*** TODO Tasks :x:"))) ≡ []
+title_there : missing states (Head (only (codes "Tasks"))) now (tree (line (codes "*** TODO Tasks :x:"))) ≡ []
 title_there = refl

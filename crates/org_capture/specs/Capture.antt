@@ -5,6 +5,7 @@ use Rattle.std.specs.Str.{bytes_eq}
 use Rattle.org_outline.specs.declared.moves.Place.{Place}
 use Rattle.org_outline.specs.declared.paths.PathFault.{PathFault}
 use Rattle.org_outline.specs.declared.paths.PathFault.TheVariants as path
+use Rattle.org_outline.specs.declared.steps.Step.{Step}
 use Rattle.org_outline.specs.States.{Keywords}
 use Rattle.org_outline.specs.Tree.{Node, Document, node_count}
 use Rattle.org_outline.specs.Moves.{insert, append_heading}
@@ -48,7 +49,8 @@ abbrev pub below_made : Place → Node → List ℕ → Document → Document
 below_made place entry title d =
     insert (Some (node_count d)) place entry (append_heading 1 (rest_of title) d)
 
--- the entry below the one heading with a title, which is made where there is none
+-- the entry below the heading that a step means; where a step without a number has none, it is made
+-- with the title
 abbrev pub below_head : Keywords → List ℕ → Place → Node → Document → Result (Option ℕ) PathFault
     → Result Document CaptureFault
 below_head states title place entry d (Ok (Some i)) = Ok (insert (Some i) place entry d)
@@ -61,9 +63,9 @@ abbrev pub some_node : Result ℕ PathFault → Result (Option ℕ) PathFault
 some_node (Ok i) = Ok (Some i)
 some_node (Err fault) = Err fault
 
-abbrev pub date_base : Keywords → Document → List (List ℕ) → Result (Option ℕ) PathFault
+abbrev pub date_base : Keywords → Document → List Step → Result (Option ℕ) PathFault
 date_base states d [] = Ok None
-date_base states d (title ∷ titles) = some_node (find_path states d (title ∷ titles))
+date_base states d (step ∷ path) = some_node (find_path states d (step ∷ path))
 
 -- the entry below the heading of the moment's day
 abbrev pub below_day : Keywords → Place → Moment → Node → Document
@@ -76,9 +78,9 @@ below_day states place moment entry d (Err fault) = Err (fault_of fault)
 abbrev pub captured : Keywords → Target → Place → Moment → Node → Document
     → Result Document CaptureFault
 captured states Top place moment entry d = Ok (insert None place entry d)
-captured states (Head title) place moment entry d =
-    below_head states title place entry d (find_headed states d title)
-captured states (Path titles) place moment entry d =
-    below_found place entry d (find_path states d titles)
-captured states (Date titles) place moment entry d =
-    below_day states place moment entry d (date_base states d titles)
+captured states (Head step) place moment entry d =
+    below_head states step.title place entry d (find_headed states d step)
+captured states (Path path) place moment entry d =
+    below_found place entry d (find_path states d path)
+captured states (Date path) place moment entry d =
+    below_day states place moment entry d (date_base states d path)

@@ -46,10 +46,10 @@ missing_title title (Err fault) = []
 -- of the headings of a target those that a document hasn't
 abbrev pub missing : Keywords → Target → Moment → Document → List (List ℕ)
 missing states Top moment d = []
-missing states (Head title) moment d = missing_title title (find_headed states d title)
-missing states (Path titles) moment d = []
-missing states (Date titles) moment d =
-    missing_below states moment.day d (date_base states d titles)
+missing states (Head step) moment d = missing_title step.title (find_headed states d step)
+missing states (Path path) moment d = []
+missing states (Date path) moment d =
+    missing_below states moment.day d (date_base states d path)
 
 -- what a capture adds to a sum over all nodes: its entry's nodes, and each heading that was
 -- missing, without a section

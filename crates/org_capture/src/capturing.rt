@@ -4,7 +4,7 @@
 ghost use Rattle.std.specs.Prelude.{◌≡◌, ◌<◌, IfOk};
 ghost use Rattle.std.specs.Option.{ForSome};
 ghost use Rattle.org_outline.specs.Tree.{Node as NodeOf, node_count, tree};
-ghost use Rattle.org_outline.specs.Paths.{find_headed, titles_of};
+ghost use Rattle.org_outline.specs.Paths.{find_headed};
 ghost use Rattle.org_capture.specs.Entry.{IsEntry};
 ghost use Rattle.org_capture.specs.Capture.{below_head, captured, date_base};
 ghost use Rattle.org_capture.specs.Answers.{AnswersEdit};
@@ -15,15 +15,15 @@ use crate::fault::CaptureFault;
 use crate::inserting::insertion;
 use crate::made_heads::{can_be_title, made_head};
 use crate::target::Target;
-use org_outline::{Node, Outline, PathFault, Place};
+use org_outline::{Node, Outline, PathFault, Place, Step};
 use org_splice::Edit;
 use org_stamp::Moment;
 use std::alloc::Global;
 
 /// The heading below which a date tree stands; none at top level.
-fn date_base(outline: &Outline<'_>, path: &[Vec<u8>]) -> Result<Option<Node>, PathFault>
+fn date_base(outline: &Outline<'_>, path: &[Step]) -> Result<Option<Node>, PathFault>
     ensures value { result
-        ≡ date_base outline.now.states (tree outline.now.text) (titles_of path.now) }
+        ≡ date_base outline.now.states (tree outline.now.text) path.now }
     ensures within { IfOk result (λ base.
         ForSome base (λ node. node < node_count (tree outline.now.text))) }
 {
@@ -33,12 +33,12 @@ fn date_base(outline: &Outline<'_>, path: &[Vec<u8>]) -> Result<Option<Node>, Pa
     Ok(Some(outline.find(path)?))
 }
 
-/// The edit that puts an entry below the one heading with a title, which is made at level 1 at the
-/// end where there is none.
+/// The edit that puts an entry below the heading that a step means, at any level. Without a number
+/// it is made at level 1 at the end where there is none.
 fn below_head(
     alloc: Global,
     outline: &Outline<'_>,
-    title: &[u8],
+    head: &Step,
     place: Place,
     entry: Vec<u8>,
 ) -> Result<Edit, CaptureFault>
@@ -46,12 +46,13 @@ fn below_head(
     ensures { let states = outline.now.states in
         let d = tree outline.now.text in
         (node : NodeOf) → IsEntry entry.items node
-        → AnswersEdit (below_head states title.now place node d
-        (find_headed states d title.now)) outline.now.text result }
+        → AnswersEdit (below_head states head.now.title place node d
+        (find_headed states d head.now)) outline.now.text result }
 {
-    if let Some(node) = outline.headed(title)? {
+    if let Some(node) = outline.headed(head)? {
         return insertion(alloc, outline, Some(node), place, entry);
     }
+    let title = head.title.as_slice();
     if !can_be_title(alloc, title, outline.states())? {
         return Err(CaptureFault::NotFound);
     }
@@ -64,9 +65,9 @@ fn below_head(
 ///
 /// # Errors
 ///
-/// - `NotFound`: no heading is at the path, or a heading made with the title would read back with
-///   another title, a keyword, a priority or tags.
-/// - `NotUnique`: several headings have a title.
+/// - `NotFound`: no heading is at the path, or fewer than a step's number have its title, or a
+///   heading made with the title would read back with another title, a keyword, a priority or tags.
+/// - `NotUnique`: several headings have the title of a step without a number.
 /// - `OutOfMemory`.
 pub fn capture(
     alloc: Global,
@@ -83,7 +84,7 @@ pub fn capture(
 {
     match target {
         Target::Top => insertion(alloc, outline, None, place, entry),
-        Target::Head(title) => below_head(alloc, outline, title.as_slice(), place, entry),
+        Target::Head(head) => below_head(alloc, outline, head, place, entry),
         Target::Path(path) => {
             let node = outline.find(path.as_slice())?;
             insertion(alloc, outline, Some(node), place, entry)

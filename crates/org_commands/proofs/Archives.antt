@@ -6,6 +6,7 @@ use Rattle.std.specs.Str.{bytes_eq}
 use Rattle.std.proofs.lemmas.Bool.{false≢true}
 use Rattle.std.proofs.lemmas.Slice.Eq.{bytes_eq-Decides}
 use Rattle.org_disk.specs.declared.disk.Disk.{Ghosts}
+use Rattle.org_outline.specs.declared.steps.Step.{Step}
 use Rattle.org_splice.specs.Lines.{terminated}
 use Rattle.org_splice.specs.Edits.{AreEdits}
 use Rattle.org_splice.specs.Texts.{EditedText}
@@ -100,10 +101,10 @@ module _ (plan : Plan) (held : Holding) (file to_file : List ℕ) (new : Moved) 
 
 -- ---- the outcome
 
-location_terminated : (states : Keywords) (name : List ℕ) (path : List (List ℕ)) (text : List ℕ) → location states name path (terminated text) ≡ location states name path text
+location_terminated : (states : Keywords) (name : List ℕ) (path : List Step) (text : List ℕ) → location states name path (terminated text) ≡ location states name path text
 location_terminated states name path text = rw (lines_of-terminated text) refl
 
-module _ (s : Session) (file : List ℕ) (path : List (List ℕ)) (moment : Moment) where
+module _ (s : Session) (file : List ℕ) (path : List Step) (moment : Moment) where
   -- what an archiving is to do with the store's text of the file
   abbrev pub told : Outcome
   told = archive s file path moment (text_at s.names s.files file)
@@ -163,7 +164,7 @@ module _ (s : Session) (file : List ℕ) (path : List (List ℕ)) (moment : Mome
 -- ---- what is planned
 
 -- within a file that is ready
-module _ {D : Type 0} (g : Ghosts D) (states : Keywords) (files : OpenFiles D) (file : List ℕ) (path : List (List ℕ)) (moment : Moment) (to : Destination) (own : file ≡ to.file) (unbroken : files.broken ≡ false)
+module _ {D : Type 0} (g : Ghosts D) (states : Keywords) (files : OpenFiles D) (file : List ℕ) (path : List Step) (moment : Moment) (to : Destination) (own : file ≡ to.file) (unbroken : files.broken ≡ false)
     (ready : AreReady (file ∷ []) files.held) (there : is_name files.names file ≡ true) (tally : Tally) (text : List ℕ) where
   abbrev s : Session
   s = session_in g states files tally
@@ -213,7 +214,7 @@ both_ready g states old new file to_file copy is differ has there was ready name
   reads = reads states;
 }
 
-module _ {D : Type 0} {g : Ghosts D} {states : Keywords} {old new : OpenFiles D} (file : List ℕ) (path : List (List ℕ)) (moment : Moment) (to : Destination) (both : AreBothReady g states old new file to.file) where
+module _ {D : Type 0} {g : Ghosts D} {states : Keywords} {old new : OpenFiles D} (file : List ℕ) (path : List Step) (moment : Moment) (to : Destination) (both : AreBothReady g states old new file to.file) where
   abbrev made : Result Moved MoveFault
   made = archive_across states file path moment (tree (held_bytes new.held file)) states to (tree (held_bytes new.held to.file))
 

@@ -2,6 +2,7 @@
 use Rattle.std.proofs.Common.{◌≡◌, ◌≢◌, ◌∙◌, false, true, ℕ, List, [], Option, None, Some, Err, refl, sym, ap, subst}
 use Rattle.std.specs.Option.{option_map, unwrap_or}
 use Rattle.org_disk.specs.declared.disk.Disk.{Ghosts}
+use Rattle.org_outline.specs.declared.steps.Step.{Step}
 use Rattle.org_outline.specs.Paths.{find_path}
 use Rattle.org_outline.specs.States.{Keywords}
 use Rattle.org_outline.specs.Tree.{Document, tree}
@@ -30,14 +31,14 @@ abbrev document_at : Session → List ℕ → Document
 document_at s file = tree (unwrap_or (text_at s.names s.files file) [])
 
 -- clocking in within one file, where this clock runs in it or none
-abbrev pub in_one : Keywords → List ℕ → List (List ℕ) → Moment → Option Running → Session → Outcome
+abbrev pub in_one : Keywords → List ℕ → List Step → Moment → Option Running → Session → Outcome
 in_one states file path moment running s = with_state s file (clocked_in moment running (document_at s file) (find_path states (document_at s file) path))
 
 -- .. and where this one runs in another file
-abbrev pub in_other : Keywords → List ℕ → List (List ℕ) → Moment → Clock → Session → Outcome
+abbrev pub in_other : Keywords → List ℕ → List Step → Moment → Clock → Session → Outcome
 in_other states file path moment clock s = with_clock_moved s clock.file file (clock_moved moment clock.running (document_at s clock.file) (document_at s file) (find_path states (document_at s file) path))
 
-module _ {D : Type 0} (g : Ghosts D) (states : Keywords) (files : OpenFiles D) (file : List ℕ) (path : List (List ℕ)) (moment : Moment) (there : true ≡ is_name files.names file) (tally : Tally) where
+module _ {D : Type 0} (g : Ghosts D) (states : Keywords) (files : OpenFiles D) (file : List ℕ) (path : List Step) (moment : Moment) (there : true ≡ is_name files.names file) (tally : Tally) where
   abbrev s : Session
   s = session_in g states files tally
 

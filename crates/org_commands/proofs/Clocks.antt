@@ -5,6 +5,7 @@ use Rattle.std.specs.Option.{is_some, unwrap_or}
 use Rattle.std.specs.Result.{result_map_both}
 use Rattle.std.proofs.lemmas.Bool.{false≢true}
 use Rattle.org_disk.proofs.Names.{name_cases}
+use Rattle.org_outline.specs.declared.steps.Step.{Step}
 use Rattle.org_splice.specs.declared.edit.Edit.{Edit}
 use Rattle.org_splice.specs.Edits.{AreEdits}
 use Rattle.org_splice.specs.Texts.{EditedText}
@@ -73,14 +74,14 @@ not_moved other file text target said result why is told = subst (PlansClocks ot
 -- ---- a clock opened
 
 -- an answer, told of what the outline and the slice are
-pub opening_told : (states given : Keywords) (path titles : List (List ℕ)) (now : Moment) (text seen : List ℕ) (answer : Result Edit StateFault) → given ≡ states → titles ≡ path → seen ≡ text
+pub opening_told : (states given : Keywords) (path titles : List Step) (now : Moment) (text seen : List ℕ) (answer : Result Edit StateFault) → given ≡ states → titles ≡ path → seen ≡ text
     → AnswersOpening given titles now seen answer → AnswersOpening states path now text answer
 opening_told states given path titles now text seen answer s p t answers =
     subst (λ (k : Keywords). AnswersOpening k path now text answer) s
-    (subst (λ (ts : List (List ℕ)). AnswersOpening given ts now text answer) p
+    (subst (λ (ts : List Step). AnswersOpening given ts now text answer) p
     (subst (λ (b : List ℕ). AnswersOpening given titles now b answer) t answers))
 
-pub opening_fault : (states : Keywords) (path : List (List ℕ)) (now : Moment) (text : List ℕ) (why : StateFault) → why ≢ fault.OutOfMemory → AnswersOpening states path now text (Err why)
+pub opening_fault : (states : Keywords) (path : List Step) (now : Moment) (text : List ℕ) (why : StateFault) → why ≢ fault.OutOfMemory → AnswersOpening states path now text (Err why)
     → (none : PathFault) × (find_path states (tree text) path ≡ Err none) × (why ≡ fault_of_path none)
 opening_fault states path now text fault.OutOfMemory some answers = absurd (some refl)
 opening_fault states path now text fault.NotFound some answers = answers
@@ -91,13 +92,13 @@ opening_fault states path now text fault.BadRepeat some answers = answers
 opening_fault states path now text fault.DateRange some answers = answers
 opening_fault states path now text fault.ClockBackwards some answers = answers
 
-pub start_refused : (states : Keywords) (path : List (List ℕ)) (now : Moment) (text : List ℕ) (why : StateFault) → AnswersOpening states path now text (Err why) → why ≢ fault.OutOfMemory
+pub start_refused : (states : Keywords) (path : List Step) (now : Moment) (text : List ℕ) (why : StateFault) → AnswersOpening states path now text (Err why) → why ≢ fault.OutOfMemory
     → clocked_in now None (tree text) (find_path states (tree text) path) ≡ Err why
 start_refused states path now text why answers some =
     let none = opening_fault states path now text why some answers in
     ap (λ (f : Result ℕ PathFault). clocked_in now None (tree text) f) none.1 ∙ ap (λ (f : StateFault). Err f) (sym none.2)
 
-pub start_made : (states : Keywords) (path : List (List ℕ)) (now : Moment) (text : List ℕ) (edit : Edit) (edits : List Edit) → edits ≡ edit ∷ [] → AnswersOpening states path now text (Ok edit)
+pub start_made : (states : Keywords) (path : List Step) (now : Moment) (text : List ℕ) (edit : Edit) (edits : List Edit) → edits ≡ edit ∷ [] → AnswersOpening states path now text (Ok edit)
     → (new : Document) × (clocked_in now None (tree text) (find_path states (tree text) path) ≡ Ok (Some new)) × AreEdits edits text (print new)
 start_made states path now text edit edits are (i, found, makes) = (
   with_opened now i (tree text),
@@ -107,11 +108,11 @@ start_made states path now text edit edits are (i, found, makes) = (
 
 -- ---- a clock moved within a text
 
-pub switch_told : (states given : Keywords) (path titles : List (List ℕ)) (now : Moment) (from : ℕ) (text seen : List ℕ) (answer : Result (Vec Edit Global) StateFault) → given ≡ states → titles ≡ path → seen ≡ text
+pub switch_told : (states given : Keywords) (path titles : List Step) (now : Moment) (from : ℕ) (text seen : List ℕ) (answer : Result (Vec Edit Global) StateFault) → given ≡ states → titles ≡ path → seen ≡ text
     → AnswersSwitch now seen from (find_path given (tree seen) titles) answer → AnswersSwitch now text from (find_path states (tree text) path) answer
 switch_told states given path titles now from text seen answer s p t answers =
     subst (λ (k : Keywords). AnswersSwitch now text from (find_path k (tree text) path) answer) s
-    (subst (λ (ts : List (List ℕ)). AnswersSwitch now text from (find_path given (tree text) ts) answer) p
+    (subst (λ (ts : List Step). AnswersSwitch now text from (find_path given (tree text) ts) answer) p
     (subst (λ (b : List ℕ). AnswersSwitch now b from (find_path given (tree b) titles) answer) t answers))
 
 pub switch_refused : (now : Moment) (text : List ℕ) (from : ℕ) (found : Result ℕ PathFault) (why : StateFault) → AnswersSwitch now text from found (Err why) → why ≢ fault.OutOfMemory → switched_at now from (tree text) found ≡ Err why
@@ -166,7 +167,7 @@ stop_made now text seen running edit edits same are answers =
 
 -- ---- a clock moved to another text
 
-module _ (states : Keywords) (path : List (List ℕ)) (now : Moment) (other text : List ℕ) (running : Running) where
+module _ (states : Keywords) (path : List Step) (now : Moment) (other text : List ℕ) (running : Running) where
   abbrev pub said : Result Moved StateFault
   said = clock_moved now running (tree other) (tree text) (find_path states (tree text) path)
 
@@ -266,7 +267,7 @@ none_left None out = refl
 none_left (Some x) out = absurd (out x refl)
 
 -- what clocking in is to do, where this clock runs
-pub clock_in_is : (s : Session) (file : List ℕ) (path : List (List ℕ)) (moment : Moment) (text : Option (List ℕ)) (clock : Option (List ℕ × Running)) → is_some text ≡ true → running_over s.names s.files ≡ clock
+pub clock_in_is : (s : Session) (file : List ℕ) (path : List Step) (moment : Moment) (text : Option (List ℕ)) (clock : Option (List ℕ × Running)) → is_some text ≡ true → running_over s.names s.files ≡ clock
     → clock_in s file path moment text ≡ clock_in_beside s file moment (tree (unwrap_or text [])) (find_path s.states (tree (unwrap_or text [])) path) clock
 clock_in_is s file path moment None clock some is = absurd (false≢true some)
 clock_in_is s file path moment (Some text) clock some is = ap (clock_in_beside s file moment (tree text) (find_path s.states (tree text) path)) is

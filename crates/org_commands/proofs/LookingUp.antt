@@ -3,6 +3,7 @@ use Rattle.std.proofs.Common.{◌≡◌, ◌∷◌, [], ℕ, List, Result, Ok, E
 use Rattle.std.specs.Option.{unwrap_or}
 use Rattle.std.specs.Result.{IsErrAnd, result_map_both}
 use Rattle.org_disk.specs.declared.disk.Disk.{Ghosts}
+use Rattle.org_outline.specs.declared.steps.Step.{Step}
 use Rattle.org_splice.specs.Texts.{EditedText}
 use Rattle.org_outline.specs.declared.paths.PathFault.{PathFault}
 use Rattle.org_outline.specs.Paths.{find_path}
@@ -28,7 +29,7 @@ look_up_unread g states old new tally found {fault = fault} answer handed was re
     let t = session_in g states new tally in
     subst (λ (r : Result (Unit {0}) RunFault). LooksUp s found r t) (sym (handed_on answer fault handed)) (reads_look_up s t found fault (subst (λ (r : Result (Unit {0}) RunFault). Reads s r t) was reads))
 
-module _ {D : Type 0} {g : Ghosts D} {states : Keywords} {old new : OpenFiles D} {file : List ℕ} {seen : EditedText} (sees : Sees g states old new (file ∷ []) file seen) (path : List (List ℕ)) (tally : Tally) (honest : g.honest new.disk) where
+module _ {D : Type 0} {g : Ghosts D} {states : Keywords} {old new : OpenFiles D} {file : List ℕ} {seen : EditedText} (sees : Sees g states old new (file ∷ []) file seen) (path : List Step) (tally : Tally) (honest : g.honest new.disk) where
   abbrev s : Session
   s = session_in g states old tally
 

@@ -4,6 +4,7 @@ use Rattle.std.specs.Prelude.{IsSomeAnd}
 use Rattle.std.specs.Result.{IsErrAnd}
 use Rattle.org_disk.specs.declared.disk.Disk.{Ghosts}
 use Rattle.org_disk.proofs.Names.{name_cases, same_name}
+use Rattle.org_outline.specs.declared.steps.Step.{Step}
 use Rattle.org_splice.specs.declared.edit.Edit.{Edit}
 use Rattle.org_splice.specs.Edits.{AreEdits}
 use Rattle.org_splice.specs.Texts.{EditedText}
@@ -30,7 +31,7 @@ use Rattle.org_commands.specs.Step.{Steps}
 use Rattle.org_commands.proofs.MadeReady.{Sees, plans_not_fit, session_in, text_seen}
 
 -- what a refile is to do with the text of one file, which the planner sees terminated
-pub within_is : {D : Type 0} {g : Ghosts D} {states : Keywords} {old new : OpenFiles D} {file : List ℕ} {seen : EditedText} (sees : Sees g states old new (file ∷ []) file seen) (path to : List (List ℕ)) (place : Place)
+pub within_is : {D : Type 0} {g : Ghosts D} {states : Keywords} {old new : OpenFiles D} {file : List ℕ} {seen : EditedText} (sees : Sees g states old new (file ∷ []) file seen) (path to : List Step) (place : Place)
     → BetweenSessions g states old new (λ s t. refile s file path file to place (text_at s.names s.files file) (text_at s.names s.files file) ≡ with_moved s (text_within file) (refile_within states path to place (tree seen.bytes)))
 within_is {D} {g} {states} {old} {file = file} {seen = seen} sees path to place tally honest =
     let s = session_in g states old tally in
@@ -41,7 +42,7 @@ within_is {D} {g} {states} {old} {file = file} {seen = seen} sees path to place 
 
 -- .. and with those of two
 pub across_is : {D : Type 0} {g : Ghosts D} {states : Keywords} {old new : OpenFiles D} {names : List (List ℕ)} {file to_file : List ℕ} {seen found : EditedText}
-    (both : Sees g states old new names file seen × Sees g states old new names to_file found) (path to : List (List ℕ)) (place : Place) → file ≢ to_file
+    (both : Sees g states old new names file seen × Sees g states old new names to_file found) (path to : List Step) (place : Place) → file ≢ to_file
     → BetweenSessions g states old new (λ s t. refile s file path to_file to place (text_at s.names s.files file) (text_at s.names s.files to_file)
     ≡ with_moved s (texts_across file to_file) (refile_across states path (tree seen.bytes) states to (tree found.bytes) place))
 across_is {D} {g} {states} {old} {file = file} {to_file = to_file} {seen = seen} {found = found} both path to place apart tally honest =
@@ -98,6 +99,6 @@ two_made file to_file text target edit to_edit new plan (named, one, two) source
     go (Some second) two = (two.0, subst (λ (es : List Edit). AreEdits es target (print new.target)) (sym two.1) goes_in)
 
 -- a target that isn't there
-pub no_target : (s : Session) (file : List ℕ) (path : List (List ℕ)) (to_file : List ℕ) (to : List (List ℕ)) (place : Place) (old : Option (List ℕ)) → refile s file path to_file to place old None ≡ Refuses NoSuchFile
+pub no_target : (s : Session) (file : List ℕ) (path : List Step) (to_file : List ℕ) (to : List Step) (place : Place) (old : Option (List ℕ)) → refile s file path to_file to place old None ≡ Refuses NoSuchFile
 no_target s file path to_file to place None = refl
 no_target s file path to_file to place (Some text) = refl

@@ -1,5 +1,5 @@
 -- The definitions of commands on worked examples.
-use Rattle.std.proofs.Common.{◌≡◌, ℕ, false, List, [], ◌∷◌, ◌++◌, refl}
+use Rattle.std.proofs.Common.{◌≡◌, ℕ, false, List, [], ◌∷◌, ◌++◌, None, refl}
 use Rattle.std.specs.Prelude.{codes}
 use Rattle.org_outline.specs.declared.moves.Place.{Place}
 use Rattle.org_outline.specs.declared.moves.Place.TheVariants.{First, Last}
@@ -8,6 +8,7 @@ use Rattle.org_stamp.specs.Calendar.{Moment, at_minute, civil_day}
 use Rattle.org_splice.specs.Lines.{print_lines}
 use Rattle.org_move.specs.Counts.{count_over}
 use Rattle.org_commands.specs.declared.command.Refusal.TheVariants.{NoSuchFile, BadTemplate, BadEntry, NotFound, InsideItself, NotThere}
+use Rattle.org_outline.specs.declared.steps.Step.{Step}
 use Rattle.org_outline.specs.States.{Keywords}
 use Rattle.org_commands.specs.InOrder.{text_at}
 use Rattle.org_commands.specs.declared.tally.Group.TheVariants.{Of}
@@ -66,29 +67,33 @@ unknown_file_before_escape = refl
 
 -- ---- refiles
 
-abbrev refiled_in : Session → List ℕ → List (List ℕ) → List ℕ → List (List ℕ) → Place → Outcome
+-- a step without a number
+abbrev only : List ℕ → Step
+only title = record { title = title; number = None }
+
+abbrev refiled_in : Session → List ℕ → List Step → List ℕ → List Step → Place → Outcome
 refiled_in s name path to_file to place = refile s name path to_file to place (text_at s.names s.files name) (text_at s.names s.files to_file)
 
 -- skipped levels stay skipped
 abbrev deep : List ℕ
 deep = line (codes "* S") ++ line (codes "** B") ++ line (codes "**** C") ++ line (codes "* T") ++ line (codes "** U") ++ line (codes "*** V")
 
-within_a_file : refiled_in (store deep []) (codes "a.org") (codes "S" ∷ codes "B" ∷ []) (codes "a.org") (codes "T" ∷ codes "U" ∷ codes "V" ∷ []) Last
+within_a_file : refiled_in (store deep []) (codes "a.org") (only (codes "S") ∷ only (codes "B") ∷ []) (codes "a.org") (only (codes "T") ∷ only (codes "U") ∷ only (codes "V") ∷ []) Last
     ≡ Accepts (codes "a.org" ∷ []) ((line (codes "* S") ++ line (codes "* T") ++ line (codes "** U") ++ line (codes "*** V") ++ line (codes "**** B") ++ line (codes "****** C")) ∷ [] ∷ [])
 within_a_file = refl
 
 -- both files are terminated
-across_files : refiled_in (store (line (codes "* A") ++ line (codes "** B") ++ codes "b") (line (codes "* T") ++ codes "** K")) (codes "a.org") (codes "A" ∷ codes "B" ∷ []) (codes "b.org") (codes "T" ∷ []) First
+across_files : refiled_in (store (line (codes "* A") ++ line (codes "** B") ++ codes "b") (line (codes "* T") ++ codes "** K")) (codes "a.org") (only (codes "A") ∷ only (codes "B") ∷ []) (codes "b.org") (only (codes "T") ∷ []) First
     ≡ Accepts (codes "a.org" ∷ codes "b.org" ∷ []) (line (codes "* A") ∷ (line (codes "* T") ++ line (codes "** B") ++ line (codes "b") ++ line (codes "** K")) ∷ [])
 across_files = refl
 
-below_itself : refiled_in (store (line (codes "* A") ++ line (codes "** B")) []) (codes "a.org") (codes "A" ∷ []) (codes "a.org") (codes "A" ∷ codes "B" ∷ []) Last ≡ Refuses InsideItself
+below_itself : refiled_in (store (line (codes "* A") ++ line (codes "** B")) []) (codes "a.org") (only (codes "A") ∷ []) (codes "a.org") (only (codes "A") ∷ only (codes "B") ∷ []) Last ≡ Refuses InsideItself
 below_itself = refl
 
-no_source_heading : refiled_in (store [] []) (codes "a.org") (codes "A" ∷ []) (codes "b.org") (codes "B" ∷ []) Last ≡ Refuses NotFound
+no_source_heading : refiled_in (store [] []) (codes "a.org") (only (codes "A") ∷ []) (codes "b.org") (only (codes "B") ∷ []) Last ≡ Refuses NotFound
 no_source_heading = refl
 
-unknown_target_before_path : refiled_in (store [] []) (codes "a.org") (codes "A" ∷ []) (codes "q.org") (codes "B" ∷ []) Last ≡ Refuses NoSuchFile
+unknown_target_before_path : refiled_in (store [] []) (codes "a.org") (only (codes "A") ∷ []) (codes "q.org") (only (codes "B") ∷ []) Last ≡ Refuses NoSuchFile
 unknown_target_before_path = refl
 
 -- ---- archivings

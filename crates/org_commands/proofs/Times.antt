@@ -2,6 +2,7 @@
 use Rattle.std.proofs.Common.{◌≡◌, ◌∷◌, [], false, ℕ, List, Result, Ok, Err, sym, ◌∙◌, ap, subst}
 use Rattle.std.specs.Result.{IsErrAnd, result_map_both}
 use Rattle.org_disk.specs.declared.disk.Disk.{Ghosts}
+use Rattle.org_outline.specs.declared.steps.Step.{Step}
 use Rattle.org_splice.specs.Texts.{EditedText}
 use Rattle.org_outline.specs.declared.paths.PathFault.{PathFault}
 use Rattle.org_outline.specs.States.{Keywords}
@@ -30,7 +31,7 @@ pub time_unread : {D : Type 0} (g : Ghosts D) (states : Keywords) (old new : Ope
 time_unread g states old new tally told {fault = fault} answer handed unbroken is reads =
     time_fault (session_in g states old tally) (session_in g states new tally) told fault answer handed (unread g states old new tally told unbroken is reads)
 
-module _ {D : Type 0} {g : Ghosts D} {states : Keywords} {old new : OpenFiles D} {file : List ℕ} {seen : EditedText} (sees : Sees g states old new (file ∷ []) file seen) (path : List (List ℕ)) (tally : Tally) (honest : g.honest new.disk) where
+module _ {D : Type 0} {g : Ghosts D} {states : Keywords} {old new : OpenFiles D} {file : List ℕ} {seen : EditedText} (sees : Sees g states old new (file ∷ []) file seen) (path : List Step) (tally : Tally) (honest : g.honest new.disk) where
   abbrev s : Session
   s = session_in g states old tally
 

@@ -5,6 +5,7 @@ use Rattle.std.specs.Prelude.{IfNone, IfSome}
 use Rattle.std.specs.Option.{ForSome, unwrap_or}
 use Rattle.std.specs.Result.{IsErrAnd}
 use Rattle.org_disk.specs.declared.disk.Disk.{Ghosts}
+use Rattle.org_outline.specs.declared.steps.Step.{Step}
 use Rattle.org_splice.specs.declared.edit.Edit.{Edit}
 use Rattle.org_splice.specs.Edits.{AreEdits}
 use Rattle.org_splice.specs.Texts.{EditedText}
@@ -31,7 +32,7 @@ use Rattle.org_commands.proofs.MadeReady.{Sees, document_fits, document_seen, do
 
 -- ---- the edits
 
-module _ (states : Keywords) (path : List (List ℕ)) (state : List ℕ) (now : Moment) (text : List ℕ) where
+module _ (states : Keywords) (path : List Step) (state : List ℕ) (now : Moment) (text : List ℕ) where
   -- no edits, for this reason
   pub state_refused : (file : List ℕ) (result : Result (Option Plan) StateFault) (why : StateFault) → result ≡ Err why → AnswersTodo states path state now text (Err why) → PlansState file text (in_state states path state now (tree text)) result
   state_refused file result why is answers = subst (PlansState file text (in_state states path state now (tree text))) (sym is) (go why answers)
@@ -95,7 +96,7 @@ module _ {D : Type 0} {g : Ghosts D} {states : Keywords} {old new : OpenFiles D}
     s = session_in g states old tally
 
     -- what a change of a state is to do with the text, which the planner sees terminated
-    pub todo_is : (path : List (List ℕ)) (state : List ℕ) (moment : Moment) → todo s file path state moment (text_at s.names s.files file) ≡ with_state s file (in_state states path state moment (tree seen.bytes))
+    pub todo_is : (path : List Step) (state : List ℕ) (moment : Moment) → todo s file path state moment (text_at s.names s.files file) ≡ with_state s file (in_state states path state moment (tree seen.bytes))
     todo_is path state moment =
         let text = text_seen sees tally honest in
         ap (todo s file path state moment) text.1 ∙ ap (λ (d : Document). with_state s file (in_state states path state moment d)) (sym (ap tree text.2 ∙ tree-terminated text.0))

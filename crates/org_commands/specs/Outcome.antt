@@ -2,6 +2,7 @@
 use Rattle.std.specs.Option.{unwrap_or}
 use Rattle.std.specs.Str.{bytes_eq}
 use Rattle.std.specs.Prelude.{◌≡◌, ℕ, ◌-◌, ◌^◌, ◌==◌, List, [], ◌∷◌, map, Option, Some, None, Result, Ok, Err, if◌then◌else◌}
+use Rattle.org_outline.specs.declared.steps.Step.{Step}
 use Rattle.org_outline.specs.declared.moves.Place.{Place}
 use Rattle.org_outline.specs.declared.paths.PathFault.{PathFault}
 use Rattle.org_outline.specs.Paths.{find_path}
@@ -117,7 +118,7 @@ with_moved s texts (Err fault) = Refuses (refusal_of_move fault)
 -- A refile from a file that has the first text into one that has the second, which are one where
 -- their names are. It is refused for the source's name first, then for the target's, then for the
 -- path in the source, then for the one in the target, then where the target lies in what is moved.
-abbrev pub refile : Session → List ℕ → List (List ℕ) → List ℕ → List (List ℕ) → Place
+abbrev pub refile : Session → List ℕ → List Step → List ℕ → List Step → Place
     → Option (List ℕ) → Option (List ℕ) → Outcome
 refile s file path to_file to place None into = Refuses NoSuchFile
 refile s file path to_file to place (Some text) None = Refuses NoSuchFile
@@ -147,7 +148,7 @@ with_state s file (Err fault) = Refuses (refusal_of_state fault)
 
 -- A change of a state in a file that has this text: it is refused for its file first, then for its
 -- path, then for its state, then for the heading's planning.
-abbrev pub todo : Session → List ℕ → List (List ℕ) → List ℕ → Moment → Option (List ℕ)
+abbrev pub todo : Session → List ℕ → List Step → List ℕ → Moment → Option (List ℕ)
     → Outcome
 todo s file path state moment None = Refuses NoSuchFile
 todo s file path state moment (Some text) =
@@ -155,7 +156,7 @@ todo s file path state moment (Some text) =
 
 -- An archiving to this destination, from a file that has the first text; the destination's file has
 -- the second one, if it is one of the store's. The two are one where their names are.
-abbrev pub archive_to : Session → List ℕ → List (List ℕ) → Moment → List ℕ → Destination
+abbrev pub archive_to : Session → List ℕ → List Step → Moment → List ℕ → Destination
     → Option (List ℕ) → Outcome
 archive_to s file path moment text to None = Refuses NoSuchFile
 archive_to s file path moment text to (Some target) =
@@ -164,7 +165,7 @@ archive_to s file path moment text to (Some target) =
     else with_moved s (texts_across file to.file)
     (archive_across s.states file path moment (tree text) s.states to (tree target))
 
-abbrev pub archive_at : Session → List ℕ → List (List ℕ) → Moment → List ℕ
+abbrev pub archive_at : Session → List ℕ → List Step → Moment → List ℕ
     → Result Destination MoveFault → Outcome
 archive_at s file path moment text (Ok to) =
     archive_to s file path moment text to (text_at s.names s.files to.file)
@@ -173,7 +174,7 @@ archive_at s file path moment text (Err fault) = Refuses (refusal_of_move fault)
 -- An archiving from a file that has this text: it is refused for its file first, then for its path,
 -- then where the file is an archive file, then for its location, then for the location's file and
 -- for the heading there.
-abbrev pub archive : Session → List ℕ → List (List ℕ) → Moment → Option (List ℕ) → Outcome
+abbrev pub archive : Session → List ℕ → List Step → Moment → Option (List ℕ) → Outcome
 archive s file path moment None = Refuses NoSuchFile
 archive s file path moment (Some text) =
     archive_at s file path moment text (location s.states file path text)
@@ -195,7 +196,7 @@ clock_in_beside s file moment d found (Some clock) =
 
 -- Clocking in at a heading of a file that has this text: it is refused for its file first, then for
 -- its path, then where the moment is before the start of the clock that is to be closed.
-abbrev pub clock_in : Session → List ℕ → List (List ℕ) → Moment → Option (List ℕ) → Outcome
+abbrev pub clock_in : Session → List ℕ → List Step → Moment → Option (List ℕ) → Outcome
 clock_in s file path moment None = Refuses NoSuchFile
 clock_in s file path moment (Some text) =
     clock_in_beside s file moment (tree text) (find_path s.states (tree text) path)
@@ -231,7 +232,7 @@ with_minutes (Err fault) = Refuses (refusal_of_path fault)
 
 -- The time clocked at a heading, and below it, of a file that has this text: it is refused for its
 -- file first, then for its path.
-abbrev pub time : Session → List (List ℕ) → Option (List ℕ) → Outcome
+abbrev pub time : Session → List Step → Option (List ℕ) → Outcome
 time s path None = Refuses NoSuchFile
 time s path (Some text) = with_minutes (clocked_at s.states path (tree text))
 

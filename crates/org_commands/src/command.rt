@@ -10,7 +10,7 @@ use org_capture::{CaptureFault, Target};
 use org_disk::FileName;
 use org_fileset::SetFault;
 use org_move::MoveFault;
-use org_outline::{PathFault, Place, Titles};
+use org_outline::{Path, PathFault, Place};
 use org_splice::Bytes;
 use org_stamp::Moment;
 use org_state::StateFault;
@@ -88,11 +88,11 @@ pub struct Refile {
     /// The file that the subtree leaves.
     pub file: FileName,
     /// The path of its heading there.
-    pub path: Titles,
+    pub path: Path,
     /// The file that it goes into.
     pub to_file: FileName,
     /// The path of the heading there that it goes below.
-    pub to_path: Titles,
+    pub to_path: Path,
     /// Where it goes among the children of that heading.
     pub place: Place,
 }
@@ -104,7 +104,7 @@ pub struct Todo<'a> {
     /// The file of the heading.
     pub file: FileName,
     /// Its path there.
-    pub path: Titles,
+    pub path: Path,
     /// The state, one of the store's, or no byte for none.
     pub state: TextOf<'a>,
     /// The moment of the change.
@@ -130,7 +130,7 @@ pub struct Archive {
     /// The file that the subtree leaves.
     pub file: FileName,
     /// The path of its heading there.
-    pub path: Titles,
+    pub path: Path,
     /// The moment of the archiving.
     pub moment: Moment,
 }
@@ -141,7 +141,7 @@ pub struct ClockIn {
     /// The file of the heading.
     pub file: FileName,
     /// Its path there.
-    pub path: Titles,
+    pub path: Path,
     /// The moment from which the clock runs.
     pub moment: Moment,
 }
@@ -180,7 +180,7 @@ pub enum Command<'a> {
         /// The file of the heading.
         file: FileName,
         /// Its path there.
-        path: Titles,
+        path: Path,
     },
     /// Answers the text of a file.
     Show {

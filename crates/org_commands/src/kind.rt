@@ -6,7 +6,7 @@ ghost use Rattle.org_commands.specs.Kinds.{command_of};
 
 use crate::command::{Archive, Capture, ClockIn, Command, Edit, Refile, Todo};
 use org_disk::FileName;
-use org_outline::Titles;
+use org_outline::Path;
 use org_stamp::Moment;
 
 /// A command that changes files. Its variants are those of `Command`.
@@ -39,7 +39,7 @@ pub enum Question<'a> {
         /// The file of the heading.
         file: &'a FileName,
         /// Its path there.
-        path: &'a Titles,
+        path: &'a Path,
     },
     /// Asks for the text of a file.
     Show {

@@ -5,6 +5,7 @@ use Rattle.org_splice.specs.Edits.{AreEdits}
 use Rattle.org_splice.specs.Lines.{terminated}
 use Rattle.org_splice.specs.declared.edit.Edit.{Edit}
 use Rattle.org_stamp.specs.Calendar.{Moment}
+use Rattle.org_outline.specs.declared.steps.Step.{Step}
 use Rattle.org_outline.specs.declared.paths.PathFault.{PathFault}
 use Rattle.org_outline.specs.States.{Keywords}
 use Rattle.org_outline.specs.Tree.{Document, Node, node_at, node_count, print, print_node, tree}
@@ -20,7 +21,7 @@ use Rattle.org_move.specs.Refile.{Moved}
 use Rattle.org_move.proofs.Made.{prints}
 use Rattle.org_move.proofs.Putting.{level_at}
 
-pub archive_made : (states : Keywords) (name : List ℕ) (path : List (List ℕ)) (now : Moment) (t : List ℕ) (there : Keywords) (to : Destination) (u : List ℕ) (r : Result ℕ PathFault) (s : Result (Option ℕ) PathFault)
+pub archive_made : (states : Keywords) (name : List ℕ) (path : List Step) (now : Moment) (t : List ℕ) (there : Keywords) (to : Destination) (u : List ℕ) (r : Result ℕ PathFault) (s : Result (Option ℕ) PathFault)
     (i : ℕ) (up : Option ℕ) (at : ℕ) (bytes : List ℕ) (out goes_in : Edit)
     → terminated t ≡ t → terminated u ≡ u → r ≡ find_path states (tree t) path → r ≡ Ok i → s ≡ target_heading there to (tree u) → s ≡ Ok up → i < node_count (tree t)
     → ((node : Node) → InsertsAt u (put_last to up node (tree u)) at (filled to (level_at up (tree u)) node))

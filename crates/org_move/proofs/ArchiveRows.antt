@@ -1,5 +1,6 @@
 -- The definitions of archiving on worked examples.
 use Rattle.std.proofs.Common.{◌≡◌, ℕ, List, [], ◌∷◌, ◌++◌, Some, None, codes, refl}
+use Rattle.org_outline.specs.declared.steps.Step.{Step}
 use Rattle.org_outline.specs.States.{Keywords}
 use Rattle.org_outline.specs.Tree.{tree}
 use Rattle.std.specs.Prelude.{Ok, Err, drop}
@@ -118,16 +119,20 @@ of_file : location_of states (codes "x.org") (value_for (line (codes "* A")) 0) 
 unfolding states
 of_file = refl
 
-bad : location states (codes "x.org") (codes "A" ∷ []) (line (codes "#+ARCHIVE: a/b.org") ++ line (codes "* A")) ≡ Err BadLocation
+-- a step without a number
+abbrev only : List ℕ → Step
+only title = record { title = title; number = None }
+
+bad : location states (codes "x.org") (only (codes "A") ∷ []) (line (codes "#+ARCHIVE: a/b.org") ++ line (codes "* A")) ≡ Err BadLocation
 unfolding states
 bad = refl
 
 -- the path is asked before the file
-archived : location states (codes "x.org_archive") (codes "A" ∷ []) (line (codes "* A")) ≡ Err AlreadyArchive
+archived : location states (codes "x.org_archive") (only (codes "A") ∷ []) (line (codes "* A")) ≡ Err AlreadyArchive
 unfolding states
 archived = refl
 
-path_first : location states (codes "x.org_archive") (codes "Q" ∷ []) (line (codes "* A")) ≡ Err NotFound
+path_first : location states (codes "x.org_archive") (only (codes "Q") ∷ []) (line (codes "* A")) ≡ Err NotFound
 unfolding states
 path_first = refl
 

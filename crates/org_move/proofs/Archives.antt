@@ -8,13 +8,14 @@ use Rattle.std.specs.Str.{bytes_eq}
 use Rattle.std.proofs.lemmas.Bool.{cases_Bool}
 use Rattle.org_splice.specs.Lines.{IsLine}
 use Rattle.org_stamp.specs.Calendar.{Moment}
+use Rattle.org_outline.specs.declared.steps.Step.{Step}
 use Rattle.org_outline.specs.declared.moves.Place.TheVariants.{Last}
 use Rattle.org_outline.specs.declared.paths.PathFault.{PathFault}
 use Rattle.org_outline.specs.States.{Keywords}
 use Rattle.org_outline.specs.Tree.{Document, IsValid, Node, Placed, node_at, node_count, nodes, print, tree}
 use Rattle.org_outline.specs.Moves.{IsNode, append_heading, take}
 use Rattle.org_outline.specs.Numbers.{parent_without, size_of, weigh, weigh_node}
-use Rattle.org_outline.specs.Paths.{find_path, one_or_none, title_of, titled_nodes}
+use Rattle.org_outline.specs.Paths.{find_path, the_only, title_of, titled_nodes}
 use Rattle.org_outline.proofs.ByNumber.{count-is}
 use Rattle.org_outline.proofs.Changes.{append_heading_valid, take_valid}
 use Rattle.org_outline.proofs.Found.{found_in, some_holds}
@@ -44,12 +45,12 @@ place_in test states title end i (p ∷ ps) le =
       | inr e ↦ rw e more
     ]
 
-one_place : (P : ℕ → Type 0) (is : List ℕ) (up : Option ℕ) → AllByRecursion P is → one_or_none is ≡ Ok up → ForSome up P
+one_place : (P : ℕ → Type 0) (is : List ℕ) (up : Option ℕ) → AllByRecursion P is → the_only is ≡ Ok up → ForSome up P
 one_place P [] up all is = let same : None ≡ up = cc in subst (λ (up : Option ℕ). ForSome up P) same (λ i none. absurd cc)
 one_place P (i ∷ []) up all is = let same : Some i ≡ up = cc in subst (λ (up : Option ℕ). ForSome up P) same (some_holds P i all.0)
 one_place P (i ∷ j ∷ more) up all is = absurd cc
 
-target_of : (b : Bool) (P : ℕ → Type 0) (is : List ℕ) (up : Option ℕ) → AllByRecursion P is → ◌≡◌ {A = Result (Option ℕ) PathFault} (if b then Ok None else one_or_none is) (Ok up) → ForSome up P
+target_of : (b : Bool) (P : ℕ → Type 0) (is : List ℕ) (up : Option ℕ) → AllByRecursion P is → ◌≡◌ {A = Result (Option ℕ) PathFault} (if b then Ok None else the_only is) (Ok up) → ForSome up P
 target_of true P is up all found = let same : None ≡ up = cc in subst (λ (up : Option ℕ). ForSome up P) same (λ i none. absurd cc)
 target_of false P is up all found = one_place P is up all found
 
@@ -82,7 +83,7 @@ pub record Stays (states : Keywords) (name : List ℕ) (now : Moment) (to : Dest
   pub outside : ForSome up (λ p. is_inside d i p ≡ false)
   pub is : left_with states name now to d i up ≡ new
 
-stays_of : (states : Keywords) (name : List ℕ) (path : List (List ℕ)) (now : Moment) (to : Destination) (d new : Document) (i : ℕ) (up : Option ℕ)
+stays_of : (states : Keywords) (name : List ℕ) (path : List Step) (now : Moment) (to : Destination) (d new : Document) (i : ℕ) (up : Option ℕ)
     → find_path states d path ≡ Ok i → target_heading states to d ≡ Ok up → if_apart d i up (left_with states name now to d i up) ≡ Ok new → Stays states name now to d new i up
 stays_of states name path now to d new i up found found_up made =
     let both = apart_of d i up (left_with states name now to d i up) new made in
@@ -106,7 +107,7 @@ put_last_valid to None node d line good valid =
           (append_heading_valid to.level (32 ∷ to.title) d (above_top to.level e) refl (spaced to.title line) valid))
     ]
 
-pub within_stays_valid : (states : Keywords) (name : List ℕ) (path : List (List ℕ)) (now : Moment) (to : Destination) (d new : Document)
+pub within_stays_valid : (states : Keywords) (name : List ℕ) (path : List Step) (now : Moment) (to : Destination) (d new : Document)
     → IsLine name → IsLine to.title → archive_within states name path now to d ≡ Ok new → IsValid d → IsValid new
 within_stays_valid states name path now to d new line title made valid =
     let first = found_of (find_path states d path) _ new made in
@@ -115,7 +116,7 @@ within_stays_valid states name path now to d new line title made valid =
     subst IsValid s.is (put_last_valid to (parent_without first.0 (size_of d first.0) second.0) (archived states name now d first.0) (take first.0 d) title
     (archived_node states name now d first.0 line valid s.node_in) (take_valid first.0 d valid))
 
-pub across_stays_valid : (states there : Keywords) (name : List ℕ) (path : List (List ℕ)) (now : Moment) (to : Destination) (source target : Document) (new : Moved)
+pub across_stays_valid : (states there : Keywords) (name : List ℕ) (path : List Step) (now : Moment) (to : Destination) (source target : Document) (new : Moved)
     → IsLine name → IsLine to.title → archive_across states name path now source there to target ≡ Ok new → IsValid source → IsValid target
     → IsValid new.source × IsValid new.target
 across_stays_valid states there name path now to source target new line title made valid valid_target =
@@ -175,7 +176,7 @@ own_count rest section states name now d i =
     let old : weigh_node (weight_of rest section) own ≡ one_of rest section own.rest own.section + weigh (weight_of rest section) own.children = refl in
     omega (arith, new, old)
 
-pub within_keeps : (states : Keywords) (name : List ℕ) (path : List (List ℕ)) (now : Moment) (to : Destination) (d new : Document) (i : ℕ) (up : Option ℕ)
+pub within_keeps : (states : Keywords) (name : List ℕ) (path : List Step) (now : Moment) (to : Destination) (d new : Document) (i : ℕ) (up : Option ℕ)
     → find_path states d path ≡ Ok i → target_heading states to d ≡ Ok up → archive_within states name path now to d ≡ Ok new → (rest : List ℕ) (section : List (List ℕ))
     → count_in rest section new + one_of rest section (node_at d i).node.rest (node_at d i).node.section
     ≡ count_in rest section d + one_of rest section (node_at d i).node.rest (archived_section states name now d i) + made_count rest section to up
@@ -187,7 +188,7 @@ within_keeps states name path now to d new i up found found_up made rest section
     let same : count_in rest section (left_with states name now to d i up) ≡ count_in rest section new = ap (count_in rest section) s.is in
     omega (arith, put_in, same, take-weight (weight_of rest section) i d s.node_in, own_count rest section states name now d i, same_made rest section to i (size_of d i) up)
 
-pub across_keeps : (states there : Keywords) (name : List ℕ) (path : List (List ℕ)) (now : Moment) (to : Destination) (source target : Document) (new : Moved) (i : ℕ) (up : Option ℕ)
+pub across_keeps : (states there : Keywords) (name : List ℕ) (path : List Step) (now : Moment) (to : Destination) (source target : Document) (new : Moved) (i : ℕ) (up : Option ℕ)
     → find_path states source path ≡ Ok i → target_heading there to target ≡ Ok up → archive_across states name path now source there to target ≡ Ok new → (rest : List ℕ) (section : List (List ℕ))
     → count_in rest section new.source + count_in rest section new.target + one_of rest section (node_at source i).node.rest (node_at source i).node.section
     ≡ count_in rest section source + count_in rest section target + one_of rest section (node_at source i).node.rest (archived_section states name now source i) + made_count rest section to up
@@ -203,7 +204,7 @@ across_keeps states there name path now to source target new i up found found_up
 
 -- ---- over all files
 
-pub file_keeps : (states : Keywords) (name : List ℕ) (path : List (List ℕ)) (now : Moment) (to : Destination) (texts : List (List ℕ)) (file : ℕ) (text : List ℕ) (new : Document) (i : ℕ) (up : Option ℕ)
+pub file_keeps : (states : Keywords) (name : List ℕ) (path : List Step) (now : Moment) (to : Destination) (texts : List (List ℕ)) (file : ℕ) (text : List ℕ) (new : Document) (i : ℕ) (up : Option ℕ)
     → IsLine name → IsLine to.title → slice_get texts file ≡ Some text → find_path states (tree text) path ≡ Ok i → target_heading states to (tree text) ≡ Ok up
     → archive_within states name path now to (tree text) ≡ Ok new → (rest : List ℕ) (section : List (List ℕ))
     → count_over rest section (slice_set texts file (print new)) + one_of rest section (node_at (tree text) i).node.rest (node_at (tree text) i).node.section
@@ -216,7 +217,7 @@ file_keeps states name path now to texts file text new i up line title here foun
       within_keeps states name path now to (tree text) new i up found found_up made rest section,
     )
 
-pub files_keep : (states there : Keywords) (name : List ℕ) (path : List (List ℕ)) (now : Moment) (to : Destination) (texts : List (List ℕ)) (first second : ℕ) (from into : List ℕ) (new : Moved) (i : ℕ) (up : Option ℕ)
+pub files_keep : (states there : Keywords) (name : List ℕ) (path : List Step) (now : Moment) (to : Destination) (texts : List (List ℕ)) (first second : ℕ) (from into : List ℕ) (new : Moved) (i : ℕ) (up : Option ℕ)
     → IsLine name → IsLine to.title → first ≢ second → slice_get texts first ≡ Some from → slice_get texts second ≡ Some into
     → find_path states (tree from) path ≡ Ok i → target_heading there to (tree into) ≡ Ok up
     → archive_across states name path now (tree from) there to (tree into) ≡ Ok new → (rest : List ℕ) (section : List (List ℕ))

@@ -2,6 +2,7 @@
 use Rattle.std.proofs.Common.{◌≡◌, ℕ, zero, suc, ◌+◌, ◌<◌, List, [], ◌∷◌, length, get_or, Some, Ok, refl, ap, subst, ◌∙◌, arith}
 use Rattle.std.specs.Prelude.{◌≢◌, slice_get, slice_set}
 use Rattle.std.proofs.lemmas.List.Sums.{sum_by-set}
+use Rattle.org_outline.specs.declared.steps.Step.{Step}
 use Rattle.org_outline.specs.declared.moves.Place.{Place}
 use Rattle.org_outline.specs.States.{Keywords}
 use Rattle.org_outline.specs.Tree.{Document, IsValid, node_at, node_count, print, tree}
@@ -17,13 +18,13 @@ use Rattle.org_move.specs.Refile.{moved, refile_within, Moved, refile_across}
 use Rattle.org_move.specs.Counts.{count_in, count_over}
 use Rattle.org_move.proofs.Moving.{Within, Across, within_of, across_of, number_in}
 
-pub within_valid : (states : Keywords) (path to : List (List ℕ)) (place : Place) (d new : Document)
+pub within_valid : (states : Keywords) (path to : List Step) (place : Place) (d new : Document)
     → refile_within states path to place d ≡ Ok new → IsValid d → IsValid new
 within_valid states path to place d new made valid =
     let w = within_of states path to place d new made in
     subst IsValid w.is (IsValid-insert (Some (number_without w.node (size_of d w.node) w.parent)) place (node_at d w.node).node (take w.node d) (valid_node d w.node valid w.node_in) (take_valid w.node d valid))
 
-pub across_valid : (states there : Keywords) (path to : List (List ℕ)) (place : Place) (source target : Document) (new : Moved)
+pub across_valid : (states there : Keywords) (path to : List Step) (place : Place) (source target : Document) (new : Moved)
     → refile_across states path source there to target place ≡ Ok new → IsValid source → IsValid target → IsValid new.source × IsValid new.target
 across_valid states there path to place source target new made valid valid_target =
     let w = across_of states path source there to target place new made in (
@@ -49,11 +50,11 @@ across_weight weight place source target new w =
     let there : weigh weight (insert (Some w.parent) place (node_at source w.node).node target).forest ≡ weigh weight new.target.forest = ap (λ (d : Document). weigh weight d.forest) w.target_is in
     omega (arith, put_in, taken, left, there)
 
-pub within_counts : (states : Keywords) (path to : List (List ℕ)) (place : Place) (d new : Document) → refile_within states path to place d ≡ Ok new
+pub within_counts : (states : Keywords) (path to : List Step) (place : Place) (d new : Document) → refile_within states path to place d ≡ Ok new
     → (rest : List ℕ) (section : List (List ℕ)) → count_in rest section new ≡ count_in rest section d
 within_counts states path to place d new made rest section = within_weight _ place d new (within_of states path to place d new made)
 
-pub across_counts : (states there : Keywords) (path to : List (List ℕ)) (place : Place) (source target : Document) (new : Moved)
+pub across_counts : (states there : Keywords) (path to : List Step) (place : Place) (source target : Document) (new : Moved)
     → refile_across states path source there to target place ≡ Ok new → (rest : List ℕ) (section : List (List ℕ))
     → count_in rest section new.source + count_in rest section new.target ≡ count_in rest section source + count_in rest section target
 across_counts states there path to place source target new made rest section =
@@ -95,7 +96,7 @@ counts_both rest section texts i j from into source target apart here here_too v
       counts_again rest section target valid.1,
     )
 
-pub file_counts : (states : Keywords) (path to : List (List ℕ)) (place : Place) (texts : List (List ℕ)) (i : ℕ) (text : List ℕ) (new : Document)
+pub file_counts : (states : Keywords) (path to : List Step) (place : Place) (texts : List (List ℕ)) (i : ℕ) (text : List ℕ) (new : Document)
     → slice_get texts i ≡ Some text → refile_within states path to place (tree text) ≡ Ok new → (rest : List ℕ) (section : List (List ℕ))
     → count_over rest section (slice_set texts i (print new)) ≡ count_over rest section texts
 file_counts states path to place texts i text new here made rest section =
@@ -106,7 +107,7 @@ file_counts states path to place texts i text new here made rest section =
       within_counts states path to place (tree text) new made rest section,
     )
 
-pub files_counts : (states there : Keywords) (path to : List (List ℕ)) (place : Place) (texts : List (List ℕ)) (i j : ℕ) (from into : List ℕ) (new : Moved)
+pub files_counts : (states there : Keywords) (path to : List Step) (place : Place) (texts : List (List ℕ)) (i j : ℕ) (from into : List ℕ) (new : Moved)
     → i ≢ j → slice_get texts i ≡ Some from → slice_get texts j ≡ Some into → refile_across states path (tree from) there to (tree into) place ≡ Ok new
     → (rest : List ℕ) (section : List (List ℕ))
     → count_over rest section (slice_set (slice_set texts i (print new.source)) j (print new.target)) ≡ count_over rest section texts

@@ -7,6 +7,7 @@ use Rattle.std.proofs.lemmas.Bool.Decides.{nat_tests}
 use Rattle.org_splice.specs.Lines.{terminated, print_lines}
 use Rattle.org_splice.specs.Edits.{AreEdits}
 use Rattle.org_splice.specs.declared.edit.Edit.{Edit}
+use Rattle.org_outline.specs.declared.steps.Step.{Step}
 use Rattle.org_outline.specs.declared.moves.Place.{Place}
 use Rattle.org_outline.specs.declared.paths.PathFault.{PathFault}
 use Rattle.org_outline.specs.States.{Keywords}
@@ -79,7 +80,7 @@ inside_is d top i false lies =
       | inr e ↦ rw e refl
     ]
 
-pub within_made : (states : Keywords) (path to : List (List ℕ)) (place : Place) (t : List ℕ) (r s : Result ℕ PathFault) (i p at level : ℕ) (b : Bool) (out into : Edit)
+pub within_made : (states : Keywords) (path to : List Step) (place : Place) (t : List ℕ) (r s : Result ℕ PathFault) (i p at level : ℕ) (b : Bool) (out into : Edit)
     → terminated t ≡ t → r ≡ find_path states (tree t) path → r ≡ Ok i → s ≡ find_path states (tree t) to → s ≡ Ok p → i < node_count (tree t)
     → (IsTrue b ↔ LiesIn (tree t) i p) → b ≡ false
     → ((node : Node) → InsertsAt (print (take i (tree t))) (insert (parent_without i (size_of (tree t) i) (Some p)) place node (take i (tree t))) at (shift_node (level_below (Some p) (tree t)) node))
@@ -100,7 +101,7 @@ within_made states path to place t r s i p at level b out into stays_terminated 
 
 -- ---- across two texts
 
-pub across_made : (states : Keywords) (path : List (List ℕ)) (t : List ℕ) (there : Keywords) (to : List (List ℕ)) (u : List ℕ) (place : Place) (r s : Result ℕ PathFault) (i p at level : ℕ) (out into : Edit)
+pub across_made : (states : Keywords) (path : List Step) (t : List ℕ) (there : Keywords) (to : List Step) (u : List ℕ) (place : Place) (r s : Result ℕ PathFault) (i p at level : ℕ) (out into : Edit)
     → terminated t ≡ t → terminated u ≡ u → r ≡ find_path states (tree t) path → r ≡ Ok i → s ≡ find_path there (tree u) to → s ≡ Ok p → i < node_count (tree t)
     → ((node : Node) → InsertsAt u (insert (Some p) place node (tree u)) at (shift_node (level_below (Some p) (tree u)) node))
     → level ≡ level_below (Some p) (tree u) → out ≡ removal i (tree t) → into ≡ insertion at (shift_node level (node_at (tree t) i).node)

@@ -3,6 +3,7 @@ use Rattle.std.proofs.Common.{◌≡◌, ℕ, ◌+◌, ◌<◌, ◌≤◌, leb, 
 use Rattle.std.specs.Prelude.{Result, if◌then◌else◌}
 use Rattle.std.proofs.lemmas.Bool.{cases_Bool}
 use Rattle.std.proofs.lemmas.Bool.Decides.{nat_tests}
+use Rattle.org_outline.specs.declared.steps.Step.{Step}
 use Rattle.org_outline.specs.declared.moves.Place.{Place}
 use Rattle.org_outline.specs.declared.paths.PathFault.{PathFault}
 use Rattle.org_outline.specs.States.{Keywords}
@@ -45,7 +46,7 @@ moved_of place d new i p true b i_in p_in is = absurd cc
 moved_of place d new i p false b i_in p_in is =
     record { node = i; parent = p; node_in = i_in; parent_in = p_in; outside = sym b; is = cc }
 
-pub within_of : (states : Keywords) (path to : List (List ℕ)) (place : Place) (d new : Document)
+pub within_of : (states : Keywords) (path to : List Step) (place : Place) (d new : Document)
     → refile_within states path to place d ≡ Ok new → Within place d new
 within_of states path to place d new is =
     let first = found_of (find_path states d path) _ new is in
@@ -53,7 +54,7 @@ within_of states path to place d new is =
     moved_of place d new first.0 second.0 (is_inside d first.0 second.0) refl
     (found_in states d path first.0 first.1) (found_in states d to second.0 second.1) second.2
 
-pub across_of : (states : Keywords) (path : List (List ℕ)) (source : Document) (there : Keywords) (to : List (List ℕ)) (target : Document) (place : Place) (new : Moved)
+pub across_of : (states : Keywords) (path : List Step) (source : Document) (there : Keywords) (to : List Step) (target : Document) (place : Place) (new : Moved)
     → refile_across states path source there to target place ≡ Ok new → Across place source target new
 across_of states path source there to target place new is =
     let first = found_of (find_path states source path) _ new is in

@@ -4,6 +4,7 @@ use Rattle.std.specs.Prelude.{Result, IfErr, if◌then◌else◌}
 use Rattle.std.specs.Option.{option_map}
 use Rattle.std.specs.Str.{is_utf8}
 use Rattle.org_disk.specs.Names.{is_archive_name, is_file_name}
+use Rattle.org_outline.specs.declared.steps.Step.{Step}
 use Rattle.org_outline.specs.States.{Keywords}
 use Rattle.org_outline.specs.declared.paths.PathFault.{PathFault}
 use Rattle.org_outline.specs.Tree.{tree}
@@ -17,7 +18,7 @@ use Rattle.org_move.specs.Location.{Destination, Halves, Heading, file_named, ha
 pub read_is : {A B : Type 0} (view : A → B) (o : Option A) (x : A) (defined : Option B) → option_map view o ≡ defined → o ≡ Some x → defined ≡ Some (view x)
 read_is view o x defined is some = sym is ∙ ap (option_map view) some
 
-pub located : (states s : Keywords) (name : List ℕ) (path : List (List ℕ)) (t value : List ℕ) (r : Result ℕ PathFault) (i : ℕ) (halves : Halves) (heading : Heading) (b : Bool)
+pub located : (states s : Keywords) (name : List ℕ) (path : List Step) (t value : List ℕ) (r : Result ℕ PathFault) (i : ℕ) (halves : Halves) (heading : Heading) (b : Bool)
     → r ≡ find_path states (tree t) path → r ≡ Ok i → b ≡ is_archive_name name → b ≡ false → value ≡ value_for t i → halves_of value ≡ Some halves → s ≡ states → heading_of s halves.heading ≡ Some heading
     → location states name path t ≡ with_file (record { file = file_named name halves.file; level = heading.level; title = heading.title })
 located states s name path t value r i halves heading b r_is found b_is own value_is cut same read =

@@ -8,8 +8,7 @@ use Rattle.std.proofs.lemmas.List.{drop_all, drop_more}
 use Rattle.org_outline.specs.declared.paths.PathFault.TheVariants.{NotUnique}
 use Rattle.org_outline.specs.States.{Keywords}
 use Rattle.org_outline.specs.Tree.{Document, Placed, no_node, node_at, node_count, nodes}
-use Rattle.org_outline.specs.Paths.{one_or_none, title_of, titled_nodes}
-use Rattle.org_outline.proofs.PathWalk.{one_more_or_none}
+use Rattle.org_outline.specs.Paths.{or_more, the_only, title_of, titled_nodes}
 use Rattle.org_move.specs.Archive.{target_heading}
 use Rattle.org_move.specs.Location.{Destination}
 
@@ -25,7 +24,7 @@ tested states to d i = (node_at d i).node.level == to.level && bytes_eq (title_o
 
 -- a walk that has come to `index` and to `found`
 pub record Walk (states : Keywords) (to : Destination) (d : Document) (index : ℕ) (found : Option ℕ) : Type 0 where
-  pub answer : one_more_or_none found (left states to d index (drop index (nodes d))) ≡ one_or_none (left states to d 0 (nodes d))
+  pub answer : or_more found (left states to d index (drop index (nodes d))) ≡ the_only (left states to d 0 (nodes d))
   pub within : IfSome found (λ i. i < node_count d)
 
 pub walk_start : (states : Keywords) (to : Destination) (d : Document) → Walk states to d 0 None
@@ -46,11 +45,11 @@ step states to d index lt =
     ∙ ap (λ k. filter (at_level to d) (cond b (index ∷ titled_nodes states to.title k more) (titled_nodes states to.title k more))) (sym (add-one index))
     ∙ filtered (at_level to d) b index (titled_nodes states to.title (index + 1) more)
 
-first_found : (i : ℕ) (more : List ℕ) → one_or_none (i ∷ more) ≡ one_more_or_none (Some i) more
+first_found : (i : ℕ) (more : List ℕ) → the_only (i ∷ more) ≡ or_more (Some i) more
 first_found i [] = refl
 first_found i (j ∷ more) = refl
 
-none_left : (found : Option ℕ) → one_more_or_none found [] ≡ Ok found
+none_left : (found : Option ℕ) → or_more found [] ≡ Ok found
 none_left None = refl
 none_left (Some i) = refl
 
@@ -61,7 +60,7 @@ walk_first states to d index n None r b w lt many re is be none =
     let inside : index < node_count d = omega (arith, lt, many) in
     let more = left states to d (index + 1) (drop (index + 1) (nodes d)) in
     record {
-      answer = sym (first_found index more) ∙ ap (λ b. one_or_none (cond b (index ∷ more) more)) (sym is ∙ re) ∙ ap one_or_none (sym (step states to d index inside)) ∙ w.answer;
+      answer = sym (first_found index more) ∙ ap (λ b. the_only (cond b (index ∷ more) more)) (sym is ∙ re) ∙ ap the_only (sym (step states to d index inside)) ∙ w.answer;
       within = inside;
     }
 
@@ -71,8 +70,8 @@ walk_second states to d index n None r b w lt many re is be some deep = absurd c
 walk_second states to d index n (Some i) r b w lt many re is be some deep =
     let inside : index < node_count d = omega (arith, lt, many) in
     let more = left states to d (index + 1) (drop (index + 1) (nodes d)) in
-    let all : Err NotUnique ≡ one_or_none (left states to d 0 (nodes d)) =
-    ap (λ b. one_more_or_none (Some i) (cond b (index ∷ more) more)) (sym is ∙ re) ∙ ap (one_more_or_none (Some i)) (sym (step states to d index inside)) ∙ w.answer in
+    let all : Err NotUnique ≡ the_only (left states to d 0 (nodes d)) =
+    ap (λ b. or_more (Some i) (cond b (index ∷ more) more)) (sym is ∙ re) ∙ ap (or_more (Some i)) (sym (step states to d index inside)) ∙ w.answer in
     rw deep all
 
 pub walk_other : (states : Keywords) (to : Destination) (d : Document) (index n : ℕ) (found : Option ℕ) (r : Bool) → Walk states to d index found
@@ -81,14 +80,14 @@ walk_other states to d index n found r w lt many re is =
     let inside : index < node_count d = omega (arith, lt, many) in
     let more = left states to d (index + 1) (drop (index + 1) (nodes d)) in
     record {
-      answer = ap (λ b. one_more_or_none found (cond b (index ∷ more) more)) (sym is ∙ re) ∙ ap (one_more_or_none found) (sym (step states to d index inside)) ∙ w.answer;
+      answer = ap (λ b. or_more found (cond b (index ∷ more) more)) (sym is ∙ re) ∙ ap (or_more found) (sym (step states to d index inside)) ∙ w.answer;
       within = w.within;
     }
 
 pub walk_end : (states : Keywords) (to : Destination) (d : Document) (index n : ℕ) (found : Option ℕ) → Walk states to d index found → n ≤ index → n ≡ node_count d → (to.level == 0) ≡ false → Ok found ≡ target_heading states to d
 walk_end states to d index n found w le many deep =
     let none : drop index (nodes d) ≡ [] = drop_all index (nodes d) (omega (arith, le, many)) in
-    let all : Ok found ≡ one_or_none (left states to d 0 (nodes d)) = sym (none_left found) ∙ ap (λ ps. one_more_or_none found (left states to d index ps)) (sym none) ∙ w.answer in
+    let all : Ok found ≡ the_only (left states to d 0 (nodes d)) = sym (none_left found) ∙ ap (λ ps. or_more found (left states to d index ps)) (sym none) ∙ w.answer in
     rw deep all
 
 -- the same, as the code says it: i is the number of the heading that it tests

@@ -16,6 +16,7 @@ use Rattle.org_splice.proofs.Ends.{both}
 use Rattle.org_splice.proofs.Lines.{lines_of-lines}
 use Rattle.org_stamp.specs.Calendar.{Moment, weekday_of}
 use Rattle.org_stamp.specs.Stamp.{date_text, day_name}
+use Rattle.org_outline.specs.declared.steps.Step.{Step}
 use Rattle.org_outline.specs.States.{Keywords}
 use Rattle.org_outline.specs.Text.{level_of}
 use Rattle.org_outline.specs.Tree.{Document, IsPlain, IsValid, Placed, no_node, node_at, nodes, tree}
@@ -369,7 +370,7 @@ not_archive : (b : Bool) (r : Result Destination MoveFault) (to : Destination) �
 not_archive true r to is = absurd cc
 not_archive false r to is = is
 
-pub place_line : (states : Keywords) (name : List ℕ) (path : List (List ℕ)) (text : List ℕ) (to : Destination) → location states name path text ≡ Ok to → IsLine to.title
+pub place_line : (states : Keywords) (name : List ℕ) (path : List Step) (text : List ℕ) (to : Destination) → location states name path text ≡ Ok to → IsLine to.title
 place_line states name path text to is =
     let first = found_of (find_path states (tree text) path) _ to is in
     let o : Option Destination = location_of states name (value_for text first.0) in

@@ -5,6 +5,7 @@ use Rattle.org_splice.specs.Edits.{AreEdits}
 use Rattle.org_splice.specs.Lines.{terminated}
 use Rattle.org_splice.specs.declared.edit.Edit.{Edit}
 use Rattle.org_stamp.specs.Calendar.{Moment}
+use Rattle.org_outline.specs.declared.steps.Step.{Step}
 use Rattle.org_outline.specs.declared.paths.PathFault.{PathFault}
 use Rattle.org_outline.specs.States.{Keywords}
 use Rattle.org_outline.specs.Tree.{Document, Node, node_count, print, print_node, tree}
@@ -27,14 +28,14 @@ abbrev pub left_with : Keywords → List ℕ → Moment → Destination → Docu
 left_with states name now to d i up = put_last to (parent_without i (size_of d i) up) (archived states name now d i) (take i d)
 
 -- what is defined, once both headings are found
-found_both : (states : Keywords) (name : List ℕ) (path : List (List ℕ)) (now : Moment) (to : Destination) (d : Document) (r : Result ℕ PathFault) (s : Result (Option ℕ) PathFault) (i : ℕ) (up : Option ℕ)
+found_both : (states : Keywords) (name : List ℕ) (path : List Step) (now : Moment) (to : Destination) (d : Document) (r : Result ℕ PathFault) (s : Result (Option ℕ) PathFault) (i : ℕ) (up : Option ℕ)
     → r ≡ find_path states d path → r ≡ Ok i → s ≡ target_heading states to d → s ≡ Ok up → archive_within states name path now to d ≡ if_apart d i up (left_with states name now to d i up)
 found_both states name path now to d r s i up r_is found s_is found_up =
     let first : find_path states d path ≡ Ok i = sym r_is ∙ found in
     let second : target_heading states to d ≡ Ok up = sym s_is ∙ found_up in
     rw (first, second) refl
 
-pub not_apart : {C : Type 0} (states : Keywords) (name : List ℕ) (path : List (List ℕ)) (now : Moment) (to : Destination) (d : Document) (Fits : Document → C → Type 0) (r : Result ℕ PathFault) (s : Result (Option ℕ) PathFault)
+pub not_apart : {C : Type 0} (states : Keywords) (name : List ℕ) (path : List Step) (now : Moment) (to : Destination) (d : Document) (Fits : Document → C → Type 0) (r : Result ℕ PathFault) (s : Result (Option ℕ) PathFault)
     (i : ℕ) (up : Option ℕ) (fault : MoveFault)
     → r ≡ find_path states d path → r ≡ Ok i → s ≡ target_heading states to d → s ≡ Ok up → Err fault ≡ if_apart d i up up
     → Gives {A = C} (archive_within states name path now to d) Fits (Err fault)
@@ -47,7 +48,7 @@ some_ok (Ok new) d is = search rules
 some_ok (Err fault) d is = absurd cc
 
 -- memory is wanted only where a document is defined
-pub starved : {C : Type 0} (states : Keywords) (name : List ℕ) (path : List (List ℕ)) (now : Moment) (to : Destination) (d : Document) (Fits : Document → C → Type 0) (r : Result ℕ PathFault) (s : Result (Option ℕ) PathFault)
+pub starved : {C : Type 0} (states : Keywords) (name : List ℕ) (path : List Step) (now : Moment) (to : Destination) (d : Document) (Fits : Document → C → Type 0) (r : Result ℕ PathFault) (s : Result (Option ℕ) PathFault)
     (i : ℕ) (asked up : Option ℕ) (fault : MoveFault)
     → r ≡ find_path states d path → r ≡ Ok i → s ≡ target_heading states to d → s ≡ Ok asked → Ok up ≡ if_apart d i asked asked → fault ≡ OutOfMemory
     → Gives {A = C} (archive_within states name path now to d) Fits (Err fault)
@@ -56,7 +57,7 @@ starved {C} states name path now to d Fits r s i asked up fault r_is found s_is 
     found_both states name path now to d r s i asked r_is found s_is found_up ∙ apart_too d i asked asked up (left_with states name now to d i asked) is in
     subst (λ (f : MoveFault). Gives {A = C} (archive_within states name path now to d) Fits (Err f)) (sym memory) (some_ok (archive_within states name path now to d) (left_with states name now to d i asked) defined)
 
-pub archived_within : (states : Keywords) (name : List ℕ) (path : List (List ℕ)) (now : Moment) (t : List ℕ) (to : Destination) (r : Result ℕ PathFault) (s : Result (Option ℕ) PathFault)
+pub archived_within : (states : Keywords) (name : List ℕ) (path : List Step) (now : Moment) (t : List ℕ) (to : Destination) (r : Result ℕ PathFault) (s : Result (Option ℕ) PathFault)
     (i : ℕ) (asked up : Option ℕ) (at : ℕ) (bytes : List ℕ) (out goes_in : Edit)
     → terminated t ≡ t → r ≡ find_path states (tree t) path → r ≡ Ok i → s ≡ target_heading states to (tree t) → s ≡ Ok asked → Ok up ≡ if_apart (tree t) i asked asked → i < node_count (tree t)
     → ((node : Node) → InsertsAt (print (take i (tree t))) (put_last to (parent_without i (size_of (tree t) i) up) node (take i (tree t))) at (filled to (level_at up (tree t)) node))

@@ -5,12 +5,13 @@ use Rattle.std.specs.List.{ends_with, join_with_byte}
 use Rattle.std.specs.Option.{unwrap_or}
 use Rattle.org_stamp.specs.Calendar.{Moment, weekday_of}
 use Rattle.org_stamp.specs.Stamp.{date_text, day_name, clock_text}
+use Rattle.org_outline.specs.declared.steps.Step.{Step}
 use Rattle.org_outline.specs.declared.moves.Place.TheVariants.{Last}
 use Rattle.org_outline.specs.declared.paths.PathFault.{PathFault}
 use Rattle.org_outline.specs.States.{Keywords}
 use Rattle.org_outline.specs.Tree.{Document, Node, node_at, node_count, nodes}
 use Rattle.org_outline.specs.Parts.{parts_of}
-use Rattle.org_outline.specs.Paths.{find_path, titled_nodes, one_or_none}
+use Rattle.org_outline.specs.Paths.{find_path, titled_nodes, the_only}
 use Rattle.org_outline.specs.Moves.{append_heading, insert, shift_node, take as take_out}
 use Rattle.org_outline.specs.Numbers.{heading_over, parent_without, size_of}
 use Rattle.org_meta.specs.Sections.{NodeProperty, SectionParts, joined, put, split}
@@ -83,7 +84,7 @@ archived states name now d i =
 abbrev pub target_heading : Keywords → Destination → Document → Result (Option ℕ) PathFault
 target_heading states to d =
     if to.level == 0 then Ok None
-    else one_or_none (filter (λ i. (node_at d i).node.level == to.level)
+    else the_only (filter (λ i. (node_at d i).node.level == to.level)
     (titled_nodes states to.title 0 (nodes d)))
 
 -- a node put last below the heading; where there is none, last at top level, or below the heading
@@ -119,7 +120,7 @@ if_apart d i (Some p) new =
 
 -- archiving within a document, the text of the file of this name: the heading at `path` goes to the
 -- destination
-abbrev pub archive_within : Keywords → List ℕ → List (List ℕ) → Moment → Destination → Document
+abbrev pub archive_within : Keywords → List ℕ → List Step → Moment → Destination → Document
     → Result Document MoveFault
 archive_within states name path now to d =
     with_found (find_path states d path) (λ i.
@@ -129,7 +130,7 @@ archive_within states name path now to d =
     (take_out i d))))
 
 -- archiving into another document, the text of the destination's file
-abbrev pub archive_across : Keywords → List ℕ → List (List ℕ) → Moment → Document → Keywords
+abbrev pub archive_across : Keywords → List ℕ → List Step → Moment → Document → Keywords
     → Destination → Document → Result Moved MoveFault
 archive_across states name path now source there to target =
     with_found (find_path states source path) (λ i.

@@ -9,6 +9,7 @@ use Rattle.org_splice.specs.Blanks.{is_blank, behind, trimmed}
 use Rattle.org_splice.specs.Lines.{terminated, lines_of}
 use Rattle.org_disk.specs.Names.{is_archive_name, is_file_name}
 use Rattle.org_meta.specs.Lines.{BeginsWith}
+use Rattle.org_outline.specs.declared.steps.Step.{Step}
 use Rattle.org_outline.specs.States.{Keywords}
 use Rattle.org_outline.specs.Text.{level_of}
 use Rattle.org_outline.specs.Tree.{tree}
@@ -155,7 +156,7 @@ and_file None = Err BadLocation
 and_file (Some to) = with_file to
 
 -- where the heading at a path goes that is archived from the file of this name
-abbrev pub location : Keywords → List ℕ → List (List ℕ) → List ℕ → Result Destination MoveFault
+abbrev pub location : Keywords → List ℕ → List Step → List ℕ → Result Destination MoveFault
 location states name path text =
     with_found (find_path states (tree text) path) (λ i.
     if is_archive_name name then Err AlreadyArchive

@@ -3,6 +3,7 @@
 use Rattle.std.specs.Prelude.{ℕ, ◌+◌, nat_le, nat_lt, Bool, ◌&&◌, if◌then◌else◌, List, Some, Result, Ok, Err}
 use Rattle.org_move.specs.declared.fault.MoveFault.{MoveFault}
 use Rattle.org_move.specs.declared.fault.MoveFault.TheVariants.{NotFound, NotUnique, InsideItself}
+use Rattle.org_outline.specs.declared.steps.Step.{Step}
 use Rattle.org_outline.specs.declared.moves.Place.{Place}
 use Rattle.org_outline.specs.declared.paths.PathFault.{PathFault}
 use Rattle.org_outline.specs.declared.paths.PathFault.TheVariants as path
@@ -34,7 +35,7 @@ moved i p place d =
     insert (parent_without i (size_of d i) (Some p)) place (node_at d i).node (take i d)
 
 -- refiling within a document: the heading at `path` goes below the one at `to`
-abbrev pub refile_within : Keywords → List (List ℕ) → List (List ℕ) → Place → Document
+abbrev pub refile_within : Keywords → List Step → List Step → Place → Document
     → Result Document MoveFault
 refile_within states path to place d =
     with_found (find_path states d path) (λ i.
@@ -48,7 +49,7 @@ pub record Moved : Type 0 where
 
 -- refiling into another document: the heading at `path` of the source goes below the one at `to` of
 -- the target
-abbrev pub refile_across : Keywords → List (List ℕ) → Document → Keywords → List (List ℕ) → Document
+abbrev pub refile_across : Keywords → List Step → Document → Keywords → List Step → Document
     → Place → Result Moved MoveFault
 refile_across states path source there to target place =
     with_found (find_path states source path) (λ i.

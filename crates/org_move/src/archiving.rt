@@ -5,7 +5,6 @@ ghost use Rattle.std.specs.Prelude.{◌≡◌, [], ◌∷◌, ◌+◌, ◌<◌, 
 ghost use Rattle.std.specs.Option.{ForSome, option_map};
 ghost use Rattle.org_splice.specs.Edits.{AreEdits};
 ghost use Rattle.org_splice.specs.Lines.{terminated};
-ghost use Rattle.org_outline.specs.Paths.{titles_of};
 ghost use Rattle.org_outline.specs.Moves.{InsertsAt, take};
 ghost use Rattle.org_outline.specs.Numbers.{LiesIn, parent_without, size_of};
 ghost use Rattle.org_outline.specs.Tree.{Node as NodeOf, node_at, node_count, print, tree};
@@ -20,7 +19,7 @@ use crate::refile::{level_of, without};
 use crate::subtree::archived_lines;
 use crate::target::target_heading;
 use org_disk::FileName;
-use org_outline::{Node, Outline, Place};
+use org_outline::{Node, Outline, Place, Step};
 use org_splice::{Bytes, Edit};
 use org_stamp::Moment;
 use std::alloc::Global;
@@ -108,13 +107,13 @@ pub fn archive(
     source: &Outline<'_>,
     target: &Outline<'_>,
     name: &FileName,
-    path: &[Vec<u8>],
+    path: &[Step],
     now: Moment,
     to: &Location,
 ) -> Result<(Edit, Edit), MoveFault>
     ensures { let from = tree source.now.text in
         let into = tree target.now.text in
-        Gives (archive_across source.now.states name.now (titles_of path.now) now from
+        Gives (archive_across source.now.states name.now path.now now from
         target.now.states to.now into)
         (λ new edits. AreEdits (edits.0 ∷ []) source.now.text (print new.source)
         × AreEdits (edits.1 ∷ []) target.now.text (print new.target)) result }
@@ -146,13 +145,13 @@ pub fn archive_within(
     alloc: Global,
     outline: &Outline<'_>,
     name: &FileName,
-    path: &[Vec<u8>],
+    path: &[Step],
     now: Moment,
     to: &Location,
 ) -> Result<[Edit; 2], MoveFault>
     ensures { let states = outline.now.states in
         let document = tree outline.now.text in
-        Gives (archive_within states name.now (titles_of path.now) now to.now document)
+        Gives (archive_within states name.now path.now now to.now document)
         (λ new edits. AreEdits edits outline.now.text (print new)) result }
 {
     let node = outline.find(path)?;

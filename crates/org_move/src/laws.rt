@@ -4,6 +4,7 @@
 ghost use Rattle.std.specs.Prelude.{◌≡◌, ◌≢◌, ℕ, ◌+◌, List, Ok, Option, Some, slice_get, slice_set};
 ghost use Rattle.org_splice.specs.Lines.{IsLine};
 ghost use Rattle.org_stamp.specs.Calendar.{Moment};
+ghost use Rattle.org_outline.specs.declared.steps.Step.{Step};
 ghost use Rattle.org_outline.specs.declared.moves.Place.{Place};
 ghost use Rattle.org_outline.specs.States.{Keywords};
 ghost use Rattle.org_outline.specs.Paths.{find_path};
@@ -15,10 +16,10 @@ ghost use Rattle.org_move.specs.Counts.{count_in, count_over, made_count, one_of
 
 /// Refiling keeps documents valid, so that each is the tree of its print.
 pub fn refiles_are_valid()
-    ensures within { (states : Keywords) (path to : List (List ℕ)) (place : Place)
+    ensures within { (states : Keywords) (path to : List Step) (place : Place)
         (d new : Document)
         → refile_within states path to place d ≡ Ok new → IsValid d → IsValid new }
-    ensures across { (states there : Keywords) (path to : List (List ℕ)) (place : Place)
+    ensures across { (states there : Keywords) (path to : List Step) (place : Place)
         (source target : Document) (new : Moved)
         → refile_across states path source there to target place ≡ Ok new
         → IsValid source → IsValid target → IsValid new.source × IsValid new.target }
@@ -27,24 +28,24 @@ pub fn refiles_are_valid()
 /// Refiling keeps how often each node is there: none is lost, none doubled, and none changed but in
 /// its level.
 pub fn refiles_keep_counts()
-    ensures within { (states : Keywords) (path to : List (List ℕ)) (place : Place)
+    ensures within { (states : Keywords) (path to : List Step) (place : Place)
         (d new : Document)
         → refile_within states path to place d ≡ Ok new
         → (rest : List ℕ) (section : List (List ℕ))
         → count_in rest section new ≡ count_in rest section d }
-    ensures across { (states there : Keywords) (path to : List (List ℕ)) (place : Place)
+    ensures across { (states there : Keywords) (path to : List Step) (place : Place)
         (source target : Document) (new : Moved)
         → refile_across states path source there to target place ≡ Ok new
         → (rest : List ℕ) (section : List (List ℕ))
         → count_in rest section new.source + count_in rest section new.target
         ≡ count_in rest section source + count_in rest section target }
     // So over all files, where these are their texts: one that changes, and two.
-    ensures file { (states : Keywords) (path to : List (List ℕ)) (place : Place)
+    ensures file { (states : Keywords) (path to : List Step) (place : Place)
         (texts : List (List ℕ)) (i : ℕ) (text : List ℕ) (new : Document)
         → slice_get texts i ≡ Some text → refile_within states path to place (tree text) ≡ Ok new
         → (rest : List ℕ) (section : List (List ℕ))
         → count_over rest section (slice_set texts i (print new)) ≡ count_over rest section texts }
-    ensures files { (states there : Keywords) (path to : List (List ℕ)) (place : Place)
+    ensures files { (states there : Keywords) (path to : List Step) (place : Place)
         (texts : List (List ℕ)) (i j : ℕ) (from into : List ℕ) (new : Moved)
         → i ≢ j → slice_get texts i ≡ Some from → slice_get texts j ≡ Some into
         → refile_across states path (tree from) there to (tree into) place ≡ Ok new
@@ -57,15 +58,15 @@ pub fn refiles_keep_counts()
 /// Archiving keeps documents valid, so that each is the tree of its print, where the file's name
 /// and the title of the place are lines; and so is the title of each place that a text names.
 pub fn archives_are_valid()
-    ensures within { (states : Keywords) (name : List ℕ) (path : List (List ℕ)) (now : Moment)
+    ensures within { (states : Keywords) (name : List ℕ) (path : List Step) (now : Moment)
         (to : Destination) (d new : Document) → IsLine name → IsLine to.title
         → archive_within states name path now to d ≡ Ok new → IsValid d → IsValid new }
-    ensures across { (states there : Keywords) (name : List ℕ) (path : List (List ℕ))
+    ensures across { (states there : Keywords) (name : List ℕ) (path : List Step)
         (now : Moment) (to : Destination) (source target : Document) (new : Moved)
         → IsLine name → IsLine to.title
         → archive_across states name path now source there to target ≡ Ok new
         → IsValid source → IsValid target → IsValid new.source × IsValid new.target }
-    ensures place { (states : Keywords) (name : List ℕ) (path : List (List ℕ)) (text : List ℕ)
+    ensures place { (states : Keywords) (name : List ℕ) (path : List Step) (text : List ℕ)
         (to : Destination) → location states name path text ≡ Ok to → IsLine to.title }
 {}
 
@@ -75,7 +76,7 @@ pub fn archives_are_valid()
 /// before it and with the entry as it is then, and with the heading made. Here `i` is the entry,
 /// and `up` the heading of the place.
 pub fn archives_keep_counts()
-    ensures within { (states : Keywords) (name : List ℕ) (path : List (List ℕ)) (now : Moment)
+    ensures within { (states : Keywords) (name : List ℕ) (path : List Step) (now : Moment)
         (to : Destination) (d new : Document) (i : ℕ) (up : Option ℕ)
         → find_path states d path ≡ Ok i → target_heading states to d ≡ Ok up
         → archive_within states name path now to d ≡ Ok new
@@ -84,7 +85,7 @@ pub fn archives_keep_counts()
         ≡ count_in rest section d
         + one_of rest section own.rest (archived_section states name now d i)
         + made_count rest section to up }
-    ensures across { (states there : Keywords) (name : List ℕ) (path : List (List ℕ))
+    ensures across { (states there : Keywords) (name : List ℕ) (path : List Step)
         (now : Moment) (to : Destination) (source target : Document) (new : Moved)
         (i : ℕ) (up : Option ℕ)
         → find_path states source path ≡ Ok i → target_heading there to target ≡ Ok up
@@ -96,7 +97,7 @@ pub fn archives_keep_counts()
         + one_of rest section own.rest (archived_section states name now source i)
         + made_count rest section to up }
     // So over all files, where these are their texts: one that changes, and two.
-    ensures file { (states : Keywords) (name : List ℕ) (path : List (List ℕ)) (now : Moment)
+    ensures file { (states : Keywords) (name : List ℕ) (path : List Step) (now : Moment)
         (to : Destination) (texts : List (List ℕ)) (file : ℕ) (text : List ℕ) (new : Document)
         (i : ℕ) (up : Option ℕ) → IsLine name → IsLine to.title
         → slice_get texts file ≡ Some text → find_path states (tree text) path ≡ Ok i
@@ -108,7 +109,7 @@ pub fn archives_keep_counts()
         ≡ count_over rest section texts
         + one_of rest section own.rest (archived_section states name now (tree text) i)
         + made_count rest section to up }
-    ensures files { (states there : Keywords) (name : List ℕ) (path : List (List ℕ))
+    ensures files { (states there : Keywords) (name : List ℕ) (path : List Step)
         (now : Moment) (to : Destination) (texts : List (List ℕ)) (first second : ℕ)
         (from into : List ℕ) (new : Moved) (i : ℕ) (up : Option ℕ)
         → IsLine name → IsLine to.title → first ≢ second

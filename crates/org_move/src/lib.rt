@@ -19,5 +19,5 @@ mod target;
 pub use archiving::{archive, archive_within};
 pub use destination::Location;
 pub use fault::MoveFault;
-pub use locating::{location, location_searched};
+pub use locating::location_searched;
 pub use refile::{refile_across, refile_within};

@@ -5,7 +5,6 @@
 ghost use Rattle.std.specs.Prelude.{◌≡◌, [], ◌∷◌, ◌+◌, ◌<◌, ◌≤◌, ◌^◌, Some, IfOk};
 ghost use Rattle.org_splice.specs.Edits.{AreEdits};
 ghost use Rattle.org_splice.specs.Lines.{terminated};
-ghost use Rattle.org_outline.specs.Paths.{titles_of};
 ghost use Rattle.org_outline.specs.Tree.{node_at, node_count, print, tree};
 ghost use Rattle.org_outline.specs.Moves.{level_below, shift_node};
 ghost use Rattle.org_move.specs.Answers.{Gives};
@@ -13,7 +12,7 @@ ghost use Rattle.org_move.specs.Edits.{insertion, removal};
 ghost use Rattle.org_move.specs.Refile.{refile_across, refile_within};
 
 use crate::MoveFault;
-use org_outline::{Node, Outline, Place, shift};
+use org_outline::{Node, Outline, Place, Step, shift};
 use org_splice::{Bytes, Edit};
 use std::alloc::{AllocError, Global};
 
@@ -94,13 +93,13 @@ fn with_subtree(
 pub fn refile_within(
     alloc: Global,
     outline: &Outline<'_>,
-    path: &[Vec<u8>],
-    to: &[Vec<u8>],
+    path: &[Step],
+    to: &[Step],
     place: Place,
 ) -> Result<[Edit; 2], MoveFault>
     ensures { let states = outline.now.states in
         let document = tree outline.now.text in
-        Gives (refile_within states (titles_of path.now) (titles_of to.now) place document)
+        Gives (refile_within states path.now to.now place document)
         (λ new edits. AreEdits edits outline.now.text (print new)) result }
 {
     let node = outline.find(path)?;
@@ -126,14 +125,14 @@ pub fn refile_across(
     alloc: Global,
     source: &Outline<'_>,
     target: &Outline<'_>,
-    path: &[Vec<u8>],
-    to: &[Vec<u8>],
+    path: &[Step],
+    to: &[Step],
     place: Place,
 ) -> Result<(Edit, Edit), MoveFault>
     ensures { let from = tree source.now.text in
         let into = tree target.now.text in
-        Gives (refile_across source.now.states (titles_of path.now) from
-        target.now.states (titles_of to.now) into place)
+        Gives (refile_across source.now.states path.now from
+        target.now.states to.now into place)
         (λ new edits. AreEdits (edits.0 ∷ []) source.now.text (print new.source)
         × AreEdits (edits.1 ∷ []) target.now.text (print new.target)) result }
 {

@@ -1,15 +1,16 @@
 -- A path leads to a node of the document.
-use Rattle.std.proofs.Common.{◌≡◌, ℕ, suc, ◌+◌, ◌<◌, ◌≤◌, List, [], ◌∷◌, Option, Some, None, Ok, Err, refl, subst, arith, inl, inr}
-use Rattle.std.specs.Prelude.{Result, IfOk}
+use Rattle.std.proofs.Common.{◌≡◌, ℕ, zero, suc, ◌+◌, ◌<◌, ◌≤◌, List, [], ◌∷◌, length, Option, Some, None, Ok, Err, refl, sym, subst, arith, inl, inr}
+use Rattle.std.specs.Prelude.{Result, IfOk, IfSome, slice_get}
 use Rattle.std.specs.List.{AllByRecursion}
 use Rattle.std.specs.Option.{ForSome}
 use Rattle.std.specs.Str.{bytes_eq}
 use Rattle.std.proofs.lemmas.Bool.{cases_Bool}
 use Rattle.std.proofs.lemmas.Result.{IfOk-at_ok}
 use Rattle.org_outline.specs.declared.paths.PathFault.{PathFault}
+use Rattle.org_outline.specs.declared.steps.Step.{Step}
 use Rattle.org_outline.specs.States.{Keywords}
-use Rattle.org_outline.specs.Tree.{Forest, Empty, Tree, Document, node_at, node_count, total}
-use Rattle.org_outline.specs.Paths.{title_of, titled_roots, titled_children, the_one, and_below, find_below, find_path}
+use Rattle.org_outline.specs.Tree.{Forest, Empty, Tree, Document, Placed, node_at, node_count, nodes, total}
+use Rattle.org_outline.specs.Paths.{title_of, titled_roots, titled_children, titled_nodes, the_only, some_or_fault, the_one, found, child_at, and_below, find_below, find_path, find_headed}
 use Rattle.org_outline.proofs.ByNumber.{count-is}
 use Rattle.org_outline.proofs.Taking.{size_of-room}
 
@@ -29,10 +30,38 @@ children_in states d None title within = roots_in states title (node_count d) 0 
 children_in states d (Some i) title within =
     roots_in states title (node_count d) (suc i) (node_at d i).node.children (omega (arith, size_of-room d i (within i refl)))
 
-one_in : (P : ℕ → Type 0) (is : List ℕ) → AllByRecursion P is → IfOk (the_one is) P
-one_in P [] all = tt
-one_in P (i ∷ []) all = all.0
-one_in P (i ∷ j ∷ more) all = tt
+-- what holds of all holds of the one that is meant
+abbrev pub Holds : (ℕ → Type 0) → Result (Option ℕ) PathFault → Type 0
+Holds P r = IfOk r (λ met. IfSome met P)
+
+only_in : (P : ℕ → Type 0) (is : List ℕ) → AllByRecursion P is → Holds P (the_only is)
+only_in P [] all = tt
+only_in P (i ∷ []) all = all.0
+only_in P (i ∷ j ∷ more) all = tt
+
+nth_in : (P : ℕ → Type 0) (n : ℕ) (is : List ℕ) → AllByRecursion P is → Holds P (some_or_fault (slice_get is n))
+nth_in P n [] all = tt
+nth_in P zero (i ∷ is) all = all.0
+nth_in P (suc n) (i ∷ is) all = nth_in P n is all.1
+
+pub one_in : (P : ℕ → Type 0) (number : Option ℕ) (is : List ℕ) → AllByRecursion P is → Holds P (the_one number is)
+one_in P None is all = only_in P is all
+one_in P (Some zero) is all = tt
+one_in P (Some (suc n)) is all = nth_in P n is all
+
+of_found : (P : ℕ → Type 0) (r : Result (Option ℕ) PathFault) → Holds P r → IfOk (found r) P
+of_found P (Ok None) holds = tt
+of_found P (Ok (Some i)) holds = holds
+of_found P (Err fault) holds = tt
+
+-- a step leads to a node of the document
+pub child_in : (states : Keywords) (d : Document) (up : Option ℕ) (step : Step) → ForSome up (λ i. i < node_count d) → IfOk (child_at states d up step) (λ i. i < node_count d)
+child_in states d up step within =
+    let P : ℕ → Type 0 = λ i. i < node_count d in
+    of_found P (the_one step.number (titled_children states d up step.title)) (one_in P step.number (titled_children states d up step.title) (children_in states d up step.title within))
+
+pub of_step : (states : Keywords) (d : Document) (up : Option ℕ) (step : Step) → ForSome up (λ i. i < node_count d) → (r : Result ℕ PathFault) → r ≡ child_at states d up step → IfOk r (λ i. i < node_count d)
+of_step states d up step within r is = subst (λ r. IfOk r (λ i. i < node_count d)) (sym is) (child_in states d up step within)
 
 then_in : (P : ℕ → Type 0) (r : Result ℕ PathFault) (find : Option ℕ → Result ℕ PathFault) → IfOk r P → ((k : ℕ) → P k → IfOk (find (Some k)) P)
     → IfOk (and_below r find) P
@@ -43,16 +72,37 @@ then_in P (Err fault) find first next = tt
 pub some_holds : (P : ℕ → Type 0) (k : ℕ) → P k → ForSome (Some k) P
 some_holds P k holds i is = let same : k ≡ i = cc in subst P same holds
 
-below_in : (states : Keywords) (d : Document) (path : List (List ℕ)) (up : Option ℕ) → ForSome up (λ i. i < node_count d)
+below_in : (states : Keywords) (d : Document) (path : List Step) (up : Option ℕ) → ForSome up (λ i. i < node_count d)
     → IfOk (find_below states d path up) (λ i. i < node_count d)
 below_in states d [] None within = tt
 below_in states d [] (Some i) within = within i refl
-below_in states d (title ∷ path) up within =
+below_in states d (step ∷ path) up within =
     let P : ℕ → Type 0 = λ i. i < node_count d in
-    then_in P (the_one (titled_children states d up title)) (find_below states d path) (one_in P (titled_children states d up title) (children_in states d up title within))
-    (λ k lt. below_in states d path (Some k) (some_holds P k lt))
+    then_in P (child_at states d up step) (find_below states d path) (child_in states d up step within) (λ k lt. below_in states d path (Some k) (some_holds P k lt))
 
-pub found_in : (states : Keywords) (d : Document) (path : List (List ℕ)) (i : ℕ) → find_path states d path ≡ Ok i → i < node_count d
+pub found_in : (states : Keywords) (d : Document) (path : List Step) (i : ℕ) → find_path states d path ≡ Ok i → i < node_count d
 found_in states d path i is =
     let P : ℕ → Type 0 = λ i. i < node_count d in
     IfOk-at_ok P is (below_in states d path None (λ i none. absurd cc))
+
+-- the numbers of nodes lie before the number behind them
+nodes_in : (states : Keywords) (title : List ℕ) (end i : ℕ) (ps : List Placed) → i + length ps ≤ end → AllByRecursion (λ k. k < end) (titled_nodes states title i ps)
+nodes_in states title end i [] le = tt
+nodes_in states title end i (p ∷ ps) le =
+    let more = nodes_in states title end (suc i) ps (omega (arith, le)) in
+    elim (cases_Bool (bytes_eq (title_of states p.node.rest) title)) [
+      | inl e ↦ rw e (omega (arith, le), more)
+      | inr e ↦ rw e more
+    ]
+
+pub all_headed_in : (states : Keywords) (d : Document) (step : Step) → Holds (λ i. i < node_count d) (find_headed states d step)
+all_headed_in states d step =
+    one_in (λ i. i < node_count d) step.number (titled_nodes states step.title 0 (nodes d)) (nodes_in states step.title (node_count d) 0 (nodes d) (omega arith))
+
+at_some : (P : ℕ → Type 0) (r : Result (Option ℕ) PathFault) (i : ℕ) → r ≡ Ok (Some i) → Holds P r → P i
+at_some P (Ok None) i is holds = absurd cc
+at_some P (Ok (Some k)) i is holds = let same : k ≡ i = cc in subst P same holds
+at_some P (Err fault) i is holds = absurd cc
+
+pub headed_in : (states : Keywords) (d : Document) (step : Step) (i : ℕ) → find_headed states d step ≡ Ok (Some i) → i < node_count d
+headed_in states d step i is = at_some (λ i. i < node_count d) (find_headed states d step) i is (all_headed_in states d step)

@@ -2,7 +2,6 @@
 use Rattle.std.proofs.Common.{◌≡◌, ℕ, zero, suc, ◌+◌, ◌-◌, ◌<◌, ◌≤◌, Bool, true, false, not, ltb, List, [], ◌∷◌, ◌++◌, length, drop, take, get_or, Option, None, Result, refl, sym, ap, subst, ◌∙◌, arith, inl, inr}
 use Rattle.std.specs.Prelude.{min, nat_lt}
 use Rattle.std.specs.List.{prefix_len, AllByRecursion}
-use Rattle.std.specs.Option.{ok_or}
 use Rattle.std.specs.Str.{bytes_eq}
 use Rattle.std.proofs.Math.Nat.{min-eq_left}
 use Rattle.std.proofs.lemmas.Bool.{cases_Bool, cases_lt}
@@ -17,8 +16,8 @@ use Rattle.org_outline.specs.Tree.{no_node, nodes_of, node_at, node_count, tree}
 use Rattle.org_outline.specs.Beginnings.{may_have, sought_of, beginnings_of}
 use Rattle.org_outline.specs.Outline.{AreBeginnings, heading_of, headings_of, last_above, lowest_level}
 use Rattle.org_outline.specs.declared.paths.PathFault.{PathFault}
-use Rattle.org_outline.specs.declared.paths.PathFault.TheVariants.{NotFound}
-use Rattle.org_outline.specs.Paths.{title_of, the_one, titled_children}
+use Rattle.org_outline.specs.declared.paths.Choice.{Choice}
+use Rattle.org_outline.specs.Paths.{title_of, still_to_come}
 use Rattle.org_outline.proofs.KeptLines.{begin_of}
 use Rattle.org_splice.specs.Lines.{lines_of}
 use Rattle.org_splice.proofs.Lines.{lines_of-lines, size}
@@ -157,13 +156,13 @@ lowest_and : (n : ℕ) (hs : List Heading) (h : Heading) → lowest_level n (hs 
 lowest_and n [] h = refl
 lowest_and n (g ∷ hs) h = lowest_and (min n g.level) hs h
 
-few_passed : (states : Keywords) (t title : List ℕ) (up : Option ℕ) (level deepest index : ℕ) (found : Option ℕ) (hs : List Heading) (d : Heading) (k : ℕ) → Child_pass states t title up level deepest index found
+few_passed : (states : Keywords) (t title : List ℕ) (all : Result (Option ℕ) PathFault) (level deepest index : ℕ) (choice : Choice) (hs : List Heading) (d : Heading) (k : ℕ) → Child_pass states t title all level deepest index choice
     → hs ≡ headings_of t → ((i : ℕ) → index ≤ i → i < index + k → level < level_at hs i d) → NoneHas states t title index (index + k) → index + k ≤ length hs
-    → Child_pass states t title up level (lowest_level deepest (take k (drop index hs))) (index + k) found
-few_passed states t title up level deepest index found hs d zero p he deep none within =
+    → Child_pass states t title all level (lowest_level deepest (take k (drop index hs))) (index + k) choice
+few_passed states t title all level deepest index choice hs d zero p he deep none within =
     let here : index ≡ index + 0 = omega arith in
-    subst (λ (i : ℕ). Child_pass states t title up level deepest i found) here p
-few_passed states t title up level deepest index found hs d (suc k) p he deep none within =
+    subst (λ (i : ℕ). Child_pass states t title all level deepest i choice) here p
+few_passed states t title all level deepest index choice hs d (suc k) p he deep none within =
     let later : List Heading = drop index hs in
     let here : ℕ = index + k in
     let lt : here < length hs = omega (arith, within) in
@@ -176,52 +175,51 @@ few_passed states t title up level deepest index found hs d (suc k) p he deep no
     ap (λ n. lowest_level deepest (take n later)) (sym next) ∙ ap (lowest_level deepest) (take_more later k d less) ∙ lowest_and deepest (take k later) (get_or later k d)
     ∙ ap (λ (h : Heading). min (lowest_level deepest (take k later)) h.level) (get_or-drop index hs k d) in
     let on : here + 1 ≡ index + suc k = omega arith in
-    let before : Child_pass states t title up level (lowest_level deepest (take k later)) here found =
-    few_passed states t title up level deepest index found hs d k p he (λ i l h. deep i l (omega (arith, h))) (λ i l h. none i l (omega (arith, h))) (omega (arith, within)) in
+    let before : Child_pass states t title all level (lowest_level deepest (take k later)) here choice =
+    few_passed states t title all level deepest index choice hs d k p he (λ i l h. deep i l (omega (arith, h))) (λ i l h. none i l (omega (arith, h))) (omega (arith, within)) in
     let test : Tests states t title here false = record { within = inside; is = none here low high } in
-    subst (λ (i : ℕ). Child_pass states t title up level (lowest_level deepest (take (suc k) later)) i found) on
-    (pass_on states t title up level (lowest_level deepest (take k later)) here found hs d (lowest_level deepest (take (suc k) later)) before (λ le. test) he lt (deep here low high) least)
+    subst (λ (i : ℕ). Child_pass states t title all level (lowest_level deepest (take (suc k) later)) i choice) on
+    (pass_on states t title all level (lowest_level deepest (take k later)) here choice hs d (lowest_level deepest (take (suc k) later)) before (λ le. test) he lt (deep here low high) least)
 
 -- a search among the children that has come to `index`
-pub record Child_search (states : Keywords) (t title : List ℕ) (up : Option ℕ) (level first end deepest index : ℕ) (found : Option ℕ) : Type 0 where
-  pub pass : Child_pass states t title up level deepest index found
+pub record Child_search (states : Keywords) (t title : List ℕ) (all : Result (Option ℕ) PathFault) (level first end deepest index : ℕ) (choice : Choice) : Type 0 where
+  pub pass : Child_pass states t title all level deepest index choice
   pub from : first ≤ index
   pub within : index ≤ end
 
-pub search_start : (states : Keywords) (t title : List ℕ) (up : Option ℕ) (level first end deepest : ℕ) (hs : List Heading) → Child_pass states t title up level deepest first None → EndsDeeper hs level first end
-    → Child_search states t title up level first end deepest first None
-search_start states t title up level first end deepest hs p e = record { pass = p; from = omega arith; within = omega (arith, e) }
+pub search_start : (states : Keywords) (t title : List ℕ) (all : Result (Option ℕ) PathFault) (level first end deepest : ℕ) (choice : Choice) (hs : List Heading) → Child_pass states t title all level deepest first choice → EndsDeeper hs level first end
+    → Child_search states t title all level first end deepest first choice
+search_start states t title all level first end deepest choice hs p e = record { pass = p; from = omega arith; within = omega (arith, e) }
 
 -- on to the next candidate, from the one at `index`
-pub search_on : (states : Keywords) (t title : List ℕ) (up : Option ℕ) (level first end deepest index next : ℕ) (before found : Option ℕ) (hs : List Heading) (d : Heading) (lowest : ℕ)
-    → Child_search states t title up level first end deepest index before → hs ≡ headings_of t → EndsDeeper hs level first end → end ≤ node_count (tree t)
-    → Child_pass states t title up level (min deepest (level_at hs index d)) (index + 1) found → index + 1 ≤ next → next ≤ end → NoneHas states t title (index + 1) next
-    → lowest ≡ lowest_level deepest (take (next - index) (drop index hs)) → Child_search states t title up level first end lowest next found
-search_on states t title up level first end deepest index next before found hs d lowest s he e fits p low high none me =
+pub search_on : (states : Keywords) (t title : List ℕ) (all : Result (Option ℕ) PathFault) (level first end deepest index next : ℕ) (before choice : Choice) (hs : List Heading) (d : Heading) (lowest : ℕ)
+    → Child_search states t title all level first end deepest index before → hs ≡ headings_of t → EndsDeeper hs level first end → end ≤ node_count (tree t)
+    → Child_pass states t title all level (min deepest (level_at hs index d)) (index + 1) choice → index + 1 ≤ next → next ≤ end → NoneHas states t title (index + 1) next
+    → lowest ≡ lowest_level deepest (take (next - index) (drop index hs)) → Child_search states t title all level first end lowest next choice
+search_on states t title all level first end deepest index next before choice hs d lowest s he e fits p low high none me =
     let k : ℕ = next - (index + 1) in
     let start = s.from in
     let there : index + 1 + k ≡ next = omega (arith, low) in
     let fewer : next - index ≡ suc k = omega (arith, low) in
     let size : length hs ≡ node_count (tree t) = ap (λ (l : List Heading). length l) he ∙ headings_many t in
     let lt : index < length hs = omega (arith, low, high, fits, size) in
-    let all : lowest ≡ lowest_level (min deepest (level_at hs index d)) (take k (drop (index + 1) hs)) =
+    let lower : lowest ≡ lowest_level (min deepest (level_at hs index d)) (take k (drop (index + 1) hs)) =
     me ∙ ap (λ (n : ℕ). lowest_level deepest (take n (drop index hs))) fewer ∙ ap (λ (l : List Heading). lowest_level deepest (take (suc k) l)) (drop_more hs index d lt) in
-    let passed = few_passed states t title up level (min deepest (level_at hs index d)) (index + 1) found hs d k p he
+    let passed = few_passed states t title all level (min deepest (level_at hs index d)) (index + 1) choice hs d k p he
     (λ i l h. deep_at hs level first end i d e (omega (arith, start, l)) (omega (arith, h, there, high))) (λ i l h. none i l (omega (arith, h, there))) (omega (arith, there, high, fits, size)) in
     record {
-      pass = rw all (subst (λ (i : ℕ). Child_pass states t title up level (lowest_level (min deepest (level_at hs index d)) (take k (drop (index + 1) hs))) i found) there passed);
+      pass = rw lower (subst (λ (i : ℕ). Child_pass states t title all level (lowest_level (min deepest (level_at hs index d)) (take k (drop (index + 1) hs))) i choice) there passed);
       from = omega (arith, start, low);
       within = high;
     }
 
-pub search_deep : (states : Keywords) (t title : List ℕ) (up : Option ℕ) (level first end deepest index : ℕ) (found : Option ℕ) (hs : List Heading) (d : Heading)
-    → Child_search states t title up level first end deepest index found → EndsDeeper hs level first end → index < end → level < level_at hs index d
-search_deep states t title up level first end deepest index found hs d s e lt = deep_at hs level first end index d e s.from lt
+pub search_deep : (states : Keywords) (t title : List ℕ) (all : Result (Option ℕ) PathFault) (level first end deepest index : ℕ) (choice : Choice) (hs : List Heading) (d : Heading)
+    → Child_search states t title all level first end deepest index choice → EndsDeeper hs level first end → index < end → level < level_at hs index d
+search_deep states t title all level first end deepest index choice hs d s e lt = deep_at hs level first end index d e s.from lt
 
-pub search_end : (states : Keywords) (t title : List ℕ) (up : Option ℕ) (level first end deepest index : ℕ) (found : Option ℕ) (hs : List Heading) (r : Result ℕ PathFault)
-    → Child_search states t title up level first end deepest index found → hs ≡ headings_of t → EndsDeeper hs level first end → first ≤ node_count (tree t) → end ≤ index
-    → r ≡ ok_or found NotFound → r ≡ the_one (titled_children states (tree t) up title)
-search_end states t title up level first end deepest index found hs r s he e low past re =
+pub search_end : (states : Keywords) (t title : List ℕ) (all : Result (Option ℕ) PathFault) (level first end deepest index : ℕ) (choice : Choice) (hs : List Heading)
+    → Child_search states t title all level first end deepest index choice → hs ≡ headings_of t → EndsDeeper hs level first end → first ≤ node_count (tree t) → end ≤ index → still_to_come choice [] ≡ all
+search_end states t title all level first end deepest index choice hs s he e low past =
     let d : Heading = heading_of no_node in
     let within = s.within in
     let same : end ≡ index = omega (arith, past, within) in
@@ -229,30 +227,30 @@ search_end states t title up level first end deepest index found hs r s he e low
     elim (cases_lt index (length hs)) [
       | inl lt ↦
           let stop : level_at hs end d ≤ level = stops_at hs level first end d e (omega (arith, low, size)) (omega (arith, lt, same)) in
-          pass_stop states t title up level deepest index found hs d r s.pass he lt (subst (λ (i : ℕ). level_at hs i d ≤ level) same stop) re
-      | inr none ↦ pass_end states t title up level deepest index found hs r s.pass he (omega (arith, none)) re
+          pass_stop states t title all level deepest index choice hs d s.pass he lt (subst (λ (i : ℕ). level_at hs i d ≤ level) same stop)
+      | inr none ↦ pass_end states t title all level deepest index choice hs s.pass he (omega (arith, none))
     ]
 
 -- ---- the walk over all headings
 
-heads_passed : (states : Keywords) (t title : List ℕ) (index k : ℕ) (found : Option ℕ) → Heading_walk states t title index found → NoneHas states t title index (index + k) → index + k ≤ node_count (tree t)
-    → Heading_walk states t title (index + k) found
-heads_passed states t title index zero found w none within =
+heads_passed : (states : Keywords) (t title : List ℕ) (all : Result (Option ℕ) PathFault) (index k : ℕ) (choice : Choice) → Heading_walk states t title all index choice → NoneHas states t title index (index + k) → index + k ≤ node_count (tree t)
+    → Heading_walk states t title all (index + k) choice
+heads_passed states t title all index zero choice w none within =
     let here : index ≡ index + 0 = omega arith in
-    subst (λ (i : ℕ). Heading_walk states t title i found) here w
-heads_passed states t title index (suc k) found w none within =
+    subst (λ (i : ℕ). Heading_walk states t title all i choice) here w
+heads_passed states t title all index (suc k) choice w none within =
     let on : index + k + 1 ≡ index + suc k = omega arith in
     let inside : index + k < node_count (tree t) = omega (arith, within) in
     let low : index ≤ index + k = omega arith in
     let high : index + k < index + suc k = omega arith in
-    subst (λ (i : ℕ). Heading_walk states t title i found) on
-    (headed_other states t title (index + k) found (record { within = inside; is = none (index + k) low high }) (heads_passed states t title index k found w (λ i l h. none i l (omega (arith, h))) (omega (arith, within))))
+    subst (λ (i : ℕ). Heading_walk states t title all i choice) on
+    (headed_other states t title all (index + k) choice (record { within = inside; is = none (index + k) low high }) (heads_passed states t title all index k choice w (λ i l h. none i l (omega (arith, h))) (omega (arith, within))))
 
-pub head_next : (states : Keywords) (t title : List ℕ) (index next : ℕ) (found : Option ℕ) → Heading_walk states t title index found → index ≤ next → next ≤ node_count (tree t) → NoneHas states t title index next
-    → Heading_walk states t title next found
-head_next states t title index next found w low high none =
+pub head_next : (states : Keywords) (t title : List ℕ) (all : Result (Option ℕ) PathFault) (index next : ℕ) (choice : Choice) → Heading_walk states t title all index choice → index ≤ next → next ≤ node_count (tree t) → NoneHas states t title index next
+    → Heading_walk states t title all next choice
+head_next states t title all index next choice w low high none =
     let there : index + (next - index) ≡ next = omega (arith, low) in
-    subst (λ (i : ℕ). Heading_walk states t title i found) there (heads_passed states t title index (next - index) found w (λ i l h. none i l (omega (arith, h, there))) (omega (arith, there, high)))
+    subst (λ (i : ℕ). Heading_walk states t title all i choice) there (heads_passed states t title all index (next - index) choice w (λ i l h. none i l (omega (arith, h, there))) (omega (arith, there, high)))
 
 -- ---- nothing lies above the top level
 

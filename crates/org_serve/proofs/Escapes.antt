@@ -79,7 +79,7 @@ unescaped-escaped (b ∷ bytes) =
 abbrev pub HasNoSlash : List ℕ → Type 0
 HasNoSlash text = All (λ b. (b == 47) ≡ false) text
 
-no_slash-cons : (b : ℕ) (bytes : List ℕ) → (b == 47) ≡ false → HasNoSlash bytes → HasNoSlash (b ∷ bytes)
+pub no_slash-cons : (b : ℕ) (bytes : List ℕ) → (b == 47) ≡ false → HasNoSlash bytes → HasNoSlash (b ∷ bytes)
 no_slash-cons = All-cons (λ b. (b == 47) ≡ false)
 
 -- an escaped text has no slash

@@ -11,6 +11,7 @@ pub mod Utf8
 pub mod Counting
 pub mod Breaking
 pub mod Escapes
+pub mod Steps
 pub mod Paths
 pub mod Honest
 pub mod Crashes

@@ -1,13 +1,14 @@
 -- The definitions on worked examples.
-use Rattle.std.proofs.Common.{◌≡◌, [], ◌∷◌, Some, None, Err, true, refl}
+use Rattle.std.proofs.Common.{◌≡◌, ℕ, List, [], ◌∷◌, Some, None, Err, true, refl}
 use Rattle.std.specs.Prelude.{codes}
 use Rattle.std.specs.Str.{is_utf8}
 use Rattle.org_outline.specs.declared.moves.Place.TheVariants.{First, Last}
+use Rattle.org_outline.specs.declared.steps.Step.{Step}
 use Rattle.org_capture.specs.declared.target.Target.TheVariants.{Top, Head, Path, Date}
 use Rattle.org_stamp.specs.Calendar.{at_minute, civil_day}
 use Rattle.org_commands.specs.declared.command.Command.TheVariants.{Capture, Refile, Show}
 use Rattle.org_commands.specs.declared.command.RunFault.TheVariants.{Device}
-use Rattle.org_serve.specs.Grammar.{command_of, unescaped, escaped, moment_of, file_of, path_of, path_field, show_of, capture_of, refile_of, target_of, place_of, position_of}
+use Rattle.org_serve.specs.Grammar.{command_of, unescaped, escaped, moment_of, file_of, path_of, step_of, path_field, show_of, capture_of, refile_of, target_of, place_of, position_of}
 use Rattle.org_serve.specs.Lines.{cut}
 use Rattle.org_serve.specs.Replies.{answer_text}
 
@@ -29,31 +30,83 @@ nothing_behind_a_backslash = refl
 spelled : escaped (codes "a/b\n") ≡ codes "a\\sb\\n"
 spelled = refl
 
-two_titles : path_of (codes "a/b") ≡ Some (codes "a" ∷ codes "b" ∷ [])
-unfolding path_of
+-- a step without a number, and one with it
+abbrev only : List ℕ → Step
+only title = record { title = title; number = None }
+
+abbrev nth : ℕ → List ℕ → Step
+nth n title = record { title = title; number = Some n }
+
+two_titles : path_of (codes "a/b") ≡ Some (only (codes "a") ∷ only (codes "b") ∷ [])
+unfolding path_of step_of
 two_titles = refl
 
-slash_of_a_title : path_of (codes "a\\sb") ≡ Some (codes "a/b" ∷ [])
-unfolding path_of
+slash_of_a_title : path_of (codes "a\\sb") ≡ Some (only (codes "a/b") ∷ [])
+unfolding path_of step_of
 slash_of_a_title = refl
 
-one_empty_title : path_of [] ≡ Some ([] ∷ [])
-unfolding path_of
+one_empty_title : path_of [] ≡ Some (only [] ∷ [])
+unfolding path_of step_of
 one_empty_title = refl
 
-two_empty_titles : path_of (codes "/") ≡ Some ([] ∷ [] ∷ [])
-unfolding path_of
+two_empty_titles : path_of (codes "/") ≡ Some (only [] ∷ only [] ∷ [])
+unfolding path_of step_of
 two_empty_titles = refl
 
 backslash_ends_a_title : path_of (codes "a\\/sb") ≡ None
-unfolding path_of
+unfolding path_of step_of
 backslash_ends_a_title = refl
 
 no_such_escape_in_a_title : path_of (codes "a/b\\x") ≡ None
-unfolding path_of
+unfolding path_of step_of
 no_such_escape_in_a_title = refl
 
-written_path : path_field (codes "a/b" ∷ codes "c" ∷ []) ≡ codes "a\\sb/c"
+numbered_step : path_of (codes "A\\#2/B") ≡ Some (nth 2 (codes "A") ∷ only (codes "B") ∷ [])
+unfolding path_of step_of
+numbered_step = refl
+
+-- behind an escaped backslash a sharp is one of the title
+backslash_and_sharp : path_of (codes "a\\\\#2") ≡ Some (only (codes "a\\#2") ∷ [])
+unfolding path_of step_of
+backslash_and_sharp = refl
+
+backslash_sharp_and_number : path_of (codes "a\\\\#2\\#1") ≡ Some (nth 1 (codes "a\\#2") ∷ [])
+unfolding path_of step_of
+backslash_sharp_and_number = refl
+
+number_of_nine_digits : path_of (codes "A\\#999999999") ≡ Some (nth 999999999 (codes "A") ∷ [])
+unfolding path_of step_of
+number_of_nine_digits = refl
+
+number_of_ten_digits : path_of (codes "A\\#1000000000") ≡ None
+unfolding path_of step_of
+number_of_ten_digits = refl
+
+number_zero : path_of (codes "A\\#0") ≡ None
+unfolding path_of step_of
+number_zero = refl
+
+zero_in_front_of_a_number : path_of (codes "A\\#01") ≡ None
+unfolding path_of step_of
+zero_in_front_of_a_number = refl
+
+no_number : path_of (codes "A\\#") ≡ None
+unfolding path_of step_of
+no_number = refl
+
+number_and_more : path_of (codes "A\\#1x") ≡ None
+unfolding path_of step_of
+number_and_more = refl
+
+number_in_front : path_of (codes "\\#1A") ≡ None
+unfolding path_of step_of
+number_in_front = refl
+
+two_numbers : path_of (codes "A\\#1\\#1") ≡ None
+unfolding path_of step_of
+two_numbers = refl
+
+written_path : path_field (only (codes "a/b") ∷ only (codes "c") ∷ []) ≡ codes "a\\sb/c"
 written_path = refl
 
 at_the_front : position_of (codes "0") ≡ Some 0
@@ -84,36 +137,44 @@ at_top : target_of (codes "top") ≡ Some Top
 unfolding target_of
 at_top = refl
 
-below_a_heading : target_of (codes "head:a\\tb") ≡ Some (Head (codes "a\tb"))
-unfolding target_of
+below_a_heading : target_of (codes "head:a\\tb") ≡ Some (Head (only (codes "a\tb")))
+unfolding target_of step_of
 below_a_heading = refl
 
-slash_of_a_heading : target_of (codes "head:a/b") ≡ Some (Head (codes "a/b"))
-unfolding target_of
+slash_of_a_heading : target_of (codes "head:a/b") ≡ Some (Head (only (codes "a/b")))
+unfolding target_of step_of
 slash_of_a_heading = refl
 
-below_a_path : target_of (codes "path:a/b\\sc") ≡ Some (Path (codes "a" ∷ codes "b/c" ∷ []))
-unfolding target_of path_of
+below_a_numbered_heading : target_of (codes "head:T\\#2") ≡ Some (Head (nth 2 (codes "T")))
+unfolding target_of step_of
+below_a_numbered_heading = refl
+
+no_numbered_top : target_of (codes "top\\#1") ≡ None
+unfolding target_of
+no_numbered_top = refl
+
+below_a_path : target_of (codes "path:a/b\\sc") ≡ Some (Path (only (codes "a") ∷ only (codes "b/c") ∷ []))
+unfolding target_of path_of step_of
 below_a_path = refl
 
-below_an_empty_title : target_of (codes "path:") ≡ Some (Path ([] ∷ []))
-unfolding target_of path_of
+below_an_empty_title : target_of (codes "path:") ≡ Some (Path (only [] ∷ []))
+unfolding target_of path_of step_of
 below_an_empty_title = refl
 
 in_the_date_tree : target_of (codes "date") ≡ Some (Date [])
 unfolding target_of
 in_the_date_tree = refl
 
-in_a_date_tree : target_of (codes "date:Log") ≡ Some (Date (codes "Log" ∷ []))
-unfolding target_of path_of
+in_a_date_tree : target_of (codes "date:Log") ≡ Some (Date (only (codes "Log") ∷ []))
+unfolding target_of path_of step_of
 in_a_date_tree = refl
 
-in_the_date_tree_of_an_empty_title : target_of (codes "date:") ≡ Some (Date ([] ∷ []))
-unfolding target_of path_of
+in_the_date_tree_of_an_empty_title : target_of (codes "date:") ≡ Some (Date (only [] ∷ []))
+unfolding target_of path_of step_of
 in_the_date_tree_of_an_empty_title = refl
 
 no_such_escape_in_a_heading : target_of (codes "head:a\\x") ≡ None
-unfolding target_of
+unfolding target_of step_of
 no_such_escape_in_a_heading = refl
 
 no_target : target_of (codes "tops") ≡ None
@@ -158,8 +219,8 @@ unfolding capture_of file_of target_of place_of moment_of
 captures utf8 = rw utf8 refl
 
 refiles : is_utf8 (codes "a.org") ≡ true → is_utf8 (codes "b.org") ≡ true → command_of (codes "refile\ta.org\tA/B\tb.org\tT\tfirst")
-    ≡ Some (Refile (record { file = codes "a.org"; path = codes "A" ∷ codes "B" ∷ []; to_file = codes "b.org"; to_path = codes "T" ∷ []; place = First }))
-unfolding refile_of file_of path_of place_of
+    ≡ Some (Refile (record { file = codes "a.org"; path = only (codes "A") ∷ only (codes "B") ∷ []; to_file = codes "b.org"; to_path = only (codes "T") ∷ []; place = First }))
+unfolding refile_of file_of path_of step_of place_of
 refiles a b = rw (a, b) refl
 
 too_few_fields : command_of (codes "capture\ta.org") ≡ None

@@ -1,6 +1,6 @@
 -- Which command a line is, and what a reader of its fields answers. The fields of a line are
 -- separated by tabs; its first field is the command's word.
-use Rattle.std.specs.Prelude.{ℕ, ◌+◌, ◌-◌, ◌*◌, pos, Bool, true, false, ◌==◌, ◌&&◌, nat_lt, nat_le, List, [], ◌∷◌, length, map, fold, take, drop, Option, None, Some, codes, if◌then◌else◌, ◌≡◌, Result, Ok, Err}
+use Rattle.std.specs.Prelude.{ℕ, suc, ◌+◌, ◌-◌, ◌*◌, ◌^◌, ◌<◌, ◌≤◌, ⊤, pos, Bool, true, false, not, ◌==◌, ◌&&◌, nat_lt, nat_le, List, [], ◌∷◌, ◌++◌, length, map, fold, take, drop, slice_index, decimal, Option, None, Some, codes, if◌then◌else◌, ◌≡◌, Result, Ok, Err}
 use Rattle.std.specs.Char.{is_ascii_digit}
 use Rattle.std.specs.List.{list_all, slice_split, join_with_byte}
 use Rattle.std.specs.Option.{option_map, option_and_then}
@@ -9,6 +9,7 @@ use Rattle.jiff_core.specs.Calendar.{days_in_month}
 use Rattle.org_disk.specs.Names.{is_file_name}
 use Rattle.org_outline.specs.declared.moves.Place.{Place}
 use Rattle.org_outline.specs.declared.moves.Place.TheVariants.{First, Last}
+use Rattle.org_outline.specs.declared.steps.Step.{Step}
 use Rattle.org_capture.specs.declared.target.Target.{Target}
 use Rattle.org_capture.specs.declared.target.Target.TheVariants.{Top, Head, Path, Date}
 use Rattle.org_stamp.specs.Calendar.{Moment, at_minute, civil_day}
@@ -54,32 +55,80 @@ file_of field =
     option_and_then (λ name. if is_utf8 name && is_file_name name then Some name else None)
     (unescaped field)
 
--- the titles that fields stand for, one each
-abbrev pub titles_in : List (List ℕ) → Option (List (List ℕ))
-titles_in [] = Some []
-titles_in (field ∷ fields) =
-    option_and_then (λ title. option_map (λ titles. title ∷ titles) (titles_in fields))
+-- the number that one to this many digits write
+abbrev pub digits_of : ℕ → List ℕ → Option ℕ
+digits_of most field =
+    if nat_le 1 (length field) && nat_le (length field) most && list_all is_ascii_digit field
+    then Some (fold (λ n b. 10 * n + (b - 48)) 0 field)
+    else None
+
+-- the number of a step: one to nine digits, of which the first isn't 0
+abbrev pub number_of : List ℕ → Option ℕ
+number_of field = if slice_index field 0 == 48 then None else digits_of 9 field
+
+-- where the `#` of the first `\#` stands, at the earliest at `at`; true behind a backslash that
+-- begins an escape
+abbrev pub mark_from : Bool → ℕ → List ℕ → Option ℕ
+mark_from is_escaped at [] = None
+mark_from is_escaped at (b ∷ bytes) =
+    if is_escaped && b == 35 then Some at
+    else mark_from (not is_escaped && b == 92) (suc at) bytes
+
+-- a step with a mark there: its title stands before the mark, its number behind it
+abbrev pub step_at : List ℕ → Option ℕ → Option Step
+step_at field None =
+    option_map (λ title. let step : Step = record { title = title; number = None } in step)
     (unescaped field)
+step_at field (Some at) =
+    option_and_then (λ title. option_map (λ n. let step : Step = record {
+      title = title;
+      number = Some n;
+    } in step)
+    (number_of (drop (at + 1) field)))
+    (unescaped (take (at - 1) field))
 
--- PATH: titles with slashes between them. It is split at the slashes before escapes are read, so
+-- a step of a path: a title, or a title, `\#` and a number
+unfoldable pub step_of : List ℕ → Option Step
+step_of field = step_at field (mark_from false 0 field)
+
+-- the steps that fields stand for, one each
+abbrev pub steps_in : List (List ℕ) → Option (List Step)
+steps_in [] = Some []
+steps_in (field ∷ fields) =
+    option_and_then (λ step. option_map (λ steps. step ∷ steps) (steps_in fields)) (step_of field)
+
+-- PATH: steps with slashes between them. It is split at the slashes before escapes are read, so
 -- `\s` is a slash within a title.
-unfoldable pub path_of : List ℕ → Option (List (List ℕ))
-path_of field = titles_in (slice_split (λ b. b == 47) field)
+unfoldable pub path_of : List ℕ → Option (List Step)
+path_of field = steps_in (slice_split (λ b. b == 47) field)
 
--- a field that stands for the path of these titles
-abbrev pub path_field : List (List ℕ) → List ℕ
-path_field titles = join_with_byte 47 (map escaped titles)
+-- a field that stands for a step
+abbrev pub number_field : Option ℕ → List ℕ
+number_field None = []
+number_field (Some n) = 92 ∷ 35 ∷ decimal n
+
+abbrev pub step_field : Step → List ℕ
+step_field step = escaped step.title ++ number_field step.number
+
+-- a step without a number, or with one of at most nine digits, from 1 on
+abbrev pub IsWritten : Option ℕ → Type 0
+IsWritten None = ⊤
+IsWritten (Some n) = (1 ≤ n) × (n < 10 ^ 9)
+
+-- a field that stands for the path of these steps
+abbrev pub path_field : List Step → List ℕ
+path_field path = join_with_byte 47 (map step_field path)
 
 -- a field begins with this word
 abbrev pub begins_with : List ℕ → List ℕ → Bool
 begins_with word field = bytes_eq (take (length word) field) word
 
--- TARGET: `top`, `head:` TITLE, `path:` PATH, `date` or `date:` PATH
+-- TARGET: `top`, `head:` and a step, `path:` PATH, `date` or `date:` PATH
 unfoldable pub target_of : List ℕ → Option Target
 target_of field =
     if bytes_eq field (codes "top") then Some Top
     else if bytes_eq field (codes "date") then Some (Date [])
-    else if begins_with (codes "head:") field then option_map Head (unescaped (drop 5 field))
+    else if begins_with (codes "head:") field then option_map Head (step_of (drop 5 field))
     else if begins_with (codes "path:") field then option_map Path (path_of (drop 5 field))
     else if begins_with (codes "date:") field then option_map Date (path_of (drop 5 field))
     else None
@@ -91,13 +140,6 @@ place_of field =
     else if bytes_eq field (codes "last") then Some Last
     else None
 
--- the number that one to eight digits write
-abbrev pub digits_of : List ℕ → Option ℕ
-digits_of field =
-    if nat_le 1 (length field) && nat_le (length field) 8 && list_all is_ascii_digit field
-    then Some (fold (λ n b. 10 * n + (b - 48)) 0 field)
-    else None
-
 -- a zero stands in front of other bytes
 abbrev pub leads_with_zero : List ℕ → Bool
 leads_with_zero (a ∷ b ∷ more) = a == 48
@@ -105,7 +147,7 @@ leads_with_zero _ = false
 
 -- AT: a number of at most eight digits, without zeros in front
 unfoldable pub position_of : List ℕ → Option ℕ
-position_of field = if leads_with_zero field then None else digits_of field
+position_of field = if leads_with_zero field then None else digits_of 8 field
 
 abbrev pub digit_of : ℕ → Option ℕ
 digit_of b = if nat_le 48 b && nat_le b 57 then Some (b - 48) else None

@@ -1,15 +1,15 @@
 //! The fields of a command line: names, paths, targets, positions, texts with escapes.
 //!
 //! A field without an escape is borrowed from the line.
-ghost use Rattle.std.specs.Prelude.{◌≡◌, ◌&&◌, true, false, Some, None, MatchOption, if◌then◌else◌};
+ghost use Rattle.std.specs.Prelude.{◌≡◌, ◌&&◌, ◌<◌, ◌≤◌, ◌^◌, true, false, Some, None, IfSome, MatchOption, if◌then◌else◌, length};
 ghost use Rattle.std.specs.Str.{bytes_eq, is_utf8};
 ghost use Rattle.org_disk.specs.Names.{is_file_name};
-ghost use Rattle.org_serve.specs.Grammar.{digits_of, escape, leads_with_zero, unescaped, file_of, path_of, position_of, target_of, place_of, Gives, GivesBy};
+ghost use Rattle.org_serve.specs.Grammar.{digits_of, escape, leads_with_zero, mark_from, number_of, step_of, unescaped, file_of, path_of, position_of, target_of, place_of, Gives, GivesBy};
 
 use crate::fault::LineFault;
 use org_capture::Target;
 use org_disk::{FileName, NameFault};
-use org_outline::{Place, Titles};
+use org_outline::{Path, Place, Step};
 use org_splice::Bytes;
 use org_store::TextOf;
 use std::alloc::Global;
@@ -128,21 +128,86 @@ pub fn file(alloc: Global, field: &[u8]) -> Result<FileName, LineFault>
     named(alloc, &name)
 }
 
-/// The path that a field PATH is: titles with slashes between them, of which there is one more than
+// Where the `#` of the first `\#` stands that isn't behind an escaped backslash.
+fn mark(field: &[u8]) -> Option<usize>
+    ensures place { result ≡ mark_from false 0 field.now }
+    ensures within { IfSome result (λ at. (1 ≤ at) × (at < length field.now)) }
+{
+    let mut is_escaped = false;
+    for (at, b) in field.iter().enumerate() {
+        if is_escaped && *b == b'#' {
+            return Some(at);
+        }
+        is_escaped = !is_escaped && *b == b'\\';
+    }
+    None
+}
+
+// The number that one to this many digits write.
+fn digits(field: &[u8], most: usize) -> Option<usize>
+    requires { most ≤ 9 }
+    ensures value { result ≡ digits_of most field.now }
+    ensures within { IfSome result (λ n. n < 10 ^ 9) }
+{
+    if field.is_empty() || field.len() > most {
+        return None;
+    }
+    let mut number = 0;
+    for b in field {
+        if !b.is_ascii_digit() {
+            return None;
+        }
+        number = 10 * number + usize::from(*b - b'0');
+    }
+    Some(number)
+}
+
+// The number that stands behind the mark of a step.
+fn number(field: &[u8]) -> Option<u32>
+    ensures { result ≡ number_of field.now }
+{
+    if !field.is_empty() && field[0] == b'0' {
+        return None;
+    }
+    let number = digits(field, 9)?;
+    Some(number as u32)
+}
+
+// The step that a part of a path is: a title, or a title, `\#` and a number.
+#[tactic(auto, unfolding(crate::specs::Grammar::step_of))]
+fn step(alloc: Global, field: &[u8]) -> Result<Step, LineFault>
+    ensures { Gives result (step_of field.now) }
+{
+    let Some(at) = mark(field) else {
+        let title = Bytes::new(unescape(alloc, field)?);
+        return Ok(Step {
+            title,
+            number: None,
+        });
+    };
+    let number = number(&field[at + 1..]).ok_or(LineFault::BadLine)?;
+    let title = Bytes::new(unescape(alloc, &field[..at - 1])?);
+    Ok(Step {
+        title,
+        number: Some(number),
+    })
+}
+
+/// The path that a field PATH is: steps with slashes between them, of which there is one more than
 /// slashes.
 ///
 /// # Errors
 ///
-/// - `BadLine`: a title has a wrong escape.
+/// - `BadLine`: a step has a wrong escape, or a wrong number.
 /// - `OutOfMemory`.
-pub fn path(alloc: Global, field: &[u8]) -> Result<Titles, LineFault>
+pub fn path(alloc: Global, field: &[u8]) -> Result<Path, LineFault>
     ensures { Gives result (path_of field.now) }
 {
-    let mut titles = Vec::new(alloc);
-    for title in field.split(|b| *b == b'/') {
-        titles.push(unescape(alloc, title)?)?;
+    let mut steps = Vec::new(alloc);
+    for part in field.split(|b| *b == b'/') {
+        steps.push(step(alloc, part)?)?;
     }
-    Ok(Titles::new(titles))
+    Ok(Path::new(steps))
 }
 
 /// The target that a field TARGET is.
@@ -158,13 +223,13 @@ pub fn target(alloc: Global, field: &[u8]) -> Result<Target, LineFault>
     if is(field, "top") {
         Ok(Target::Top)
     } else if is(field, "date") {
-        Ok(Target::Date(Titles::new(Vec::new(alloc))))
-    } else if let Some(title) = field.strip_prefix(b"head:") {
-        Ok(Target::Head(Bytes::new(unescape(alloc, title)?)))
-    } else if let Some(titles) = field.strip_prefix(b"path:") {
-        Ok(Target::Path(path(alloc, titles)?))
-    } else if let Some(titles) = field.strip_prefix(b"date:") {
-        Ok(Target::Date(path(alloc, titles)?))
+        Ok(Target::Date(Path::new(Vec::new(alloc))))
+    } else if let Some(part) = field.strip_prefix(b"head:") {
+        Ok(Target::Head(step(alloc, part)?))
+    } else if let Some(steps) = field.strip_prefix(b"path:") {
+        Ok(Target::Path(path(alloc, steps)?))
+    } else if let Some(steps) = field.strip_prefix(b"date:") {
+        Ok(Target::Date(path(alloc, steps)?))
     } else {
         Err(LineFault::BadLine)
     }
@@ -184,23 +249,6 @@ pub fn place(field: &[u8]) -> Option<Place>
     }
 }
 
-// The number that one to eight digits write.
-fn digits(field: &[u8]) -> Option<usize>
-    ensures { result ≡ digits_of field.now }
-{
-    if field.is_empty() || field.len() > 8 {
-        return None;
-    }
-    let mut number = 0;
-    for b in field {
-        if !b.is_ascii_digit() {
-            return None;
-        }
-        number = 10 * number + usize::from(*b - b'0');
-    }
-    Some(number)
-}
-
 // Whether a zero stands in front of other bytes.
 fn leads_with_zero(field: &[u8]) -> bool
     ensures { result ≡ leads_with_zero field.now }
@@ -217,5 +265,5 @@ pub fn position(field: &[u8]) -> Option<usize>
     if leads_with_zero(field) {
         return None;
     }
-    digits(field)
+    digits(field, 8)
 }

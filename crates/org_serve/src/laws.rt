@@ -1,14 +1,18 @@
 //! Laws of the definitions of lines, replies and runs, for all values.
 //!
 //! Each is the contract of a function with nothing to do.
-ghost use Rattle.std.specs.Prelude.{ℕ, List, [], ◌≡◌, ◌∷◌, ◌++◌};
+ghost use Rattle.std.specs.Prelude.{ℕ, List, [], ◌≡◌, ◌∷◌, ◌++◌, ◌<◌, ◌^◌};
+ghost use Rattle.std.specs.List.{AllByRecursion};
 ghost use Rattle.std.specs.Prelude.{All, Some, Result, IsFalse};
 ghost use Rattle.org_disk.specs.Accounts.{LeavesOver};
 ghost use Rattle.org_journal.specs.Recovered.{Image};
 ghost use Rattle.org_fileset.specs.Replay.{RestsOn, files_on};
 ghost use Rattle.org_fileset.specs.Names.{AreFew};
 ghost use Rattle.org_fileset.specs.Writes.{LeavesAlone};
+ghost use Rattle.org_outline.specs.declared.steps.Step.{Step as PathStep};
 ghost use Rattle.org_outline.specs.States.{Keywords};
+ghost use Rattle.org_outline.specs.Tree.{Document, node_count};
+ghost use Rattle.org_outline.specs.Paths.{path_of as heading_path};
 ghost use Rattle.org_commands.specs.declared.command.Command.{Command};
 ghost use Rattle.org_commands.specs.declared.command.Reply.{Reply};
 ghost use Rattle.org_commands.specs.declared.command.RunFault.{RunFault};
@@ -27,7 +31,7 @@ ghost use Rattle.org_serve.specs.Serving.{RunsLines, stores_while_honest, traces
 ghost use Rattle.org_serve.specs.Pipes.{Exchange};
 ghost use Rattle.org_serve.specs.Whole.{IsIntermediate, ServesOver};
 ghost use Rattle.org_serve.specs.declared.whole.Setup.{Setup};
-ghost use Rattle.org_serve.specs.Grammar.{escaped, unescaped, path_of, path_field};
+ghost use Rattle.org_serve.specs.Grammar.{IsWritten, escaped, unescaped, path_of, path_field};
 ghost use Rattle.org_serve.specs.Lines.{cut, joined, HasNoNewline};
 ghost use Rattle.org_serve.specs.Replies.{answer_text, safe_line, reported_safe};
 
@@ -46,10 +50,16 @@ pub fn escaped_text_reads_back()
     ensures { (text : List ℕ) → unescaped (escaped text) ≡ Some text }
 {}
 
-/// Each path of one title or more has a field that stands for it.
+/// Each path of one step or more has a field that stands for it, where each of its numbers has at
+/// most nine digits and is from 1 on. So has each heading of a text of fewer than 10^9 headings
+/// (`every_heading_has_a_path`, a law of org_outline).
 pub fn written_path_reads_back()
-    ensures { (title : List ℕ) → (titles : List (List ℕ))
-        → path_of (path_field (title ∷ titles)) ≡ Some (title ∷ titles) }
+    ensures steps { (step : PathStep) (path : List PathStep)
+        → AllByRecursion (λ s. IsWritten s.number) (step ∷ path)
+        → path_of (path_field (step ∷ path)) ≡ Some (step ∷ path) }
+    ensures headings { (states : Keywords) (d : Document) (i : ℕ) → i < node_count d
+        → node_count d < 10 ^ 9
+        → path_of (path_field (heading_path states d i)) ≡ Some (heading_path states d i) }
 {}
 
 /// A reply that says `safe a` ends with that line, and a commands are acknowledged as it is

@@ -10,7 +10,7 @@ use crate::field::{file, is, path, place, position, target, text};
 use crate::moment::moment;
 use memchr::memchr;
 use org_disk::FileName;
-use org_outline::Titles;
+use org_outline::Path;
 use org_store::{Archive, Capture, ClockIn, Command, Edit, Refile, Todo};
 use std::alloc::Global;
 
@@ -80,7 +80,7 @@ fn command_within<'a>(
 }
 
 // The node that fields FILE and PATH name.
-fn node(alloc: Global, name: &[u8], titles: &[u8]) -> Result<(FileName, Titles), LineFault>
+fn node(alloc: Global, name: &[u8], titles: &[u8]) -> Result<(FileName, Path), LineFault>
     ensures { Gives result (option_and_then (λ file. option_map (λ path. (file, path))
         (path_of titles.now)) (file_of name.now)) }
 {

@@ -7,6 +7,7 @@ use Rattle.std.specs.Fmt.{digits}
 use Rattle.jiff_core.specs.Calendar.{days_of_years, days_of_months, day_count, days_from_civil, weekday_number}
 use Rattle.org_stamp.specs.Calendar.{Moment, civil_day, day_number, at_minute, weekday_of}
 use Rattle.org_outline.specs.declared.paths.PathFault.TheVariants as path
+use Rattle.org_outline.specs.declared.steps.Step.{Step}
 use Rattle.org_outline.specs.States.{Keywords}
 use Rattle.org_outline.specs.Tree.{print, tree}
 use Rattle.org_state.specs.declared.fault.StateFault.{StateFault}
@@ -195,10 +196,14 @@ backwards_runs_not = rw july refl
 many_hours : clocked_minutes (tree (line (codes "* A") ++ line (codes "CLOCK: [2026-06-01 10:00]--[2026-07-01 10:00] => 720:00 " ++ 13 ∷ []))) 0 ≡ 43_200
 many_hours = rw (june, july) refl
 
-doubled_title : clocked_at states (codes "A" ∷ []) (tree (line (codes "* TODO A") ++ line (codes "* A"))) ≡ Err path.NotUnique
+-- a step without a number
+abbrev only : List ℕ → Step
+only title = record { title = title; number = None }
+
+doubled_title : clocked_at states (only (codes "A") ∷ []) (tree (line (codes "* TODO A") ++ line (codes "* A"))) ≡ Err path.NotUnique
 unfolding states
 doubled_title = refl
 
-no_such_title : clocked_at states (codes "B" ∷ []) (tree (line (codes "* A"))) ≡ Err path.NotFound
+no_such_title : clocked_at states (only (codes "B") ∷ []) (tree (line (codes "* A"))) ≡ Err path.NotFound
 unfolding states
 no_such_title = refl

@@ -2,6 +2,7 @@
 use Rattle.std.proofs.Common.{◌≡◌, ℕ, Bool, true, false, Option, Some, None, Result, Ok, Err, List, sym, ap, ◌∙◌}
 use Rattle.std.specs.Result.{result_map_both}
 use Rattle.org_stamp.specs.Calendar.{Moment}
+use Rattle.org_outline.specs.declared.steps.Step.{Step}
 use Rattle.org_outline.specs.States.{Keywords}
 use Rattle.org_outline.specs.Tree.{Document}
 use Rattle.org_meta.specs.Planning.{PlanningLine}
@@ -31,6 +32,6 @@ module _ (states : Keywords) (state : List ℕ) (now : Moment) where
       ap (result_map_both (λ own. Some (with_own_at i d own)) (λ fault. fault))
       (turn_computed (is_done states (keyword_in states (own_at d i).rest)) (is_done states state) (own_at d i) own changes) ∙ sym is
 
-pub todo_computed : (states : Keywords) (path : List (List ℕ)) (state : List ℕ) (now : Moment) (d : Document) (r : Result (Option Document) StateFault) → IsTodo states path state now d r
+pub todo_computed : (states : Keywords) (path : List Step) (state : List ℕ) (now : Moment) (d : Document) (r : Result (Option Document) StateFault) → IsTodo states path state now d r
     → todo states path state now d ≡ r
 todo_computed states path state now d r is = at_computed states state now d (heading_to_change states path state d) r is

@@ -7,6 +7,7 @@ use Rattle.org_stamp.specs.Stamp.{StampValue}
 use Rattle.org_stamp.specs.Repeat.{IsRepeated}
 use Rattle.org_stamp.specs.declared.fault.RepeatFault.{RepeatFault}
 use Rattle.org_stamp.proofs.OneRepeat.{repeated_one}
+use Rattle.org_outline.specs.declared.steps.Step.{Step}
 use Rattle.org_outline.specs.States.{Keywords}
 use Rattle.org_outline.specs.Tree.{Document}
 use Rattle.org_meta.specs.declared.fault.MetaFault.{MetaFault}
@@ -83,6 +84,6 @@ module _ (states : Keywords) (state : List ℕ) (now : Moment) where
       let same : a.0 ≡ b.0 = one_turn (is_done states (keyword_in states own.rest)) (is_done states state) own a.0 b.0 a.1 b.1 in
       a.2 ∙ ap (result_map_both (λ own. Some (with_own_at i d own)) (λ fault. fault)) same ∙ sym b.2
 
-pub one_outcome : (states : Keywords) (path : List (List ℕ)) (state : List ℕ) (now : Moment) (d : Document) (r q : Result (Option Document) StateFault)
+pub one_outcome : (states : Keywords) (path : List Step) (state : List ℕ) (now : Moment) (d : Document) (r q : Result (Option Document) StateFault)
     → IsTodo states path state now d r → IsTodo states path state now d q → r ≡ q
 one_outcome states path state now d r q a b = one_at states state now d (heading_to_change states path state d) r q a b

@@ -2,6 +2,7 @@
 use Rattle.std.proofs.Common.{◌≡◌, ℕ, List, [], ◌∷◌, ◌++◌, codes, refl}
 use Rattle.std.specs.Prelude.{Option, None, Some, Result, Ok, Err}
 use Rattle.org_stamp.specs.Calendar.{Moment, civil_day, at_minute}
+use Rattle.org_outline.specs.declared.steps.Step.{Step}
 use Rattle.org_outline.specs.States.{Keywords}
 use Rattle.org_outline.specs.Tree.{Document, tree}
 use Rattle.org_meta.specs.declared.fault.MetaFault.TheVariants as meta
@@ -21,9 +22,13 @@ states = record { active = codes "TODO" ∷ codes "NEXT" ∷ []; done = codes "D
 now : Moment
 now = at_minute (civil_day 2026 7 1) 600
 
+-- a step without a number
+abbrev only : List ℕ → Step
+only title = record { title = title; number = None }
+
 -- what putting the heading A into a state makes of a text
 abbrev Todo : List ℕ → List ℕ → Result (Option Document) StateFault → Type 0
-Todo state text r = IsTodo states (codes "A" ∷ []) state now (tree text) r
+Todo state text r = IsTodo states (only (codes "A") ∷ []) state now (tree text) r
 
 -- ---- the keyword
 

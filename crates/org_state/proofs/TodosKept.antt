@@ -9,6 +9,7 @@ use Rattle.std.proofs.lemmas.Bool.{eqb-true, false≢true}
 use Rattle.org_splice.specs.Blanks.{is_blank, behind, front}
 use Rattle.org_splice.proofs.Ends.{both}
 use Rattle.org_stamp.specs.Calendar.{Moment}
+use Rattle.org_outline.specs.declared.steps.Step.{Step}
 use Rattle.org_outline.specs.declared.paths.PathFault.{PathFault}
 use Rattle.org_outline.specs.Parts.{content_of, keyword_of}
 use Rattle.org_outline.specs.Paths.{find_path}
@@ -204,7 +205,7 @@ own_valid i d lt valid =
     let own : IsNode (node_at d i).node = valid_node d i valid lt in
     record { space = own.heading.space; rest = record { flat = own.heading.rest }; section = own.heading.section }
 
-at_heading : (states : Keywords) (path : List (List ℕ)) (state : List ℕ) (now : Moment) (d new : Document) (asked_is : Result (Option ℕ) StateFault) → IsTrue (are_states states)
+at_heading : (states : Keywords) (path : List Step) (state : List ℕ) (now : Moment) (d new : Document) (asked_is : Result (Option ℕ) StateFault) → IsTrue (are_states states)
     → heading_to_change states path state d ≡ asked_is → todo_at states state now d asked_is ≡ Ok (Some new) → IsValid d → IsValid new
 at_heading states path state now d new (Err fault) are is e valid = absurd cc
 at_heading states path state now d new (Ok None) are is e valid = absurd cc
@@ -216,9 +217,9 @@ at_heading states path state now d new (Ok (Some i)) are is e valid =
     let kept = turned_kept states state now (own_at d i) made.0 are found.known own (is_done states (keyword_in states (node_at d i).node.rest)) (is_done states state) made.1 in
     subst IsValid same (own_lines_valid i made.0.rest made.0.section d kept.space kept.rest.flat kept.section valid)
 
-pub todo_valid : (states : Keywords) (path : List (List ℕ)) (state : List ℕ) (now : Moment) (d new : Document) → IsTrue (are_states states) → todo states path state now d ≡ Ok (Some new) → IsValid d → IsValid new
+pub todo_valid : (states : Keywords) (path : List Step) (state : List ℕ) (now : Moment) (d new : Document) → IsTrue (are_states states) → todo states path state now d ≡ Ok (Some new) → IsValid d → IsValid new
 todo_valid states path state now d new are e valid = at_heading states path state now d new (heading_to_change states path state d) are refl e valid
 
 -- so the tree of the new text is what was made
-pub todo_reads_back : (states : Keywords) (path : List (List ℕ)) (state : List ℕ) (now : Moment) (t : List ℕ) (new : Document) → IsTrue (are_states states) → todo states path state now (tree t) ≡ Ok (Some new) → tree (print new) ≡ new
+pub todo_reads_back : (states : Keywords) (path : List Step) (state : List ℕ) (now : Moment) (t : List ℕ) (new : Document) → IsTrue (are_states states) → todo states path state now (tree t) ≡ Ok (Some new) → tree (print new) ≡ new
 todo_reads_back states path state now t new are e = tree-print new (todo_valid states path state now (tree t) new are e (tree-is t).valid)

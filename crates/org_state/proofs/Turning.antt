@@ -11,6 +11,7 @@ use Rattle.org_splice.specs.declared.edit.Edit.{Edit}
 use Rattle.org_splice.proofs.Lines.{lines_of-print_lines}
 use Rattle.org_stamp.specs.Calendar.{Moment}
 use Rattle.std.specs.List.{AllByRecursion}
+use Rattle.org_outline.specs.declared.steps.Step.{Step}
 use Rattle.org_outline.specs.States.{Keywords}
 use Rattle.org_outline.specs.Paths.{find_path}
 use Rattle.org_outline.specs.Tree.{Document, print, tree, node_at, node_count}
@@ -240,7 +241,7 @@ turned was is states state now own t i result was_is is_is answers =
 
 -- ---- a document
 
-pub todo_answers : (states : Keywords) (path : List (List ℕ)) (state : List ℕ) (now : Moment) (t : List ℕ) (i : ℕ) (result : Result (Vec Edit Global) StateFault)
+pub todo_answers : (states : Keywords) (path : List Step) (state : List ℕ) (now : Moment) (t : List ℕ) (i : ℕ) (result : Result (Vec Edit Global) StateFault)
     → find_path states (tree t) path ≡ Ok i → is_state states state ≡ true → bytes_eq (keyword_in states (node_at (tree t) i).node.rest) state ≡ false
     → AnswersOwn (IsChanged states state now (own_at (tree t) i)) t i result → AnswersTodo states path state now t result
 todo_answers states path state now t i result found known other answers = by_result result answers

@@ -4,6 +4,7 @@ use Rattle.std.specs.Global.{Global}
 use Rattle.org_splice.specs.declared.edit.Edit.{Edit}
 use Rattle.org_splice.specs.Edits.{AreEdits}
 use Rattle.org_stamp.specs.Calendar.{Moment}
+use Rattle.org_outline.specs.declared.steps.Step.{Step}
 use Rattle.org_outline.specs.States.{Keywords}
 use Rattle.org_outline.specs.Tree.{Document, print, tree}
 use Rattle.org_state.specs.declared.fault.StateFault.{StateFault}
@@ -18,7 +19,7 @@ Makes (Some new) text edits = (edits ≢ []) × AreEdits edits text (print new)
 
 -- edits that make what is defined, or the fault that is; memory is wanted only where a heading is
 -- to change
-abbrev pub AnswersTodo : Keywords → List (List ℕ) → List ℕ → Moment → List ℕ
+abbrev pub AnswersTodo : Keywords → List Step → List ℕ → Moment → List ℕ
     → Result (Vec Edit Global) StateFault → Type 0
 AnswersTodo states path state now text (Ok edits) =
     (new : Option Document)

@@ -11,6 +11,7 @@ use Rattle.org_splice.specs.declared.edit.Edit.{Edit}
 use Rattle.org_splice.specs.Edits.{AreEdits}
 use Rattle.org_stamp.specs.Calendar.{Moment}
 use Rattle.org_stamp.specs.Parts.{◌>>=◌}
+use Rattle.org_outline.specs.declared.steps.Step.{Step}
 use Rattle.org_outline.specs.declared.paths.PathFault.{PathFault}
 use Rattle.org_outline.specs.States.{Keywords}
 use Rattle.org_outline.specs.Tree.{Document, Placed, print, tree, nodes, node_at}
@@ -111,7 +112,7 @@ clocked_minutes d i =
     (node_at d i).node) 18_446_744_073_709_551_615
 
 -- those of the heading at a path
-abbrev pub clocked_at : Keywords → List (List ℕ) → Document → Result ℕ PathFault
+abbrev pub clocked_at : Keywords → List Step → Document → Result ℕ PathFault
 clocked_at states path d =
     result_map_both (clocked_minutes d) (λ fault. fault) (find_path states d path)
 
@@ -119,7 +120,7 @@ clocked_at states path d =
 
 -- an edit that opens a clock at the heading at a path, or why there is no such heading; memory is
 -- wanted only where there is
-abbrev pub AnswersOpening : Keywords → List (List ℕ) → Moment → List ℕ → Result Edit StateFault
+abbrev pub AnswersOpening : Keywords → List Step → Moment → List ℕ → Result Edit StateFault
     → Type 0
 AnswersOpening states path now text (Ok edit) =
     (i : ℕ)

@@ -4,6 +4,7 @@ use Rattle.std.specs.Prelude.{◌≡◌, ℕ, Bool, true, false, if◌then◌els
 use Rattle.std.specs.Result.{result_map_both}
 use Rattle.std.specs.Str.{bytes_eq}
 use Rattle.org_stamp.specs.Calendar.{Moment}
+use Rattle.org_outline.specs.declared.steps.Step.{Step}
 use Rattle.org_outline.specs.declared.paths.PathFault.{PathFault}
 use Rattle.org_outline.specs.declared.paths.PathFault.TheVariants as path
 use Rattle.org_outline.specs.States.{Keywords, has_word}
@@ -126,7 +127,7 @@ heading_asked states state d (Ok i) =
     else Ok (Some i))
     else Err UnknownState
 
-abbrev pub heading_to_change : Keywords → List (List ℕ) → List ℕ → Document
+abbrev pub heading_to_change : Keywords → List Step → List ℕ → Document
     → Result (Option ℕ) StateFault
 heading_to_change states path state d = heading_asked states state d (find_path states d path)
 
@@ -140,7 +141,7 @@ IsTodoAt states state now d (Ok (Some i)) r =
     × (r ≡ result_map_both (λ own. Some (with_own_at i d own)) (λ fault. fault) own)
 
 -- the document with the heading at a path in another state; none where nothing changes
-abbrev pub IsTodo : Keywords → List (List ℕ) → List ℕ → Moment → Document
+abbrev pub IsTodo : Keywords → List Step → List ℕ → Moment → Document
     → Result (Option Document) StateFault → Type 0
 IsTodo states path state now d r =
     IsTodoAt states state now d (heading_to_change states path state d) r
@@ -175,6 +176,6 @@ todo_at states state now d (Ok (Some i)) =
     (in_state states state now (own_at d i))
 
 -- the document with the heading at a path in another state; none where nothing changes
-abbrev pub todo : Keywords → List (List ℕ) → List ℕ → Moment → Document
+abbrev pub todo : Keywords → List Step → List ℕ → Moment → Document
     → Result (Option Document) StateFault
 todo states path state now d = todo_at states state now d (heading_to_change states path state d)

@@ -10,7 +10,6 @@ ghost use Rattle.org_meta.specs.Replans.{GivesRepeated};
 ghost use Rattle.org_meta.specs.Notes.{note_line, with_note};
 ghost use Rattle.org_meta.specs.Sections.{split, parts_of, joined, put};
 ghost use Rattle.org_outline.specs.Tree.{node_count, tree};
-ghost use Rattle.org_outline.specs.Paths.{titles_of};
 ghost use Rattle.org_state.specs.Answers.{AnswersTodo};
 ghost use Rattle.org_state.specs.Change.{AnswersChange, own_of};
 ghost use Rattle.org_state.specs.declared.fault.StateFault.TheVariants.{OutOfMemory};
@@ -22,7 +21,7 @@ use crate::fault::StateFault;
 use crate::keyword::is_state;
 use crate::own::{above_rest, in_section, keyword_edit, section_of};
 use org_meta::{add_note, clear_closed, put_property, repeat_planning, sections, set_closed};
-use org_outline::{Node, Outline};
+use org_outline::{Node, Outline, Step};
 use org_splice::Edit;
 use org_stamp::{Moment, Stamp};
 use std::alloc::{AllocError, Global};
@@ -215,11 +214,11 @@ impl Change<'_> {
 pub fn todo(
     alloc: Global,
     outline: &Outline<'_>,
-    path: &[Vec<u8>],
+    path: &[Step],
     state: &[u8],
     now: Moment,
 ) -> Result<Vec<Edit>, StateFault>
-    ensures { AnswersTodo outline.now.states (titles_of path.now) state.now now outline.now.text
+    ensures { AnswersTodo outline.now.states path.now state.now now outline.now.text
         result }
 {
     let node = outline.find(path)?;

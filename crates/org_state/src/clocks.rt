@@ -5,7 +5,7 @@
 ghost use Rattle.std.specs.Prelude.{◌≡◌, ◌≢◌, ◌<◌, ◌≤◌, ℕ, false, length, Some, Ok, IfOk};
 ghost use Rattle.org_splice.specs.Lines.{terminated, print_lines};
 ghost use Rattle.org_splice.specs.Searched.{IsSearched};
-ghost use Rattle.org_outline.specs.Paths.{find_path, titles_of};
+ghost use Rattle.org_outline.specs.Paths.{find_path};
 ghost use Rattle.org_outline.specs.Tree.{node_at, node_count, tree};
 ghost use Rattle.org_state.specs.Clock.{has_clock, span_from, running_in, runs_at, opened_section, clocked_minutes, clocked_at};
 ghost use Rattle.org_state.specs.Clock.{AnswersOpening, AnswersClosing, ClosesSection, AnswersSwitch};
@@ -15,7 +15,7 @@ use crate::fault::StateFault;
 use crate::own::{in_section, section_of};
 use crate::run::Running;
 use org_meta::{close_clock, find_open, open_clock, total};
-use org_outline::{Node, Outline, PathFault};
+use org_outline::{Node, Outline, PathFault, Step};
 use org_splice::{Edit, Searched, Span};
 use org_stamp::Moment;
 use std::alloc::{AllocError, Global};
@@ -111,10 +111,10 @@ fn opening(
 pub fn clock_in(
     alloc: Global,
     outline: &Outline<'_>,
-    path: &[Vec<u8>],
+    path: &[Step],
     now: Moment,
 ) -> Result<Edit, StateFault>
-    ensures { AnswersOpening outline.now.states (titles_of path.now) now outline.now.text result }
+    ensures { AnswersOpening outline.now.states path.now now outline.now.text result }
 {
     let node = outline.find(path)?;
     Ok(opening(alloc, outline, node, now)?)
@@ -195,14 +195,14 @@ fn switch(
 pub fn switch_clock(
     alloc: Global,
     outline: &Outline<'_>,
-    path: &[Vec<u8>],
+    path: &[Step],
     running: Running,
     now: Moment,
 ) -> Result<Vec<Edit>, StateFault>
     requires { running_in (tree outline.now.text) ≡ Some running }
     ensures { let d = tree outline.now.text in
         AnswersSwitch now outline.now.text running.heading
-        (find_path outline.now.states d (titles_of path.now)) result }
+        (find_path outline.now.states d path.now) result }
 {
     let node = outline.find(path)?;
     if node.number() == running.heading.number() {
@@ -233,9 +233,9 @@ fn clocked_below(outline: &Outline<'_>, node: Node) -> u64
 /// # Errors
 ///
 /// `NotFound` or `NotUnique` of `path`.
-pub fn clocked(outline: &Outline<'_>, path: &[Vec<u8>]) -> Result<u64, PathFault>
+pub fn clocked(outline: &Outline<'_>, path: &[Step]) -> Result<u64, PathFault>
     ensures { result
-        ≡ clocked_at outline.now.states (titles_of path.now) (tree outline.now.text) }
+        ≡ clocked_at outline.now.states path.now (tree outline.now.text) }
 {
     let node = outline.find(path)?;
     Ok(clocked_below(outline, node))

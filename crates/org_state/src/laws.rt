@@ -3,6 +3,7 @@
 ghost use Rattle.std.specs.Prelude.{◌≡◌, ◌<◌, ◌+◌, ◌∷◌, ◌++◌, [], ℕ, min, List, Option, Some, Result, Ok, IsTrue, drop, slice_get};
 ghost use Rattle.std.specs.Option.{option_map};
 ghost use Rattle.org_stamp.specs.Calendar.{Moment, IsDay};
+ghost use Rattle.org_outline.specs.declared.steps.Step.{Step};
 ghost use Rattle.org_outline.specs.States.{Keywords, are_states};
 ghost use Rattle.org_outline.specs.Tree.{Document, IsValid, node_count, print, tree};
 ghost use Rattle.org_meta.specs.Clocking.{clock_line, minutes_run};
@@ -13,14 +14,14 @@ ghost use Rattle.org_state.specs.Todo.{IsTodo, todo};
 
 /// A change of a state has one outcome.
 pub fn one_outcome()
-    ensures { (states : Keywords) (path : List (List ℕ)) (state : List ℕ) (now : Moment)
+    ensures { (states : Keywords) (path : List Step) (state : List ℕ) (now : Moment)
         (d : Document) (r q : Result (Option Document) StateFault)
         → IsTodo states path state now d r → IsTodo states path state now d q → r ≡ q }
 {}
 
 /// That outcome can be computed.
 pub fn outcome_computes()
-    ensures { (states : Keywords) (path : List (List ℕ)) (state : List ℕ) (now : Moment)
+    ensures { (states : Keywords) (path : List Step) (state : List ℕ) (now : Moment)
         (d : Document) (r : Result (Option Document) StateFault)
         → IsTodo states path state now d r → todo states path state now d ≡ r }
 {}
@@ -28,10 +29,10 @@ pub fn outcome_computes()
 /// A change of a state keeps a document valid, so that the tree of the new text is what was made:
 /// no line that it puts in is a heading line.
 pub fn changes_are_valid()
-    ensures changed { (states : Keywords) (path : List (List ℕ)) (state : List ℕ)
+    ensures changed { (states : Keywords) (path : List Step) (state : List ℕ)
         (now : Moment) (d new : Document) → IsTrue (are_states states)
         → todo states path state now d ≡ Ok (Some new) → IsValid d → IsValid new }
-    ensures text { (states : Keywords) (path : List (List ℕ)) (state : List ℕ)
+    ensures text { (states : Keywords) (path : List Step) (state : List ℕ)
         (now : Moment) (t : List ℕ) (new : Document) → IsTrue (are_states states)
         → todo states path state now (tree t) ≡ Ok (Some new) → tree (print new) ≡ new }
 {}

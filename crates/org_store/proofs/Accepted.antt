@@ -8,6 +8,7 @@ use Rattle.std.proofs.lemmas.Bool.{cases_Bool}
 use Rattle.std.proofs.lemmas.Bool.Decides.{nat_tests}
 use Rattle.org_disk.proofs.Names.{same_name}
 use Rattle.org_splice.specs.Replaced.{replaced}
+use Rattle.org_outline.specs.declared.steps.Step.{Step}
 use Rattle.org_outline.specs.declared.moves.Place.{Place}
 use Rattle.org_outline.specs.declared.paths.PathFault.{PathFault}
 use Rattle.org_outline.specs.Paths.{find_path}
@@ -110,7 +111,7 @@ across_changes : (s : Session) (name to_file : List ℕ) (said : Result Moved Mo
 across_changes s name to_file (Err why) own to_own = inr (λ touched files accepts. absurd (cc))
 across_changes s name to_file (Ok new) own to_own = changes_across s name to_file new own to_own
 
-refile_changes : (s : Session) (name : List ℕ) (path : List (List ℕ)) (to_file : List ℕ) (to : List (List ℕ)) (place : Place) (old into : Option (List ℕ)) → text_at s.names s.files name ≡ old → text_at s.names s.files to_file ≡ into
+refile_changes : (s : Session) (name : List ℕ) (path : List Step) (to_file : List ℕ) (to : List Step) (place : Place) (old into : Option (List ℕ)) → text_at s.names s.files name ≡ old → text_at s.names s.files to_file ≡ into
     → IsChanging s (refile s name path to_file to place old into)
 refile_changes s name path to_file to place None into is to_is = inr (λ touched files accepts. absurd (cc))
 refile_changes s name path to_file to place (Some text) None is to_is = inr (λ touched files accepts. absurd (cc))
@@ -126,11 +127,11 @@ state_changes s name (Err why) own = inr (λ touched files accepts. absurd (cc))
 state_changes s name (Ok None) own = inl ([], tt, refl)
 state_changes s name (Ok (Some new)) own = changes_one s name (print new) own
 
-todo_changes : (s : Session) (name : List ℕ) (path : List (List ℕ)) (state : List ℕ) (moment : Moment) (old : Option (List ℕ)) → text_at s.names s.files name ≡ old → IsChanging s (todo s name path state moment old)
+todo_changes : (s : Session) (name : List ℕ) (path : List Step) (state : List ℕ) (moment : Moment) (old : Option (List ℕ)) → text_at s.names s.files name ≡ old → IsChanging s (todo s name path state moment old)
 todo_changes s name path state moment None is = inr (λ touched files accepts. absurd (cc))
 todo_changes s name path state moment (Some text) is = state_changes s name (in_state s.states path state moment (tree text)) (text_named s.names s.files name text is)
 
-archive_to_changes : (s : Session) (name : List ℕ) (path : List (List ℕ)) (moment : Moment) (text : List ℕ) (to : Destination) (into : Option (List ℕ)) → is_name s.names name ≡ true → text_at s.names s.files to.file ≡ into
+archive_to_changes : (s : Session) (name : List ℕ) (path : List Step) (moment : Moment) (text : List ℕ) (to : Destination) (into : Option (List ℕ)) → is_name s.names name ≡ true → text_at s.names s.files to.file ≡ into
     → IsChanging s (archive_to s name path moment text to into)
 archive_to_changes s name path moment text to None own is = inr (λ touched files accepts. absurd (cc))
 archive_to_changes s name path moment text to (Some target) own is = elim (cases_Bool (bytes_eq name to.file)) [
@@ -138,11 +139,11 @@ archive_to_changes s name path moment text to (Some target) own is = elim (cases
   | inr f ↦ rw f (across_changes s name to.file (archive_across s.states name path moment (tree text) s.states to (tree target)) own (text_named s.names s.files to.file target is))
 ]
 
-archive_at_changes : (s : Session) (name : List ℕ) (path : List (List ℕ)) (moment : Moment) (text : List ℕ) (to : Result Destination MoveFault) → is_name s.names name ≡ true → IsChanging s (archive_at s name path moment text to)
+archive_at_changes : (s : Session) (name : List ℕ) (path : List Step) (moment : Moment) (text : List ℕ) (to : Result Destination MoveFault) → is_name s.names name ≡ true → IsChanging s (archive_at s name path moment text to)
 archive_at_changes s name path moment text (Err why) own = inr (λ touched files accepts. absurd (cc))
 archive_at_changes s name path moment text (Ok to) own = archive_to_changes s name path moment text to (text_at s.names s.files to.file) own refl
 
-archive_changes : (s : Session) (name : List ℕ) (path : List (List ℕ)) (moment : Moment) (old : Option (List ℕ)) → text_at s.names s.files name ≡ old → IsChanging s (archive s name path moment old)
+archive_changes : (s : Session) (name : List ℕ) (path : List Step) (moment : Moment) (old : Option (List ℕ)) → text_at s.names s.files name ≡ old → IsChanging s (archive s name path moment old)
 archive_changes s name path moment None is = inr (λ touched files accepts. absurd (cc))
 archive_changes s name path moment (Some text) is = archive_at_changes s name path moment text (location s.states name path text) (text_named s.names s.files name text is)
 
@@ -158,7 +159,7 @@ clock_in_beside_changes s name moment d found (Some clock) own is = elim (cases_
   | inr f ↦ rw f (clock_moved_changes s clock.0 name (clock_moved moment clock.1 (tree (unwrap_or (text_at s.names s.files clock.0) [])) d found) (clock_named s.names s.files clock is) own)
 ]
 
-clock_in_changes : (s : Session) (name : List ℕ) (path : List (List ℕ)) (moment : Moment) (old : Option (List ℕ)) → text_at s.names s.files name ≡ old → IsChanging s (clock_in s name path moment old)
+clock_in_changes : (s : Session) (name : List ℕ) (path : List Step) (moment : Moment) (old : Option (List ℕ)) → text_at s.names s.files name ≡ old → IsChanging s (clock_in s name path moment old)
 clock_in_changes s name path moment None is = inr (λ touched files accepts. absurd (cc))
 clock_in_changes s name path moment (Some text) is =
     clock_in_beside_changes s name moment (tree text) (find_path s.states (tree text) path) (running_over s.names s.files) (text_named s.names s.files name text is) refl
@@ -183,7 +184,7 @@ minutes_none : (said : Result ℕ PathFault) → IsUnaccepted (with_minutes said
 minutes_none (Ok minutes) touched files accepts = absurd (cc)
 minutes_none (Err why) touched files accepts = absurd (cc)
 
-time_none : (s : Session) (path : List (List ℕ)) (old : Option (List ℕ)) → IsUnaccepted (time s path old)
+time_none : (s : Session) (path : List Step) (old : Option (List ℕ)) → IsUnaccepted (time s path old)
 time_none s path None touched files accepts = absurd (cc)
 time_none s path (Some text) touched files accepts = minutes_none (clocked_at s.states path (tree text)) touched files accepts
 

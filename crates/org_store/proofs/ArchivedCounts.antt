@@ -5,6 +5,7 @@ use Rattle.std.specs.List.{IsDistinct, sum_by}
 use Rattle.std.specs.Str.{bytes_eq}
 use Rattle.org_disk.specs.Names.{IsDiskName}
 use Rattle.org_disk.proofs.Names.{name_cases}
+use Rattle.org_outline.specs.declared.steps.Step.{Step}
 use Rattle.org_splice.specs.Lines.{IsLine}
 use Rattle.org_stamp.specs.Calendar.{Moment}
 use Rattle.org_outline.specs.declared.paths.PathFault.{PathFault}
@@ -32,7 +33,7 @@ heading_at : {A : Type 0} (said : Result (Option ℕ) PathFault) (make : Option 
 heading_at (Ok up) make x is = (up, refl)
 heading_at (Err fault) make x is = absurd cc
 
-module _ (s : Session) (apart : IsDistinct bytes_eq s.names) (each : length s.files ≡ length s.names) (file : List ℕ) (named : IsDiskName file) (path : List (List ℕ)) (now : Moment) where
+module _ (s : Session) (apart : IsDistinct bytes_eq s.names) (each : length s.files ≡ length s.names) (file : List ℕ) (named : IsDiskName file) (path : List Step) (now : Moment) where
   line : IsLine file
   line = name_line file named
 

@@ -11,6 +11,7 @@ use Rattle.std.proofs.lemmas.List.Sums.{sum_by-append}
 use Rattle.std.proofs.lemmas.Option.{slice_get_within}
 use Rattle.org_disk.specs.Names.{IsDiskName}
 use Rattle.org_stamp.specs.Calendar.{Moment}
+use Rattle.org_outline.specs.declared.steps.Step.{Step}
 use Rattle.org_outline.specs.Tree.{Node, node_at, tree}
 use Rattle.org_move.specs.Archive.{archived_section}
 use Rattle.org_move.specs.Counts.{count_over, made_count, one_of}
@@ -44,7 +45,7 @@ made_few : (to : Destination) (up : Option ℕ) → length (lines_made to up) �
 made_few to (Some up) = omega arith
 made_few to None = elim (cases_Bool (to.level == 0)) [ inl e ↦ rw e (omega arith) | inr e ↦ rw e (omega arith) ]
 
-archived_changes : (s : Session) (file : List ℕ) (path : List (List ℕ)) (now : Moment) (files : List (List ℕ)) → ArchivesOne s file path now files → HaveNodesButFew 1 files s.files
+archived_changes : (s : Session) (file : List ℕ) (path : List Step) (now : Moment) (files : List (List ℕ)) → ArchivesOne s file path now files → HaveNodesButFew 1 files s.files
 archived_changes s file path now files a =
     let own : Node = (node_at (tree a.text) a.entry).node in
     let root : NewSection = record { rest = own.rest; old = own.section; new = archived_section s.states file now (tree a.text) a.entry } in

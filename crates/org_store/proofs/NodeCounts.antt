@@ -6,6 +6,7 @@ use Rattle.std.proofs.lemmas.Bool.{false≢true}
 use Rattle.std.proofs.lemmas.Map.Keys.{IsDistinct-head, IsDistinct-tail}
 use Rattle.std.proofs.lemmas.List.Sums.{sum_by-cons}
 use Rattle.org_disk.proofs.Names.{name_cases, same_name}
+use Rattle.org_outline.specs.declared.steps.Step.{Step}
 use Rattle.org_outline.specs.declared.moves.Place.{Place}
 use Rattle.org_outline.specs.Tree.{Document, IsValid, print, tree}
 use Rattle.org_outline.proofs.Trees.{tree-is}
@@ -96,7 +97,7 @@ module _ (s : Session) (apart : IsDistinct bytes_eq s.names) (each : length s.fi
   pub again : (d : Document) → IsValid d → weight (print d) ≡ count_in rest section d
   again d valid = ap (count_in rest section) (tree-print d valid)
 
-  within_keeps : (file : List ℕ) (path to : List (List ℕ)) (place : Place) (text : List ℕ) {touched : List (List ℕ)} (files : List (List ℕ)) (said : Result Document MoveFault) → text_at s.names s.files file ≡ Some text
+  within_keeps : (file : List ℕ) (path to : List Step) (place : Place) (text : List ℕ) {touched : List (List ℕ)} (files : List (List ℕ)) (said : Result Document MoveFault) → text_at s.names s.files file ≡ Some text
       → refile_within s.states path to place (tree text) ≡ said → with_moved s (text_within file) said ≡ Accepts touched files → count_over rest section files ≡ count_over rest section s.files
   within_keeps file path to place text files (Err why) at is accepts = absurd (cc)
   within_keeps file path to place text files (Ok new) at is accepts =
@@ -109,7 +110,7 @@ module _ (s : Session) (apart : IsDistinct bytes_eq s.names) (each : length s.fi
         within_counts s.states path to place (tree text) new is rest section,
       )
 
-  across_keeps : (file : List ℕ) (path : List (List ℕ)) (to_file : List ℕ) (to : List (List ℕ)) (place : Place) (text target : List ℕ) {touched : List (List ℕ)} (files : List (List ℕ)) (said : Result Moved MoveFault) → file ≢ to_file
+  across_keeps : (file : List ℕ) (path : List Step) (to_file : List ℕ) (to : List Step) (place : Place) (text target : List ℕ) {touched : List (List ℕ)} (files : List (List ℕ)) (said : Result Moved MoveFault) → file ≢ to_file
       → text_at s.names s.files file ≡ Some text → text_at s.names s.files to_file ≡ Some target → refile_across s.states path (tree text) s.states to (tree target) place ≡ said
       → with_moved s (texts_across file to_file) said ≡ Accepts touched files → count_over rest section files ≡ count_over rest section s.files
   across_keeps file path to_file to place text target files (Err why) different at there is accepts = absurd (cc)
@@ -127,7 +128,7 @@ module _ (s : Session) (apart : IsDistinct bytes_eq s.names) (each : length s.fi
         across_counts s.states s.states path to place (tree text) (tree target) new is rest section,
       )
 
-  pub refile_keeps : (file : List ℕ) (path : List (List ℕ)) (to_file : List ℕ) (to : List (List ℕ)) (place : Place) (old into : Option (List ℕ)) {touched : List (List ℕ)} (files : List (List ℕ)) → text_at s.names s.files file ≡ old
+  pub refile_keeps : (file : List ℕ) (path : List Step) (to_file : List ℕ) (to : List Step) (place : Place) (old into : Option (List ℕ)) {touched : List (List ℕ)} (files : List (List ℕ)) → text_at s.names s.files file ≡ old
       → text_at s.names s.files to_file ≡ into → refile s file path to_file to place old into ≡ Accepts touched files → count_over rest section files ≡ count_over rest section s.files
   refile_keeps file path to_file to place None into files at there accepts = absurd (cc)
   refile_keeps file path to_file to place (Some text) None files at there accepts = absurd (cc)

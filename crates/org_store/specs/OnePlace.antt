@@ -3,6 +3,7 @@ use Rattle.std.specs.Prelude.{◌≡◌, ◌⊎◌, ℕ, ◌+◌, ◌≤◌, Lis
 use Rattle.std.specs.List.{All, sum_by}
 use Rattle.org_disk.specs.Names.{IsDiskName, IsOrgFile}
 use Rattle.org_stamp.specs.Calendar.{Moment}
+use Rattle.org_outline.specs.declared.steps.Step.{Step}
 use Rattle.org_outline.specs.Paths.{find_path}
 use Rattle.org_outline.specs.Tree.{node_at, tree}
 use Rattle.org_journal.specs.Recovered.{Image, recovered}
@@ -72,7 +73,7 @@ MayRefile call = Unit {0}
 
 -- These texts of all files have one entry archived, the one at a path of a session's file, and each
 -- other node as often (Org manual, "Moving a tree to an archive file").
-pub record ArchivesOne (s : Session) (file : List ℕ) (path : List (List ℕ)) (now : Moment)
+pub record ArchivesOne (s : Session) (file : List ℕ) (path : List Step) (now : Moment)
     (files : List (List ℕ)) : Type 0 where
   -- the entry: the heading at the path, by its number in the text of its file
   pub text : List ℕ

@@ -3,7 +3,7 @@
 ghost use Rattle.std.specs.Prelude.{[], ◌∷◌};
 ghost use Rattle.org_splice.specs.Edits.{AreEdits};
 
-use org_outline::{States, Titles, is_terminated};
+use org_outline::{Path, States, Step, is_terminated};
 use org_splice::{Bytes, Edit, Editing, Patch};
 use org_stamp::Moment;
 use std::alloc::Global;
@@ -19,14 +19,18 @@ pub fn now(rt: &impl Abort) -> Moment {
     Moment::new(2026, 7, 1, 10, 0).expect(rt, "a moment")
 }
 
-/// The titles of a path.
-pub fn titles(rt: &impl Abort, alloc: Global, path: &[&str]) -> Titles {
-    let mut titles = Vec::new(alloc);
+/// The path of these titles, each without a number.
+pub fn titles(rt: &impl Abort, alloc: Global, path: &[&str]) -> Path {
+    let mut steps = Vec::new(alloc);
     for title in path {
-        let title = title.as_bytes().to_vec(alloc).expect(rt, "memory");
-        titles.push(title).expect(rt, "memory");
+        let title = Bytes::new(title.as_bytes().to_vec(alloc).expect(rt, "memory"));
+        let step = Step {
+            title,
+            number: None,
+        };
+        steps.push(step).expect(rt, "memory");
     }
-    Titles::new(titles)
+    Path::new(steps)
 }
 
 /// A place, how many bytes are removed there, and the bytes that take their place.

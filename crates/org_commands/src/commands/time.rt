@@ -14,7 +14,7 @@ use crate::commands::outline::outline_of;
 use crate::executor::Executor;
 use crate::files::Files;
 use org_disk::{Disk, FileName};
-use org_outline::{States, Titles};
+use org_outline::{Path, States};
 use org_state::clocked;
 
 /// The minutes clocked at a heading, and below it, of one of the files. What was done to its text
@@ -23,7 +23,7 @@ fn clocked_in_file<D: Disk>(
     files: &mut Files<D>,
     states: &States,
     file: &FileName,
-    path: &Titles,
+    path: &Path,
 ) -> Result<u64, RunFault>
     requires name { is_name files.old.names file.now ≡ true }
     requires between { AreReadyForCommand files.old }
@@ -42,7 +42,7 @@ impl<D: Disk> Executor<D> {
     /// the store's; then `NotFound` or `NotUnique` of the path. `Device`, which leaves the files
     /// broken, comes only where reading the file failed, and `OutOfMemory` where memory ran out.
     /// All texts stay as they are.
-    pub(crate) fn time(&mut self, file: &FileName, path: &Titles) -> Result<Reply, RunFault>
+    pub(crate) fn time(&mut self, file: &FileName, path: &Path) -> Result<Reply, RunFault>
         requires between { AreReadyForCommand self.old.files }
         ensures { AnswersQuestion D.Disk self.old (Command.Time file.now path.now) result
             self.new }

@@ -1,8 +1,8 @@
 //! Crashes of the disk, and what opening it again finds: the files are as after none of a step's
 //! lines, or after the first, and so on.
 use super::steps::{
-    ACROSS, ARCHIVE_WITHIN, BACK, CAPTURES, CLOCK_ELSEWHERE, CLOCK_OUT, EDITED, IN_AND_OUT,
-    LINE_MOVED, REFILE_WITHIN, REPEATED, Step, THERE_AND_BACK, TO_A_DAY, TO_A_HEAD,
+    ACROSS, ARCHIVE_WITHIN, BACK, BETWEEN_TWINS, CAPTURES, CLOCK_ELSEWHERE, CLOCK_OUT, EDITED,
+    IN_AND_OUT, LINE_MOVED, REFILE_WITHIN, REPEATED, Step, THERE_AND_BACK, TO_A_DAY, TO_A_HEAD,
     TO_ANOTHER_FILE, TO_THE_ARCHIVE, TWO_ARCHIVES, all_of, count_of, files, may_be_done, safe_in,
 };
 use super::{Ended, calls, disk_of, run, served};
@@ -116,7 +116,14 @@ fn captures_crashed(rt: HostRuntime) {
     }
 }
 
-const MOVED: &[&Step] = &[ACROSS, BACK, REFILE_WITHIN, TO_A_HEAD, TO_A_DAY];
+const MOVED: &[&Step] = &[
+    ACROSS,
+    BACK,
+    BETWEEN_TWINS,
+    REFILE_WITHIN,
+    TO_A_HEAD,
+    TO_A_DAY,
+];
 
 #[test]
 fn moves_crashed(rt: HostRuntime) {

@@ -104,6 +104,18 @@ pub const REFILE_WITHIN: &Step = &Step {
     ],
 };
 
+// Of headings with one title, by their numbers.
+pub const BETWEEN_TWINS: &Step = &Step {
+    a: "* A\n* A\nx\n",
+    b: "* T\n* T\n",
+    lines: "refile\ta.org\tA\\#2\tb.org\tT\\#2\tlast\n",
+    shows: BOTH,
+    shown: &[
+        "text 10\n* A\n* A\nx\n\ntext 8\n* T\n* T\n\n",
+        "text 4\n* A\n\ntext 15\n* T\n* T\n** A\nx\n\n",
+    ],
+};
+
 // There and back again, in one group: the target keeps the newline that it got.
 pub const THERE_AND_BACK: &Step = &Step {
     a: "* A\n** B\nb\n",

@@ -3,14 +3,15 @@ use crate::shared::must;
 use org_capture::Target;
 use org_disk::{FileName, MemoryDisk};
 use org_fixtures::file_name;
-use org_outline::{Place, Titles};
+use org_outline::{Path, Place, Step};
+use org_splice::Bytes;
 use org_stamp::Moment;
 use org_store::{Capture, Command, Refile, Reply, RunFault, Store, TextOf, Todo};
 use std::process::Abort;
 
-// A path is that of one heading of this title, or for an empty one that of no titles, which no line
-// can name.
-type Path = &'static str;
+// A path of one step without a number, that of a heading of this title; or for an empty one that of
+// no steps, which no line can name.
+type Title = &'static str;
 
 // A command.
 #[derive(Clone, Copy)]
@@ -18,11 +19,11 @@ pub enum Ask {
     // the file, and the template of what is captured at its end
     Capture(&'static str, &'static str),
     // the template of what is captured into a.org below the heading at a path
-    CaptureBelow(Path, &'static str),
+    CaptureBelow(Title, &'static str),
     // the path in a.org, the file that its subtree goes to, and the path there
-    Refile(Path, &'static str, Path),
+    Refile(Title, &'static str, Title),
     // the path in a.org of what turns DONE
-    Todo(Path),
+    Todo(Title),
     Show(&'static str),
     Settle,
 }
@@ -45,13 +46,17 @@ fn now(rt: &impl Abort) -> Moment {
     Moment::new(2026, 7, 1, 10, 0).expect(rt, "a moment")
 }
 
-fn path(rt: &(impl Abort + AllocGlobal), title: &str) -> Titles {
-    let mut path = Vec::new(rt.alloc());
+fn path(rt: &(impl Abort + AllocGlobal), title: &str) -> Path {
+    let mut steps = Vec::new(rt.alloc());
     if !title.is_empty() {
-        let title = title.as_bytes().to_vec(rt.alloc()).expect(rt, "memory");
-        path.push(title).expect(rt, "memory");
+        let title = Bytes::new(title.as_bytes().to_vec(rt.alloc()).expect(rt, "memory"));
+        let step = Step {
+            title,
+            number: None,
+        };
+        steps.push(step).expect(rt, "memory");
     }
-    Titles::new(path)
+    Path::new(steps)
 }
 
 fn capture<'a>(

@@ -3,7 +3,6 @@ use Rattle.std.specs.Prelude.{IsErrAnd, Result}
 use Rattle.std.proofs.lemmas.Result.{err_from_is_err_and}
 use Rattle.org_splice.specs.Edits.{AreEdits}
 use Rattle.org_splice.specs.declared.edit.Edit.{Edit}
-use Rattle.org_outline.specs.Paths.{titles_of}
 use Rattle.org_outline.specs.Tree.{Document, Node, print, print_node, tree}
 use Rattle.org_move.specs.declared.fault.MoveFault.{MoveFault}
 use Rattle.org_move.specs.Answers.{Gives}
@@ -21,17 +20,17 @@ pub returns-in_err-up : goal.returns-in_err-up
 returns-in_err-up c =
     let outline = c.args.outline.now in
     let Fits : Document → List Edit → Type 0 = λ new edits. AreEdits edits outline.text (print new) in
-    let said = archive_within outline.states c.args.name.now (titles_of c.args.path.now) c.args.now c.args.to.now (tree outline.text) in
+    let said = archive_within outline.states c.args.name.now c.args.path.now c.args.now c.args.to.now (tree outline.text) in
     handed said Fits _ c.from_residual-in_err-up.result c.from_residual-in_err-up.ensures.1 (λ fault is. subst (λ (f : MoveFault). Gives said Fits (Err f)) (sym is)
-    (not_apart outline.states c.args.name.now (titles_of c.args.path.now) c.args.now c.args.to.now (tree outline.text) Fits _ _ _ c.in_ok-target_heading.field-0 c.in_err-up.field-0.0
+    (not_apart outline.states c.args.name.now c.args.path.now c.args.now c.args.to.now (tree outline.text) Fits _ _ _ c.in_ok-target_heading.field-0 c.in_err-up.field-0.0
     c.find.ensures.value c.in_ok-node.was c.target_heading.ensures.value c.in_ok-target_heading.was c.in_err-up.ensures.value))
 
 pub returns-in_err-lines : goal.returns-in_err-lines
 returns-in_err-lines c =
     let outline = c.args.outline.now in
     let Fits : Document → List Edit → Type 0 = λ new edits. AreEdits edits outline.text (print new) in
-    let said = archive_within outline.states c.args.name.now (titles_of c.args.path.now) c.args.now c.args.to.now (tree outline.text) in
-    handed said Fits _ c.from_residual-in_err-lines.result c.from_residual-in_err-lines.ensures.1 (λ fault is. starved outline.states c.args.name.now (titles_of c.args.path.now) c.args.now c.args.to.now (tree outline.text) Fits _ _ _
+    let said = archive_within outline.states c.args.name.now c.args.path.now c.args.now c.args.to.now (tree outline.text) in
+    handed said Fits _ c.from_residual-in_err-lines.result c.from_residual-in_err-lines.ensures.1 (λ fault is. starved outline.states c.args.name.now c.args.path.now c.args.now c.args.to.now (tree outline.text) Fits _ _ _
     c.in_ok-target_heading.field-0 c.in_ok-up.up fault c.find.ensures.value c.in_ok-node.was c.target_heading.ensures.value c.in_ok-target_heading.was c.in_ok-up.ensures.value is)
 
 pub returns : goal.returns

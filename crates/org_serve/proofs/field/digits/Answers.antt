@@ -3,23 +3,26 @@ use Rattle.std.specs.Prelude.{◌==◌, nat_le, if◌then◌else◌}
 use Rattle.std.specs.List.{list_all}
 use Rattle.std.specs.Char.{is_ascii_digit}
 use Rattle.std.proofs.Math.Nat.{pow-succ'}
+use Rattle.std.proofs.lemmas.Bool.Decides.{nat_tests}
 use Rattle.std.proofs.lemmas.List.{take_all}
 use Rattle.std.proofs.lemmas.List.Sums.{fold_more}
 use Rattle.std.proofs.lemmas.List.Folds.{list_all_more, list_all_at}
 use Rattle.org_serve.specs.Grammar.{digits_of}
 use Rattle.org_serve.proofs.field.digits.Goals as goal
-use Rattle.org_serve.proofs.field.digits.Goals.{then-is_empty-via-then-is_empty, then-is_empty-via-else-is_empty+then-field-gt8}
+use Rattle.org_serve.proofs.field.digits.Goals.{then-is_empty-via-then-is_empty, then-is_empty-via-else-is_empty+then-field-most}
 
-below_seven : (i : ℕ) → i ≤ 7 → 10 ^ i ≤ 10000000
-below_seven zero le = omega arith
-below_seven (suc zero) le = omega arith
-below_seven (suc (suc zero)) le = omega arith
-below_seven (suc (suc (suc zero))) le = omega arith
-below_seven (suc (suc (suc (suc zero)))) le = omega arith
-below_seven (suc (suc (suc (suc (suc zero))))) le = omega arith
-below_seven (suc (suc (suc (suc (suc (suc zero)))))) le = omega arith
-below_seven (suc (suc (suc (suc (suc (suc (suc zero))))))) le = omega arith
-below_seven (suc (suc (suc (suc (suc (suc (suc (suc i)))))))) le = absurd (omega (arith, le))
+below_nine : (i : ℕ) → i ≤ 9 → 10 ^ i ≤ 1000000000
+below_nine zero le = omega arith
+below_nine (suc zero) le = omega arith
+below_nine (suc (suc zero)) le = omega arith
+below_nine (suc (suc (suc zero))) le = omega arith
+below_nine (suc (suc (suc (suc zero)))) le = omega arith
+below_nine (suc (suc (suc (suc (suc zero))))) le = omega arith
+below_nine (suc (suc (suc (suc (suc (suc zero)))))) le = omega arith
+below_nine (suc (suc (suc (suc (suc (suc (suc zero))))))) le = omega arith
+below_nine (suc (suc (suc (suc (suc (suc (suc (suc zero)))))))) le = omega arith
+below_nine (suc (suc (suc (suc (suc (suc (suc (suc (suc zero))))))))) le = omega arith
+below_nine (suc (suc (suc (suc (suc (suc (suc (suc (suc (suc i)))))))))) le = absurd (omega (arith, le))
 
 abbrev more : ℕ → ℕ → ℕ
 more n b = 10 * n + (b - 48)
@@ -39,23 +42,23 @@ other_none true true n = refl
 other_none true false n = refl
 other_none false few n = refl
 
-no_number : (text : List ℕ) → length text ≡ 0 → None ≡ digits_of text
-no_number text none = let e : nat_le 1 (length text) ≡ false = grind arith in rw e refl
+no_number : (most : ℕ) (text : List ℕ) → length text ≡ 0 → None ≡ digits_of most text
+no_number most text none = let e : nat_le 1 (length text) ≡ false = grind arith in rw e refl
 
-long_number : (text : List ℕ) → 8 < length text → None ≡ digits_of text
-long_number text long =
-    let e : nat_le (length text) 8 ≡ false = grind arith in
+long_number : (most : ℕ) (text : List ℕ) → most < length text → None ≡ digits_of most text
+long_number most text long =
+    let e : nat_le (length text) most ≡ false = grind (arith, nat_tests) in
     long_none (nat_le 1 (length text)) (list_all is_ascii_digit text) (fold more 0 text) ∙ ap (λ b. if_all (nat_le 1 (length text)) b (list_all is_ascii_digit text) (fold more 0 text)) (sym e)
 
-odd_number : (text : List ℕ) → list_all is_ascii_digit text ≡ false → None ≡ digits_of text
-odd_number text odd =
-    other_none (nat_le 1 (length text)) (nat_le (length text) 8) (fold more 0 text) ∙ ap (λ b. if_all (nat_le 1 (length text)) (nat_le (length text) 8) b (fold more 0 text)) (sym odd)
+odd_number : (most : ℕ) (text : List ℕ) → list_all is_ascii_digit text ≡ false → None ≡ digits_of most text
+odd_number most text odd =
+    other_none (nat_le 1 (length text)) (nat_le (length text) most) (fold more 0 text) ∙ ap (λ b. if_all (nat_le 1 (length text)) (nat_le (length text) most) b (fold more 0 text)) (sym odd)
 
-number_is : (text : List ℕ) (n : ℕ) → 0 < length text → length text ≤ 8 → n ≡ fold more 0 text → list_all is_ascii_digit text ≡ true → Some n ≡ digits_of text
-number_is text n some few is digits =
+number_is : (most : ℕ) (text : List ℕ) (n : ℕ) → 0 < length text → length text ≤ most → n ≡ fold more 0 text → list_all is_ascii_digit text ≡ true → Some n ≡ digits_of most text
+number_is most text n some few is digits =
     let one : nat_le 1 (length text) ≡ true = grind arith in
-    let eight : nat_le (length text) 8 ≡ true = grind arith in
-    rw (one, eight, digits) (ap (λ n. Some n) is)
+    let fits : nat_le (length text) most ≡ true = grind arith in
+    rw (one, fits, digits) (ap (λ n. Some n) is)
 
 some_bytes : (n : ℕ) → (n == 0) ≡ false → 0 < n
 some_bytes n some = grind arith
@@ -75,21 +78,21 @@ both_true : (a b : Bool) → a ≡ true → b ≡ true → (a && b) ≡ true
 both_true a b one other = rw (one, other) refl
 
 pub overflow_mul-number : goal.overflow_mul-number
-overflow_mul-number c = omega (arith, below_seven c.loop-b.b-index (omega arith), c.loop-b.invariant.bound)
+overflow_mul-number c = omega (arith, below_nine c.loop-b.b-index (omega (arith, c.requires)), c.loop-b.invariant.bound)
 
 pub overflow_add-number : goal.overflow_add-number
-overflow_add-number c = omega (arith, below_seven c.loop-b.b-index (omega arith), c.loop-b.invariant.bound)
+overflow_add-number c = omega (arith, below_nine c.loop-b.b-index (omega (arith, c.requires)), c.loop-b.invariant.bound)
 
-pub returns-then-is_empty : goal.returns-then-is_empty
-returns-then-is_empty c =
+pub returns-then-is_empty-clause-value : goal.returns-then-is_empty-clause-value
+returns-then-is_empty-clause-value c =
     elim c.then-is_empty.branch [
-      | then-is_empty-via-then-is_empty w ↦ no_number c.args.field.now (no_bytes _ (sym c.is_empty.ensures ∙ w.if-is_empty.true))
-      | then-is_empty-via-else-is_empty+then-field-gt8 w ↦ long_number c.args.field.now w.if-field-gt8.true
+      | then-is_empty-via-then-is_empty w ↦ no_number c.args.most c.args.field.now (no_bytes _ (sym c.is_empty.ensures ∙ w.if-is_empty.true))
+      | then-is_empty-via-else-is_empty+then-field-most w ↦ long_number c.args.most c.args.field.now w.if-field-most.true
     ]
 
-pub returns-then-not-is_ascii_digit : goal.returns-then-not-is_ascii_digit
-returns-then-not-is_ascii_digit c =
-    odd_number c.args.field.now (list_all_at is_ascii_digit c.args.field.now c.loop-b.b-index 0 c.loop-b-test.true (sym c.is_ascii_digit.ensures.value ∙ c.if-not-is_ascii_digit.true))
+pub returns-then-not-is_ascii_digit-clause-value : goal.returns-then-not-is_ascii_digit-clause-value
+returns-then-not-is_ascii_digit-clause-value c =
+    odd_number c.args.most c.args.field.now (list_all_at is_ascii_digit c.args.field.now c.loop-b.b-index 0 c.loop-b-test.true (sym c.is_ascii_digit.ensures.value ∙ c.if-not-is_ascii_digit.true))
 
 pub loop-b-preserved : goal.loop-b-preserved
 loop-b-preserved c =
@@ -99,12 +102,19 @@ loop-b-preserved c =
     record {
       value = ap (λ d. 10 * c.loop-b.number + d) c.from.ensures ∙ ap (λ n. more n (get_or text i 0)) c.loop-b.invariant.value ∙ sym (fold_more more 0 text i 0 c.loop-b-test.true);
       bound = more_below i c.loop-b.number c.from.result (get_or text i 0) c.loop-b.invariant.bound c.from.ensures digit;
+      within = omega (arith, c.loop-b-test.true);
       digits = list_all_more is_ascii_digit text i 0 c.loop-b-test.true ∙ both_true _ _ c.loop-b.invariant.digits digit;
     }
 
-pub returns : goal.returns
-returns c =
+pub returns-clause-value : goal.returns-clause-value
+returns-clause-value c =
     let text = c.args.field.now in
     let all = take_all c.loop-b.b-index text c.loop-b-test.false in
-    number_is text c.loop-b.number (some_bytes _ (sym c.is_empty.ensures ∙ c.if-is_empty.false)) c.if-field-gt8.false (c.loop-b.invariant.value ∙ ap (fold more 0) all)
+    number_is c.args.most text c.loop-b.number (some_bytes _ (sym c.is_empty.ensures ∙ c.if-is_empty.false)) c.if-field-most.false (c.loop-b.invariant.value ∙ ap (fold more 0) all)
     (sym (ap (list_all is_ascii_digit) all) ∙ c.loop-b.invariant.digits)
+
+pub returns-clause-within : goal.returns-clause-within
+returns-clause-within c =
+    let bound = c.loop-b.invariant.bound in
+    let within = c.loop-b.invariant.within in
+    omega (arith, bound, below_nine c.loop-b.b-index (omega (arith, within, c.requires, c.if-field-most.false)))
