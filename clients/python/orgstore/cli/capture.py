@@ -14,7 +14,6 @@ from ..heading import headings
 from ..lines import Order
 from ..names import is_file_name, own_name
 from ..section import BLANKS
-from ..stamp import stamp
 from ..store import Store
 from ..targets import Date, Head, Target, Top, Under
 from .entries import Entry, named, names_file
@@ -29,7 +28,7 @@ CAPTURE_OPTIONS = (
     option("--todo", metavar="STATE", help="its state"),
     option("--priority", metavar="A", help="its priority, a letter or digit"),
     option("--tag", action="append", default=[], metavar="TAG", help="a tag; may be given again"),
-    option("--scheduled", metavar="DATE", help="2026-07-03, '2026-07-03 10:00 +1w', today, tomorrow, +3d"),
+    option("--scheduled", metavar="DATE", help="friday, +2w, 'sep 15 10:00', '2026-07-03 9:00-11:00 +1w'"),
     option("--deadline", metavar="DATE", help="likewise"),
     option("--head", metavar="TITLE", help="below the one heading of this title, made where there is none"),
     option("--under", metavar="HEADING", help="below a heading that is there"),
@@ -85,8 +84,10 @@ def entry_text(run: Run, title: str, body: bytes) -> bytes:
 
 def stamp_of(option: str, text: str, run: Run) -> str:
     """The stamp that an option gives."""
+    from ..dates import read_stamp  # rarely needed, and slow to load
+
     try:
-        return stamp(text, run.moment)
+        return str(read_stamp(text, run.moment))
     except ValueError as fault:
         raise Usage("%s %s" % (option, fault)) from None
 

@@ -12,7 +12,7 @@ from ..heading import States, headings
 from ..lines import Order
 from ..outline import Outline
 from ..section import CLOSED, planning
-from ..stamp import moved
+from ..stamps import moved
 from ..store import Store
 from .bulk import Plan, Step, bulk
 from .entries import Ambiguous, Entry, Place, choose

@@ -37,7 +37,8 @@ def flag(*names: str, help: str) -> Callable[[argparse.ArgumentParser], object]:
 
 
 FILE_OPTION = option("-f", "--file", metavar="FILE", help="the file; then every word is a heading or a title")
-AT_OPTION = option("--at", metavar="MOMENT", help="the moment, as '2026-07-01 10:00'; else now")
+AT_OPTION = option("--at", metavar="MOMENT",
+                   help="the moment: 10:00, 'yesterday 17:00', -10m, '2026-07-01 10:00'; else now")
 BULK_OPTIONS = (flag("-n", "--dry-run", help="only say what would be done"),
                 flag("-y", "--yes", help="don't ask at a terminal"))
 NAMING = ("HEADING is a path (Work/Pay rent), a part of a title that only one heading has (rent), FILE:LINE, or a line "

@@ -27,12 +27,15 @@ Result = TypeVar("Result")
 
 def moment_of(text: Optional[str]) -> datetime.datetime:
     """--at, else this minute."""
+    now = datetime.datetime.now().replace(second=0, microsecond=0)
     if text is None:
-        return datetime.datetime.now().replace(second=0, microsecond=0)
+        return now
+    from ..dates import read_moment  # rarely needed, and slow to load
+
     try:
-        return datetime.datetime.strptime(text, "%Y-%m-%d %H:%M")
-    except ValueError:
-        raise Usage("--at '%s' is no moment: write '2026-07-01 10:00'" % text) from None
+        return read_moment(text, now)
+    except ValueError as fault:
+        raise Usage("--at: %s" % fault) from None
 
 
 def hours(span: datetime.timedelta) -> str:
