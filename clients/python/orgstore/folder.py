@@ -11,7 +11,7 @@ from .heading import States
 from .journal import gate_is_open, holder
 from .marks import look_at_journal
 from .names import ARCHIVE, is_archive, is_file_name
-from .outline import Outline
+from .outline import Outline, states_of
 from .store import Store
 
 # A closed gate before and after, and the same journal: no commit was under way while the files were read.
@@ -54,6 +54,10 @@ class Folder:
         """The outline of a file, or of these bytes in its place."""
         return Outline(file, self.read(file) if text is None else text, self.states)
 
+    def states_of(self, file: str) -> States:
+        """The states of a file: its own, else the folder's."""
+        return states_of(self.read(file), self.states)
+
     def snapshot(self, names: Iterable[str]) -> Dict[str, bytes]:
         """The bytes of files, all of one moment between two commits, without a lock; where they aren't, `cut_short` or
         `torn` is set."""
@@ -71,6 +75,6 @@ class Folder:
         self.torn = True
         return texts
 
-    def open(self, group: int = 1, new: Sequence[str] = ()) -> Store:
-        """A store on the folder."""
-        return Store(self.path, states=self.states, group=group, wait=self.wait, new=new)
+    def open(self, group: int = 1, new: Sequence[str] = (), states: Optional[States] = None) -> Store:
+        """A store on the folder, with its states or others."""
+        return Store(self.path, states=states or self.states, group=group, wait=self.wait, new=new)

@@ -5,10 +5,10 @@ import bisect
 import collections
 import re
 from dataclasses import dataclass
-from typing import FrozenSet, List, Sequence, Tuple, Union
+from typing import Dict, FrozenSet, List, Sequence, Tuple, Union
 
 from .errors import NotFound, NotUnique, Refused
-from .lines import Path, as_bytes, as_string, titles
+from .lines import Nth, Path, Step, as_bytes, as_string, steps, titles
 from .phrases import listed, quoted, short
 
 
@@ -58,8 +58,9 @@ class Heading:
     """A heading of a text, by the store's own rules.
 
     `line` counts from 1. `priority` is `[#X]` or empty, `tags` are without colons. `path` has the titles from the top
-    level to this one. The subtree is the bytes from `start` to `end`. `unique` says that `path` leads to it alone, so
-    that a command can name it. Bytes that are no UTF-8 stand in the texts as surrogateescape has them.
+    level to this one. The subtree is the bytes from `start` to `end`. `unique` says that `path` leads to it alone;
+    `steps` always does, with a number at each title that several headings below one parent have. Bytes that are no
+    UTF-8 stand in the texts as surrogateescape has them.
     """
 
     line: int
@@ -72,6 +73,7 @@ class Heading:
     start: int
     end: int
     unique: bool
+    steps: Tuple[Step, ...]
 
 
 _HEADING = re.compile(rb"^(\*+) ([^\n]*)", re.MULTILINE)
@@ -140,15 +142,20 @@ def headings(text: bytes, states: Union[States, str] = States()) -> List[Heading
     """
     nodes = _nodes(text, States.parse(states) if isinstance(states, str) else states)
     alike = collections.Counter((node.parent, node.parts[2]) for node in nodes)
+    counts: Dict[Tuple[int, str], int] = collections.Counter()
     found: List[Heading] = []
     for node in nodes:
         keyword, priority, title, tags = node.parts
+        key = node.parent, title
+        counts[key] += 1
+        unique = alike[key] == 1
         path: Tuple[str, ...] = (title,)
-        unique = alike[node.parent, title] == 1
+        steps: Tuple[Step, ...] = (title if unique else Nth(title, counts[key]),)
         if node.parent >= 0:
             above = found[node.parent]
-            path, unique = above.path + path, above.unique and unique
-        found.append(Heading(node.line, node.level, keyword, priority, title, tags, path, node.start, node.end, unique))
+            path, steps, unique = above.path + path, above.steps + steps, above.unique and unique
+        found.append(Heading(node.line, node.level, keyword, priority, title, tags, path, node.start, node.end, unique,
+                             steps))
     return found
 
 
@@ -161,12 +168,14 @@ def lookup(found: Sequence[Heading], path: Path) -> Heading:
     Raises `NotFound`, with what is there, and `NotUnique`, with the headings that have the title.
     """
     starts = [heading.start for heading in found]
-    first, last, way = 0, len(found), titles(path)
-    for depth, title in enumerate(way):
+    first, last, way = 0, len(found), steps(path)
+    for depth, step in enumerate(way):
         children = [heading for heading in found[first:last] if len(heading.path) == depth + 1]
-        alike = [heading for heading in children if heading.title == title]
+        alike = [heading for heading in children if heading.title == (step.title if isinstance(step, Nth) else step)]
+        if isinstance(step, Nth) and alike:
+            alike = alike[step.number - 1:step.number]
         if len(alike) != 1:
-            raise _not_one(way[:depth + 1], alike, children, found)
+            raise _not_one(titles(way[:depth + 1]), alike, children, found)
         first, last = bisect.bisect_right(starts, alike[0].start), bisect.bisect_left(starts, alike[0].end)
     if not way:
         raise NotFound("a path needs one title at least; the list is empty")
@@ -177,9 +186,9 @@ def _not_one(path: Tuple[str, ...], alike: List[Heading], children: List[Heading
     """Why the last title of a path leads to no heading, or to several."""
     where = "below %s" % quoted(path[:-1]) if path[:-1] else "at the top level"
     if alike:
-        lines = listed([str(heading.line) for heading in alike])
-        return NotUnique("%d headings %s have the title '%s', in the lines %s: give all but one another title"
-                         % (len(alike), where, short(path[-1]), lines), path=path, candidates=alike)
+        lines, title = listed([str(heading.line) for heading in alike]), short(path[-1])
+        return NotUnique("%d headings %s have the title '%s', in the lines %s: say which one, as in %s\\#2"
+                         % (len(alike), where, title, lines, title), path=path, candidates=alike)
     instead = _instead(path[-1], children, found)
     return NotFound("no heading %s has the title '%s': %s" % (where, short(path[-1]), instead), path=path)
 

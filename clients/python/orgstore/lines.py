@@ -3,6 +3,7 @@ from __future__ import annotations
 
 import datetime
 import re
+from dataclasses import dataclass
 from typing import Literal, Optional, Sequence, Tuple, Union
 
 from .errors import BadLine, NotFound
@@ -10,9 +11,21 @@ from .errors import BadLine, NotFound
 Text = Union[str, bytes]
 """What is put into a file: bytes, or a str, which stands for its UTF-8 (with surrogateescape)."""
 
-Path = Union[str, Sequence[str]]
-"""A heading: its titles from the top level on, as a list, or as a text with `/` between them. In a text `\\s` is a
-slash, `\\t` a tab and `\\\\` a backslash."""
+
+@dataclass(frozen=True)
+class Nth:
+    """One of the headings that have the same title below one parent: the `number`-th in the text, from 1 on."""
+
+    title: str
+    number: int
+
+
+Step = Union[str, Nth]
+"""A step of a path: a title, which one heading alone must have there, or one of several."""
+
+Path = Union[str, Sequence[Step]]
+"""A heading: its steps from the top level on, as a list, or as a text with `/` between them. In a text `\\s` is a
+slash, `\\t` a tab, `\\\\` a backslash, and `\\#2` at the end of a step the second heading of its title."""
 
 Moment = Optional[datetime.datetime]
 """A civil minute; one with a time zone is taken in the local one. None is now."""
@@ -41,20 +54,34 @@ def field_of(text: Text) -> bytes:
 
 def path_field(path: Path) -> bytes:
     """A path of one title or more as a field."""
-    given = titles(path)
+    given = steps(path)
     if not given:
         raise NotFound("a path needs one title at least; the list is empty")
-    return b"/".join(field_of(title).replace(b"/", b"\\s") for title in given)
+    return as_bytes(path_text(given))
 
 
 _ESCAPED = {"n": "\n", "t": "\t", "\\": "\\", "s": "/"}
 
 
-def titles(path: Path, strict: bool = True) -> Tuple[str, ...]:
-    r"""The titles of a path, from the top level on.
+_NUMBERED = re.compile(r"((?:[^\\]|\\.)*)\\#([1-9][0-9]{0,8})", re.DOTALL)
 
-    >>> titles("Work/Pay rent"), titles(r"a\sb"), titles(["a/b"])
-    (('Work', 'Pay rent'), ('a/b',), ('a/b',))
+
+def titles(path: Path, strict: bool = True) -> Tuple[str, ...]:
+    r"""The titles of a path, from the top level on, without numbers.
+
+    >>> titles("Work/Pay rent"), titles(r"a\sb"), titles(["a/b"]), titles(r"Work/Call\#2")
+    (('Work', 'Pay rent'), ('a/b',), ('a/b',), ('Work', 'Call'))
+
+    Raises what `steps` does.
+    """
+    return tuple(step.title if isinstance(step, Nth) else step for step in steps(path, strict))
+
+
+def steps(path: Path, strict: bool = True) -> Tuple[Step, ...]:
+    r"""The steps of a path, from the top level on.
+
+    >>> steps(r"Work/Call\#2")
+    ('Work', Nth(title='Call', number=2))
 
     Raises `BadLine` where a text has a backslash that stands for nothing; one that isn't strict takes it as it is.
     """
@@ -69,13 +96,23 @@ def titles(path: Path, strict: bool = True) -> Tuple[str, ...]:
         raise BadLine("the path '%s' has a backslash that stands for nothing: write \\\\ for a backslash, \\s for a "
                       "slash, or give a list of titles" % path)
 
-    return tuple(re.sub(r"\\(.?)", meant, title, flags=re.DOTALL) for title in path.split("/"))
+    def step(text: str) -> Step:
+        numbered = _NUMBERED.fullmatch(text)
+        title = re.sub(r"\\(.?)", meant, numbered[1] if numbered else text, flags=re.DOTALL)
+        return Nth(title, int(numbered[2])) if numbered else title
+
+    return tuple(map(step, path.split("/")))
 
 
-def path_text(path: Sequence[str]) -> str:
-    """A path as it is written: `titles` reads it back."""
-    written = (title.replace("\\", "\\\\").replace("\t", "\\t").replace("/", "\\s") for title in path)
-    return "/".join(written)
+def path_text(path: Sequence[Step]) -> str:
+    """A path as it is written: `steps` reads it back."""
+    return "/".join(map(_step_text, path))
+
+
+def _step_text(step: Step) -> str:
+    if isinstance(step, Nth):
+        return "%s\\#%d" % (_step_text(step.title), step.number)
+    return step.replace("\\", "\\\\").replace("\t", "\\t").replace("\n", "\\n").replace("/", "\\s")
 
 
 def moment_field(moment: Moment) -> bytes:

@@ -9,9 +9,11 @@ from dataclasses import dataclass
 from typing import Iterator, List
 
 from .heading import Heading, States, headings
+from .lines import as_string
 from .names import ARCHIVE, is_archive
 from .section import BLANKS, properties
 
+TODO_LINE = re.compile(rb"^[ \t]*#\+(?:TODO|SEQ_TODO|TYP_TODO):(.*)$", re.MULTILINE | re.IGNORECASE)
 ARCHIVE_LINE = re.compile(rb"^[ \t]*#\+ARCHIVE:(.*)$", re.MULTILINE | re.IGNORECASE)
 
 
@@ -24,12 +26,29 @@ class Location:
     title: str
 
 
+def states_of(text: bytes, folder: States) -> States:
+    r"""The states of a file: those of its own `#+TODO:` lines, where it has some that the store takes, else the
+    folder's.
+
+    >>> str(states_of(b"#+SEQ_TODO: NEXT(n) | OK\n#+TODO: BUG | FIXED\n", States()))
+    'NEXT BUG | OK FIXED'
+    """
+    lines = [as_string(line) for line in TODO_LINE.findall(text)] if b"#+" in text else []
+    try:
+        read = [States.parse(line) for line in lines if line.strip()]
+        active = dict.fromkeys(word for states in read for word in states.active)
+        done = dict.fromkeys(word for states in read for word in states.done)
+        return States(tuple(active), tuple(done)) if read else folder
+    except ValueError:
+        return folder
+
+
 class Outline:
     """The headings of one file, with what stands above, in and below each."""
 
     def __init__(self, file: str, text: bytes, states: States) -> None:
-        self.file, self.text = file, text
-        self.headings = headings(text, states)
+        self.file, self.text, self.states = file, text, states_of(text, states)
+        self.headings = headings(text, self.states)
 
     @functools.cached_property
     def parents(self) -> List[int]:

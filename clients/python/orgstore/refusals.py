@@ -15,7 +15,7 @@ ADVICE: Dict[int, str] = {
        "store with new=[..]",
     3: "what the template makes isn't one entry: that is one heading, and below it only deeper ones",
     4: "no heading has the title that a step of the path asks for",
-    5: "several headings have the title that a step of the path asks for: give all but one another title",
+    5: "several headings have the title that a step of the path asks for: say which one, as in A\\#2",
     6: "the subtree would be moved into itself: choose a target that isn't below it",
     7: "it is in its archive already: refile it, to move it elsewhere",
     9: "the planning line must be SCHEDULED, DEADLINE or CLOSED, each once and with a timestamp: mend it",

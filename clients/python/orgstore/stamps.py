@@ -18,12 +18,13 @@ __all__ = ["Delay", "Repeater", "Stamp", "find", "moved", "ranges"]
 
 DAYS = ("Mon", "Tue", "Wed", "Thu", "Fri", "Sat", "Sun")
 
-STAMP = re.compile(r"(?P<open>[<\[])(?P<date>\d{4}-\d\d-\d\d)(?P<rest>(?:[ \t]+[^ \t\n<>\[\]]+)*)[ \t]*[>\]]")
+# as texts, which `re` compiles when they are first used: most commands read no stamp
+STAMP = r"(?P<open>[<\[])(?P<date>\d{4}-\d\d-\d\d)(?P<rest>(?:[ \t]+[^ \t\n<>\[\]]+)*)[ \t]*[>\]]"
 COOKIE = r"(?:\+\+|\.\+|\+)\d{1,4}[hdwmy](?:/\d{1,4}[hdwmy])?|--?\d{1,4}[hdwmy]"
-_TIME = re.compile(r"(\d?\d):(\d\d)(?:-(\d?\d):(\d\d))?")
-_REPEATER = re.compile(r"(\+\+|\.\+|\+)(\d{1,4})([hdwmy])(?:/(\d{1,4}[hdwmy]))?")
-_DELAY = re.compile(r"(--?)(\d{1,4})([hdwmy])")
-_DAY_NAME = re.compile(r"[^\d+\-\]>][^\d\]>]*")
+_TIME = r"(\d?\d):(\d\d)(?:-(\d?\d):(\d\d))?"
+_REPEATER = r"(\+\+|\.\+|\+)(\d{1,4})([hdwmy])(?:/(\d{1,4}[hdwmy]))?"
+_DELAY = r"(--?)(\d{1,4})([hdwmy])"
+_DAY_NAME = r"[^\d+\-\]>]+"
 _BRACKETS = {"<": ">", "[": "]"}
 # how many days Org takes for a unit of a delay
 _DELAY_DAYS = {"h": 0.041667, "d": 1, "w": 7, "m": 30.4, "y": 365.25}
@@ -105,7 +106,7 @@ class Stamp:
 
         Raises `ValueError` where it is none.
         """
-        found = STAMP.fullmatch(text)
+        found = re.fullmatch(STAMP, text)
         stamp = _stamp(found) if found else None
         if stamp is None:
             raise ValueError("%r is no timestamp" % text)
@@ -192,24 +193,24 @@ def _stamp(found: re.Match[str], base: int = 0) -> Optional[Stamp]:
 
 def _part(word: str) -> Tuple[str, Any]:
     """What a word behind a stamp's date is. Raises `ValueError` where it is nothing."""
-    read = _TIME.fullmatch(word)
+    read = re.fullmatch(_TIME, word)
     if read:
         end = datetime.time(int(read[3]), int(read[4])) if read[3] else None
         return "time", (datetime.time(int(read[1]), int(read[2])), end)
-    read = _REPEATER.fullmatch(word)
+    read = re.fullmatch(_REPEATER, word)
     if read:
         return "repeater", Repeater(read[1], int(read[2]), read[3], read[4] or "")
-    read = _DELAY.fullmatch(word)
+    read = re.fullmatch(_DELAY, word)
     if read:
         return "delay", Delay(int(read[2]), read[3], read[1] == "--")
-    if _DAY_NAME.fullmatch(word) and not set("+-") & set(word):
+    if re.fullmatch(_DAY_NAME, word):
         return "day name", word
     raise ValueError(word)
 
 
 def find(text: bytes, base: int = 0) -> Iterator[Stamp]:
     """The stamps of a text, in its order; `start` counts from `base`."""
-    for found in STAMP.finditer(text.decode("latin-1")):
+    for found in re.finditer(STAMP, text.decode("latin-1")):
         stamp = _stamp(found, base)
         if stamp:
             yield stamp

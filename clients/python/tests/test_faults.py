@@ -249,8 +249,8 @@ class Faults(FolderTest):
             with self.assertRaises(orgstore.NotUnique) as caught:
                 store.todo("a.org", "A/B", "DONE")
             self.assertEqual((caught.exception.candidates, str(caught.exception)), (
-                [], "a.org: A/B: several headings have the title that a step of the path asks for: give all but one "
-                    "another title"))
+                [], "a.org: A/B: several headings have the title that a step of the path asks for: say which one, as "
+                    "in A\\#2"))
 
     def test_a_refusal_of_a_later_program(self) -> None:
         store = Store(self.folder({}), self.answering("refused 99 Strange"))

@@ -90,8 +90,8 @@ class Lookups(unittest.TestCase):
         refused = self.refusal("Work/Call/Call")
         assert isinstance(refused, NotUnique)
         self.assertEqual((refused.path, [heading.line for heading in refused.candidates]), (("Work", "Call"), [3, 5]))
-        self.assertEqual(str(refused), "2 headings below 'Work' have the title 'Call', in the lines 3 and 5: give all "
-                                       "but one another title")
+        self.assertEqual(str(refused), "2 headings below 'Work' have the title 'Call', in the lines 3 and 5: say "
+                                       "which one, as in Call\\#2")
 
     def test_not_found(self) -> None:
         rows: List[Tuple[orgstore.Path, Tuple[str, ...], str]] = [

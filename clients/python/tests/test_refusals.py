@@ -64,10 +64,10 @@ PATHS: List[Row] = [
      "a.org: no heading has the title 'TODO x', and none can be made, since it would read as a keyword, a priority, "
      "tags, blanks or a second line: choose a title that is a title alone"),
     ({"a.org": "* A\n* TODO A :x:\n"}, lambda store: store.time("a.org", "A"), NotUnique,
-     "a.org: 2 headings at the top level have the title 'A', in the lines 1 and 2: give all but one another title"),
+     "a.org: 2 headings at the top level have the title 'A', in the lines 1 and 2: say which one, as in A\\#2"),
     ({"a.org": "* A\n", "b.org": "* T\n** U\n*** X\n** U\n"},
      lambda store: store.refile("a.org", "A", "b.org", "T/U/X"), NotUnique,
-     "b.org: 2 headings below 'T' have the title 'U', in the lines 2 and 4: give all but one another title"),
+     "b.org: 2 headings below 'T' have the title 'U', in the lines 2 and 4: say which one, as in U\\#2"),
     ({"a.org": "* T\n* U\n** T\n"}, lambda store: store.capture("a.org", "* N", to=Head("T")), NotUnique,
      "a.org: 2 headings have the title 'T', in the lines 1 and 3: name one by its path, with Under"),
     ({"a.org": "#+ARCHIVE: ::* X\n* A\n* X\n* X\n"}, lambda store: store.archive("a.org", "A"), NotUnique,
@@ -223,8 +223,8 @@ class InMany(FolderTest):
         Archive("q.org", "A"): "q.org: A: the store lacks a file that the command, or an archive location, names: "
                                "check the name, or give it to the store with new=[..]",
         ClockIn("a.org", "Q/R"): "a.org: Q/R: no heading has the title that a step of the path asks for",
-        ClockIn("a.org", "A"): "a.org: A: several headings have the title that a step of the path asks for: give all "
-                               "but one another title",
+        ClockIn("a.org", "A"): "a.org: A: several headings have the title that a step of the path asks for: say which "
+                               "one, as in A\\#2",
         Todo("a.org", "B", "DONE"): "a.org: B: the planning line must be SCHEDULED, DEADLINE or CLOSED, each once and "
                                     "with a timestamp: mend it",
         Capture("a.org", 1_048_576 * "x"): "a.org: as a line the command has 1048619 bytes, and the program takes "

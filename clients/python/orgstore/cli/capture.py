@@ -10,7 +10,7 @@ from typing import List, Tuple
 from ..causes import why_not_written
 from ..errors import CannotWrite, Refused
 from ..folder import Folder
-from ..heading import headings
+from ..heading import States, headings
 from ..lines import Order
 from ..names import is_file_name, own_name
 from ..section import BLANKS
@@ -63,9 +63,9 @@ def title_and_body(run: Run) -> Tuple[str, bytes]:
     return title, body
 
 
-def entry_text(run: Run, title: str, body: bytes) -> bytes:
+def entry_text(run: Run, title: str, body: bytes, states: States) -> bytes:
     """The bytes of a new entry: its heading line, its planning line, its body."""
-    options, states = run.options, run.folder.states
+    options = run.options
     if options.todo is not None:
         check_state(options.todo, states)
     if options.priority is not None and not re.fullmatch("[A-Za-z0-9]", options.priority):
@@ -129,16 +129,18 @@ def capture(run: Run) -> int:
     run.no_more_words()
     if options.head is not None and (options.under is not None or options.date):
         raise Usage("--head goes with neither --under nor --date")
-    text = entry_text(run, title, body)
-    title = headings(text, run.folder.states)[0].title
+    states = run.folder.states_of(file)
+    text = entry_text(run, title, body, states)
+    title = headings(text, states)[0].title
     moment = run.moment
     place: Order = "first" if options.first else "last"
 
     def act(store: Store, found: List[Entry]) -> int:
         above = found[0].heading.path if found else ()
-        target: Target = Under(above) if found else Top()
+        under = found[0].path(store.states) if found else ()
+        target: Target = Under(under) if found else Top()
         if options.date:
-            target, above = Date(above), (*above, moment.strftime("%Y-%m-%d"))
+            target, above = Date(under), (*above, moment.strftime("%Y-%m-%d"))
         elif options.head is not None:
             target, above = Head(options.head), head_path(run.folder, file, options.head)
         path = (*above, title)

@@ -26,11 +26,11 @@ def clock_in(run: Run) -> int:
         entry, before = found[0], running_clock(run.folder)
         path = entry.heading.path
         try:
-            done = store.clock_in(entry.file, path, moment=moment)
+            done = store.clock_in(entry.file, entry.path(store.states), moment=moment)
         except Refused as refused:
             other = " at %s" % before[0].name if before else ""
             raise run.refused(refused, entry.file, path, other if refused.name == "ClockBackwards" else "") from None
-        if before and (before[0].file, before[0].heading.path) == (entry.file, path):
+        if before and (before[0].file, before[0].number) == (entry.file, entry.number):
             says = "%s: the clock runs since %s" % (entry.name, before[1].strftime("%Y-%m-%d %H:%M"))
         else:
             says = "%s: clock started at %s" % (entry.name, moment.strftime("%H:%M"))
@@ -68,7 +68,7 @@ def total(run: Run) -> int:
 
     def act(store: Store, found: List[Entry]) -> int:
         entry = found[0]
-        span = store.time(entry.file, entry.heading.path)
+        span = store.time(entry.file, entry.path(store.states))
         run.report.say(hours(span), reply="time", file=entry.file, path=list(entry.heading.path),
                        minutes=int(span.total_seconds()) // 60)
         return OK
@@ -82,10 +82,10 @@ def running_clock(folder: Folder, texts: Optional[Dict[str, bytes]] = None) -> O
     for name, text in texts.items():
         if b"CLOCK:" in text:
             outline = folder.outline(name, text)
-            for number, heading in enumerate(outline.headings):
+            for number in range(len(outline.headings)):
                 starts = filter(None, map(open_clock, outline.section(number)))
                 for start in starts:
-                    return Entry(name, heading), start
+                    return Entry(outline, number), start
     return None
 
 

@@ -4,14 +4,15 @@ from __future__ import annotations
 import os
 import re
 from dataclasses import dataclass
-from typing import Any, Callable, Dict, List, Optional, Sequence
+from typing import Callable, List, Optional, Sequence, Tuple
 
+from .. import entry as fields
 from ..heading import Heading
-from ..lines import path_text, titles
+from ..lines import Nth, Step, path_text, steps
 from ..names import is_file_name
 from . import streams
 from .report import ask, shown
-from .stops import Stop, Titles, refusal
+from .stops import Stop, refusal
 
 # FILE:LINE, as editors and grep -n print it with a column or the line's text behind it, and as ls does
 FILE_LINE = re.compile(r"(.*?\.org(?:_archive)?):([0-9]+)(?::(?:[0-9]+(?::|$))?(.*)|[ ]+([^ ].*))?", re.DOTALL)
@@ -19,17 +20,23 @@ FILE_LINE = re.compile(r"(.*?\.org(?:_archive)?):([0-9]+)(?::(?:[0-9]+(?::|$))?(
 LISTED = re.compile(r"([^\t]*\.org(?:_archive)?):[0-9]+\t[0-9]+\t[^\t]*\t[^\t]*\t[^\t]*\t([^\t]*)")
 
 
-def named(file: str, path: Sequence[str]) -> str:
+def named(file: str, path: Sequence[Step]) -> str:
     """A heading as messages name it."""
     return "%s: %s" % (file, shown(path_text(path)))
 
 
-@dataclass(frozen=True)
-class Entry:
-    """A heading of one of the folder's files."""
+def headline(entry: fields.Entry, state: Optional[str] = None) -> str:
+    """A heading without its stars, with a number behind the title of one of several; a state may be given as it is
+    shown."""
+    heading, step = entry.heading, entry.heading.steps[-1]
+    number = "\\#%d" % step.number if isinstance(step, Nth) else ""
+    tags = ":%s:" % ":".join(heading.tags) if heading.tags else ""
+    parts = [heading.keyword if state is None else state, heading.priority, shown(heading.title) + number, tags]
+    return " ".join(part for part in parts if part)
 
-    file: str
-    heading: Heading
+
+class Entry(fields.Entry):
+    """A heading of one of the folder's files, as lists and messages name it."""
 
     @property
     def place(self) -> str:
@@ -39,31 +46,25 @@ class Entry:
     @property
     def name(self) -> str:
         """The heading as messages name it."""
-        return named(self.file, self.heading.path)
+        return named(self.file, self.heading.steps)
 
     def line(self) -> str:
         """The heading as lists have it."""
-        return "%s  %s" % (self.place, shown(path_text(self.heading.path)))
+        return "%s  %s" % (self.place, shown(path_text(self.heading.steps)))
 
     def text(self, state: Optional[str] = None) -> str:
         """The heading as `ls` prints it behind its place; a state may be given as it is shown."""
-        heading = self.heading
-        tags = ":%s:" % ":".join(heading.tags) if heading.tags else ""
-        parts = [heading.keyword if state is None else state, heading.priority, shown(heading.title), tags]
-        return " ".join(part for part in parts if part)
+        return headline(self, state)
 
-    def fields(self) -> Dict[str, Any]:
-        """The fields of its object."""
+    def porcelain(self, version: int = 1) -> str:
+        """Its line of `ls --porcelain`; the second version has its dates and its ID too."""
         heading = self.heading
-        return {"file": self.file, "line": heading.line, "level": heading.level, "state": heading.keyword,
-                "priority": heading.priority, "title": heading.title, "tags": list(heading.tags),
-                "path": list(heading.path)}
-
-    def porcelain(self) -> str:
-        """Its line of `ls --porcelain`."""
-        heading = self.heading
-        return "\t".join((self.place, str(heading.level), heading.keyword, heading.priority.strip("[#]"),
-                          ":".join(heading.tags), path_text(heading.path)))
+        fields = [self.place, str(heading.level), heading.keyword, heading.priority.strip("[#]"),
+                  ":".join(heading.tags), path_text(heading.steps)]
+        if version > 1:
+            fields += [str(stamp or "") for stamp in (self.scheduled, self.deadline, self.closed)]
+            fields.append((self.id or "").replace("\t", " "))
+        return "\t".join(fields)
 
 
 def names_file(word: str) -> bool:
@@ -82,18 +83,28 @@ class Place:
     line: Optional[int] = None
     stood: str = ""
     listed: str = ""
-    path: Optional[Titles] = None
+    path: Optional[Tuple[Step, ...]] = None
 
     def among(self, found: List[Entry]) -> List[Entry]:
         """The headings that are meant: those at the path, else of the title, else whose title has the text in it."""
         if self.path is not None:
-            return [entry for entry in found if entry.heading.path == self.path]
-        exact, text = titles(self.text, strict=False), self.text.casefold()
+            return [entry for entry in found if leads_to(self.path, entry.heading)]
+        exact, text = steps(self.text, strict=False), self.text.casefold()
         ways: List[Callable[[Heading], bool]] = [
-            lambda heading: heading.path == exact, lambda heading: heading.title == self.text,
+            lambda heading: leads_to(exact, heading), lambda heading: heading.title == self.text,
             lambda heading: text in heading.title.casefold(), lambda heading: reaches(heading, text)]
         fitting = ([entry for entry in found if fits(entry.heading)] for fits in ways)
         return next(filter(None, fitting), [])
+
+
+def leads_to(path: Sequence[Step], heading: Heading) -> bool:
+    """Whether a path leads to a heading; a step without a number leads to all of its title."""
+    def fits(wanted: Step, step: Step) -> bool:
+        if isinstance(wanted, Nth):
+            return wanted == step or wanted.number == 1 and wanted.title == step
+        return wanted == (step.title if isinstance(step, Nth) else step)
+
+    return len(path) == len(heading.steps) and all(map(fits, path, heading.steps))
 
 
 def reaches(heading: Heading, text: str) -> bool:
@@ -132,7 +143,7 @@ def choose(several: Ambiguous) -> Place:
     entry = offered[int(answer) - 1]
     if not entry.heading.unique:
         raise twin(entry)
-    return Place(entry.file, several.place.text, path=entry.heading.path)
+    return Place(entry.file, several.place.text, path=entry.heading.steps)
 
 
 def twin(entry: Entry) -> Stop:

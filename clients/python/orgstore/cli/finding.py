@@ -2,6 +2,7 @@
 from __future__ import annotations
 
 import os
+import re
 from typing import Iterable, List, Optional
 
 from ..folder import Folder
@@ -13,9 +14,13 @@ from .report import counted, shown
 from .stops import Stop, refusal
 
 
+# what `find` and `ls --sort due` print behind a heading
+LISTED_NOTE = re.compile(r"  (?:\| .*|\d{4}-\d\d-\d\d)\Z", re.DOTALL)
+
+
 def entries_in(outlines: Iterable[Outline]) -> List[Entry]:
     """The headings of outlines."""
-    return [Entry(outline.file, heading) for outline in outlines for heading in outline.headings]
+    return [Entry(outline, number) for outline in outlines for number in range(len(outline.headings))]
 
 
 def entries_of(folder: Folder, file: Optional[str]) -> List[Entry]:
@@ -77,7 +82,7 @@ def at_line(text: bytes, place: Place, found: List[Entry]) -> Entry:
     or was moved; the one that has the line that `grep` printed, likewise; else the one at the line."""
     line, fitting = place.line or 0, found
     if place.listed:
-        fitting = [entry for entry in found if place.listed.split("  | ")[0].rstrip() == entry.text()]
+        fitting = [entry for entry in found if LISTED_NOTE.sub("", place.listed).rstrip() == entry.text()]
         if len(fitting) == 1:
             return fitting[0]
     elif place.stood:

@@ -19,8 +19,9 @@ from .waiting import Left
 
 MODULES = {
     "capture": "capture", "refile": "moving", "done": "states", "todo": "states", "archive": "moving", "in": "clocks",
-    "out": "clocks", "time": "clocks", "ls": "reading", "find": "reading", "show": "reading", "status": "status",
-    "init": "init",
+    "out": "clocks", "time": "clocks", "clock": "timesheet", "agenda": "agenda", "today": "agenda",
+    "overdue": "agenda", "ls": "reading", "find": "reading", "show": "reading", "export": "exporting",
+    "check": "exporting", "status": "status", "init": "init",
 }
 """The subcommands in the order of the help, and the module that has each in its `COMMANDS`: only what is called is
 loaded."""

@@ -8,7 +8,7 @@ from typing import Dict, List, Optional
 from ..commands import Archive, Refile
 from ..errors import Refused
 from ..folder import Folder
-from ..heading import States, headings
+from ..heading import States
 from ..lines import Order
 from ..outline import Outline
 from ..section import CLOSED, planning
@@ -46,7 +46,7 @@ def refile(run: Run) -> int:
         path = entry.heading.path
         place: Order = "first" if options.first else "last"
         try:
-            done = store.refile(entry.file, path, under.file, under.heading.path, place=place)
+            done = store.refile(entry.file, entry.path(store.states), under.file, under.path(store.states), place=place)
         except Refused as refused:
             more = ", %s," % under.name if refused.name == "InsideItself" else ""
             raise run.refused(refused, entry.file, path, more) from None
@@ -68,9 +68,9 @@ def archive(run: Run) -> int:
 
     def act(store: Store, found: List[Entry]) -> int:
         entry = found[0]
-        path, where = entry.heading.path, archive_name(run.folder, entry)
+        path, where = entry.heading.path, entry.outline.location(entry.number).file
         try:
-            done = store.archive(entry.file, path, moment=moment)
+            done = store.archive(entry.file, entry.path(store.states), moment=moment)
         except Refused as refused:
             more = " %s" % where if refused.name == "NoSuchFile" else ""
             raise run.refused(refused, entry.file, path, more) from None
@@ -78,12 +78,6 @@ def archive(run: Run) -> int:
         return run.done(done, says, file=entry.file, path=list(path), archive=where)
 
     return run.with_headings([place], act)
-
-
-def archive_name(folder: Folder, entry: Entry) -> str:
-    """The file that an entry is archived in."""
-    outline = folder.outline(entry.file)
-    return outline.location(outline.headings.index(entry.heading)).file
 
 
 def archive_all(run: Run) -> int:
@@ -120,13 +114,13 @@ def plan_archive(outline: Outline, states: States, oldest: Optional[datetime.dat
     """The outermost done headings with nothing open below them, closed on a day or before it."""
     plan, taken = Plan([], []), 0
     for number, heading in enumerate(outline.headings):
-        if heading.start < taken or heading.keyword not in states.done or outline.is_archived(number):
+        if heading.start < taken or heading.keyword not in outline.states.done or outline.is_archived(number):
             continue
         closed = CLOSED.search(planning(outline.section(number)))
         if oldest is not None and (closed is None or closed[1].decode() > oldest.isoformat()):
             continue
-        entry = Entry(outline.file, heading)
-        if any(below.keyword in states.active for below in outline.below(number)):
+        entry = Entry(outline, number)
+        if any(below.keyword in outline.states.active for below in outline.below(number)):
             plan.left.append((entry, "something below it is open"))
             continue
         taken = heading.end
@@ -134,7 +128,7 @@ def plan_archive(outline: Outline, states: States, oldest: Optional[datetime.dat
             plan.left.append((entry, "NotUnique"))
             continue
         note = "closed %s" % closed[1].decode() if closed else heading.keyword
-        plan.steps.append(Step(entry, note, Archive(outline.file, heading.path, moment)))
+        plan.steps.append(Step(entry, note, Archive(outline.file, entry.path(states), moment)))
     return plan
 
 
@@ -152,7 +146,7 @@ def refile_all(run: Run) -> int:
         if not at_terminal():
             raise several.refused() from None
         under = find(run.folder, choose(several))
-    exact = Place(under.file, target.text, path=under.heading.path)
+    exact = Place(under.file, target.text, path=under.heading.steps)
 
     def plan(texts: Dict[str, bytes]) -> Plan:
         whole, goal = Plan([], []), find(run.folder, exact)
@@ -168,7 +162,8 @@ def refile_all(run: Run) -> int:
 def plan_refile(folder: Folder, file: str, text: bytes, wanted: str, goal: Entry, first: bool) -> Plan:
     """The outermost headings whose title has the text, without the target, what holds it, and what is in it already."""
     plan, taken = Plan([], []), 0
-    for heading in headings(text, folder.states):
+    outline = folder.outline(file, text)
+    for number, heading in enumerate(outline.headings):
         if heading.start < taken or wanted not in heading.title.casefold():
             continue
         same = file == goal.file
@@ -177,11 +172,12 @@ def plan_refile(folder: Folder, file: str, text: bytes, wanted: str, goal: Entry
         taken = heading.end
         if same and heading.path[:-1] == goal.heading.path:
             continue
-        entry = Entry(file, heading)
+        entry = Entry(outline, number)
         if not heading.unique:
             plan.left.append((entry, "NotUnique"))
             continue
-        command = Refile(file, heading.path, goal.file, goal.heading.path, "first" if first else "last")
+        command = Refile(file, entry.path(folder.states), goal.file, goal.path(folder.states),
+                         "first" if first else "last")
         plan.steps.append(Step(entry, "", command))
     return plan
 

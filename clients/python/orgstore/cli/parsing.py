@@ -99,10 +99,16 @@ def top_parser() -> argparse.ArgumentParser:
     return parser
 
 
+def versioned(words: List[str]) -> List[str]:
+    """The words, with the second form of --porcelain as an option of its own: argparse takes no optional value that
+    stands behind an equals sign alone."""
+    return [{"--porcelain=1": "--porcelain", "--porcelain=2": "--porcelain-2"}.get(word, word) for word in words]
+
+
 def words_of(parser: argparse.ArgumentParser, options: argparse.Namespace, given: List[str]) -> List[str]:
     """Reads the options of a subcommand, wherever they stand before a '--', and answers the words that are left."""
     cut = given.index("--") if "--" in given else len(given)
-    _, words = parser.parse_known_args(given[:cut], options)
+    _, words = parser.parse_known_args(versioned(given[:cut]), options)
     unknown = [word for word in words if word.startswith("-") and word != "-"]
     if unknown:
         parser.error("unknown option %s" % unknown[0])

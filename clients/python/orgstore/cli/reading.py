@@ -1,50 +1,95 @@
 """`orgs ls`, `orgs find` and `orgs show`."""
 from __future__ import annotations
 
+import argparse
+import datetime
 import os
 from typing import Dict, List, Optional, Tuple
 
+from ..entry import Entry as AnyEntry
+from ..filters import Filter, due, ordered
 from ..outline import Outline
 from ..section import BLANKS
 from ..store import Store
-from .entries import Entry, Place
+from .entries import Entry, Place, headline
 from .finding import choice, entries_in
-from .parsing import FILE_OPTION, NAMING, READS, Command, flag
+from .parsing import FILE_OPTION, NAMING, READS, Command, flag, option
 from .report import colours, shown
 from .run import Run
 from .stops import OK, REFUSED, Titles, Usage
 
-READ_OPTIONS = (FILE_OPTION,
-                flag("--todo", help="only headings in an active state"),
-                flag("--done", help="only headings in a done state"),
-                flag("-a", "--archives", help="archive files too"),
-                flag("--porcelain", help="FILE:LINE LEVEL STATE PRIORITY TAGS PATH, tabs between them"))
+LIST_OPTIONS = (
+    FILE_OPTION,
+    flag("--todo", help="only headings in an active state"),
+    flag("--done", help="only headings in a done state"),
+    option("--state", action="append", default=[], metavar="STATE", help="only in this state; may be given again"),
+    option("--tag", action="append", default=[], metavar="TAG", help="only with this tag, own or inherited; -TAG: not"),
+    option("--priority", action="append", default=[], metavar="A", help="only of this priority; may be given again"),
+    option("--prop", action="append", default=[], metavar="NAME=VALUE", help="only with this property; or NAME alone"),
+    option("--before", metavar="DATE", help="only what is due before: its deadline, or when it is scheduled"),
+    option("--after", metavar="DATE", help="only what is due after"),
+    flag("-a", "--archives", help="archive files too"))
+READ_OPTIONS = (
+    *LIST_OPTIONS,
+    option("--sort", choices=["due", "priority", "file"], default="file", help="the order; else that of the files"),
+    flag("--porcelain", help="FILE:LINE LEVEL STATE PRIORITY TAGS PATH, tabs between; --porcelain=2 adds SCHEDULED "
+         "DEADLINE CLOSED ID"),
+    option("--porcelain-2", action="store_true", help=argparse.SUPPRESS))
 
 
 def pretty(run: Run, entry: Entry, width: int) -> str:
     """A heading for people: its place, its title indented by its level, its state and tags."""
+    indent = "" if run.options.sort != "file" else "  " * (entry.heading.level - 1)
+    return "%-*s  %s%s" % (width, entry.place, indent, coloured(entry))
+
+
+def coloured(entry: AnyEntry) -> str:
+    """A heading's line without its stars, its state in a colour where that is wanted."""
     state = entry.heading.keyword
     if state and colours():
-        state = "\033[%dm%s\033[0m" % (32 if state in run.folder.states.done else 31, state)
-    return "%-*s  %s%s" % (width, entry.place, "  " * (entry.heading.level - 1), entry.text(state))
+        state = "\033[%dm%s\033[0m" % (32 if entry.done else 31, state)
+    return headline(entry, state)
 
 
 def say_entries(run: Run, entries: List[Entry], notes: Optional[List[str]] = None) -> None:
     """Lists headings, each with its note."""
     width = max((len(entry.place) for entry in entries), default=0)
     for number, entry in enumerate(entries):
-        if run.options.porcelain and not run.report.as_json:
-            run.report.print(entry.porcelain() + "\n")
+        if (run.options.porcelain or run.options.porcelain_2) and not run.report.as_json:
+            run.report.print(entry.porcelain(2 if run.options.porcelain_2 else 1) + "\n")
         else:
             note = notes[number] if notes else ""
             run.report.say(pretty(run, entry, width) + note, reply="heading", **entry.fields())
 
 
-def is_wanted(run: Run, entry: Entry) -> bool:
-    """Whether --todo and --done let a heading through; without either all are."""
-    states, options = run.folder.states, run.options
-    wanted = states.active * options.todo + states.done * options.done
-    return not wanted or entry.heading.keyword in wanted
+def filter_of(run: Run) -> Filter:
+    """What the options ask of a heading."""
+    options = run.options
+    properties = [given.partition("=") for given in options.prop]
+    return Filter(options.todo, options.done, tuple(options.state), tuple(options.priority), tuple(options.tag),
+                  tuple((name, value if equals else None) for name, equals, value in properties),
+                  day_of("--before", options.before), day_of("--after", options.after))
+
+
+def day_of(name: str, text: Optional[str]) -> Optional[datetime.date]:
+    """The day that an option names."""
+    if text is None:
+        return None
+    from ..dates import read  # rarely needed, and slow to load
+
+    try:
+        return read(text, datetime.datetime.now()).day
+    except ValueError as fault:
+        raise Usage("%s %s" % (name, fault)) from None
+
+
+def due_notes(run: Run, entries: List[Entry]) -> Optional[List[str]]:
+    """When each heading is due, where that was asked for."""
+    options = run.options
+    if options.sort != "due" and not options.before and not options.after:
+        return None
+    dates = (due(entry) for entry in entries)
+    return ["  " + date.strftime("%Y-%m-%d") if date else "" for date in dates]
 
 
 def warn_of_halves(run: Run) -> None:
@@ -73,7 +118,8 @@ def ls(run: Run) -> int:
     warn_of_halves(run)
     if place:
         entries = below(place, entries, run)
-    say_entries(run, [entry for entry in entries if is_wanted(run, entry)])
+    entries = ordered(filter(filter_of(run), entries), run.options.sort)
+    say_entries(run, entries, due_notes(run, entries))
     return OK
 
 
@@ -92,12 +138,15 @@ def find(run: Run) -> int:
     wanted = run.words.pop(0).casefold()
     run.no_more_words()
     hits: List[Tuple[Entry, str]] = []
+    is_wanted = filter_of(run)
     for name, text in run.folder.snapshot(files_to_read(run, file)).items():
         outline = run.folder.outline(name, text)
         notes = ((entry, hit(outline, number, wanted)) for number, entry in enumerate(entries_in([outline])))
-        hits += [(entry, note) for entry, note in notes if note is not None and is_wanted(run, entry)]
+        hits += [(entry, note) for entry, note in notes if note is not None and is_wanted(entry)]
     warn_of_halves(run)
-    say_entries(run, [entry for entry, _ in hits], [note for _, note in hits])
+    notes_of = {(entry.file, entry.number): note for entry, note in hits}
+    found = ordered([entry for entry, _ in hits], run.options.sort)
+    say_entries(run, found, [notes_of[entry.file, entry.number] for entry in found])
     return OK if hits else REFUSED
 
 

@@ -52,7 +52,7 @@ def advice(refused: Refused, entry: str, states: States, more: str = "") -> str:
         "NotUnique": "%s: several headings fit%s; change the title of one, and try again",
         "InsideItself": "%s: the target%s is the entry itself or lies in it; name another one",
         "AlreadyArchive": "%s: it is in its archive already%s; `orgs refile` moves it elsewhere",
-        "UnknownState": "%s: that is no state of the folder, which are " + str(states) + "%s; see --states",
+        "UnknownState": "%s: that is none of its file's states, " + str(states) + "%s; see --states",
         "OddPlanning": "%s: its planning line can't be read%s; correct the dates under the heading",
         "BadRepeat": "%s: it repeats in hours and has no single time of day%s; correct its stamp",
         "DateRange": "%s: its next date is past the year 9999%s; correct its repeater",
@@ -136,16 +136,21 @@ class Run:
         entry = named(file, path) if file and path else file or ""
         if isinstance(refused, CannotWrite):
             return cannot_write(refused)
-        message = advice(refused, entry, self.folder.states, more)
+        message = advice(refused, entry, self.folder.states_of(file) if file else self.folder.states, more)
         return refusal(refused.name, message, file, path)
 
     def with_headings(self, places: List[Place], act: Callable[[Store, List[Entry]], Result],
                       new: Sequence[str] = ()) -> Result:
-        """Opens the store, finds the headings under its lock, and acts; it asks with the store closed again."""
+        """Finds the headings, opens the store with the states of the first one's file, finds them again under its
+        lock, and acts; it asks with the store closed."""
         while True:
             try:
-                with self.folder.open(new=new) as store:
+                found = [find(self.folder, place) for place in places]
+                states = found[0].outline.states if found else self.folder.states
+                with self.folder.open(new=new, states=states) as store:
                     found = [find(self.folder, place) for place in places]
+                    if found and found[0].outline.states != states:
+                        continue
                     with waiting(store):
                         return act(store, found)
             except Ambiguous as several:
@@ -196,7 +201,7 @@ def settings_of(folder: str) -> Dict[str, str]:
 
 
 def check_state(state: str, states: States) -> None:
-    """Refuses what is no state of the folder."""
+    """Refuses what is no state."""
     if state not in states.active + states.done:
-        raise refusal("UnknownState", "'%s' is none of the folder's states, %s; --states gives others"
-                      % (state, states))
+        raise refusal("UnknownState", "'%s' is none of the states %s; --states, or a line #+TODO: of the file, gives "
+                      "others" % (state, states))

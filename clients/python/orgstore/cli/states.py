@@ -14,20 +14,23 @@ from .run import Run, check_state
 from .stops import Usage
 
 
-def change_state(run: Run, place: Place, state: str) -> int:
-    """Changes the state of a heading, and says which one it has then."""
+def change_state(run: Run, place: Place, wanted: Optional[str]) -> int:
+    """Gives a heading a state, else the first done one of its file, and says which one it has then."""
     moment = run.moment
 
     def act(store: Store, found: List[Entry]) -> int:
         entry = found[0]
-        path = entry.heading.path
+        path, states = entry.heading.path, entry.outline.states
+        state = states.done[0] if wanted is None else wanted
+        if state:
+            check_state(state, states)
         try:
-            done = store.todo(entry.file, path, state, moment=moment)
+            done = store.todo(entry.file, entry.path(store.states), state, moment=moment)
         except Refused as refused:
             raise run.refused(refused, entry.file, path) from None
         # only a task that repeats gets another state than the one that was asked for
         run.report.acknowledged = True
-        now = state_now(run.folder, entry) if state in run.folder.states.done else None
+        now = state_now(run.folder, entry) if state in states.done else None
         keyword, dates = now or (state, "")
         says = keyword or "no state"
         if keyword != state:
@@ -41,19 +44,17 @@ def state_now(folder: Folder, entry: Entry) -> Optional[Tuple[str, str]]:
     """The state of a heading as the files have it now, and its planning line; None where that can't be told."""
     try:
         outline = folder.outline(entry.file)
-    except CannotRead:
+        heading, lines = outline.headings[entry.number], outline.section(entry.number)
+    except (CannotRead, IndexError):
         return None
-    for number, heading in enumerate(outline.headings):
-        if heading.path == entry.heading.path:
-            return heading.keyword, os.fsdecode(planning(outline.section(number)).strip(BLANKS))
-    return None
+    return heading.keyword, os.fsdecode(planning(lines).strip(BLANKS))
 
 
 def done(run: Run) -> int:
     """`orgs done`."""
     place = run.take_place()
     run.no_more_words()
-    return change_state(run, place, run.folder.states.done[0])
+    return change_state(run, place, None)
 
 
 def todo(run: Run) -> int:
@@ -63,8 +64,6 @@ def todo(run: Run) -> int:
     state = run.words.pop()
     place = run.take_place()
     run.no_more_words()
-    if state:
-        check_state(state, run.folder.states)
     return change_state(run, place, state)
 
 

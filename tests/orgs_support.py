@@ -1,0 +1,104 @@
+"""What the tests of `orgs` share: new folders, runs of the command, and judgements on both.
+
+A script calls `use(PROGRAM)` before all else.
+"""
+import os
+import subprocess
+import sys
+import tempfile
+
+TOP = os.path.dirname(os.path.dirname(os.path.abspath(__file__)))
+ORGS = os.path.join(TOP, "clients", "shell", "orgs")
+AT = ["--at", "2026-07-01 10:00"]
+CLEAN = {name: value for name, value in os.environ.items() if not name.startswith("ORGSTORE_")}
+ENVIRONMENT = {**CLEAN, "LC_ALL": "C.UTF-8", "TERM": "dumb", "PYTHONDONTWRITEBYTECODE": "1"}
+
+
+def use(program):
+    """Takes this program for the store's."""
+    ENVIRONMENT["ORGSTORE_PROGRAM"] = os.path.abspath(program)
+
+
+class Room:
+    """New folders, and how many judgements were as wanted, and how many weren't."""
+
+    def __init__(self):
+        self.passed = self.failed = 0
+        in_memory = "/dev/shm" if os.access("/dev/shm", os.W_OK) else None
+        self.made = tempfile.TemporaryDirectory(prefix="orgstore-orgs.", dir=in_memory)
+
+    def folder(self, texts):
+        """A new folder with files of these names and texts."""
+        folder = tempfile.mkdtemp(dir=self.made.name)
+        for name, text in texts.items():
+            with open(os.path.join(folder, name), "wb") as file:
+                file.write(text if isinstance(text, bytes) else text.encode())
+        return folder
+
+    def judge(self, name, got, wanted):
+        if got == wanted:
+            self.passed += 1
+        else:
+            self.failed += 1
+            print("FAILED %s\n    got    %s\n    wanted %s" % (name, brief(got), brief(wanted)))
+
+    def holds(self, name, condition, got):
+        """Judges a condition on what is printed where it fails."""
+        self.judge(name, True if condition else got, True)
+
+
+def brief(value):
+    text = repr(value)
+    return text if len(text) < 2000 else text[:2000] + ".."
+
+
+class Ended:
+    """How a run ended: its status, and what it wrote."""
+
+    def __init__(self, status, out, err):
+        self.status, self.out, self.err = status, out, err
+
+    def __eq__(self, other):
+        return (self.status, self.out, self.err) == (other.status, other.out, other.err)
+
+    def __repr__(self):
+        return "status %d, out %r, err %r" % (self.status, self.out, self.err)
+
+
+def orgs(folder, *words, given=b"", more=None, cwd=None):
+    """A run of orgs on a folder."""
+    ended = subprocess.run([sys.executable, ORGS, *(["-C", folder] if folder else []), *words], input=given,
+                           capture_output=True, timeout=120, env={**ENVIRONMENT, **(more or {})}, cwd=cwd)
+    return Ended(ended.returncode, ended.stdout.decode("utf-8", "surrogateescape"),
+                 ended.stderr.decode("utf-8", "surrogateescape"))
+
+
+def said(text):
+    return Ended(0, text + "\n", "")
+
+
+def refused(text, status=1):
+    return Ended(status, "", "orgs: " + text + "\n")
+
+
+def held(folder):
+    """The texts of a folder's Org files."""
+    texts = {}
+    for name in os.listdir(folder):
+        if ".org" in name and not name.startswith("."):
+            if name != "orgstore.journal":
+                with open(os.path.join(folder, name), "rb") as file:
+                    texts[name] = file.read().decode("utf-8", "surrogateescape")
+    return texts
+
+
+def row(room, words, before, after, says, given=b"", name=None):
+    """A run that makes these texts of those, and says this; where it is refused, all bytes stay."""
+    folder = room.folder(before)
+    got = orgs(folder, *words, given=given)
+    wanted = says if isinstance(says, Ended) else said(says)
+    left = {**before, **after}
+    for text in [text for text, bytes_ in left.items() if bytes_ is None]:
+        del left[text]
+    room.judge(name or " ".join(words), (got, held(folder)), (wanted, left))
+    return folder
