@@ -31,13 +31,13 @@ import sys
 if sys.version_info < (3, 9):
     raise ImportError("orgstore needs Python 3.9 or newer; this is %d.%d" % sys.version_info[:2])
 
-from .commands import Archive, Capture, CaptureTemplate, ClockIn, ClockOut, Command, Done, Refile, Todo
+from .commands import Archive, Capture, CaptureTemplate, ClockIn, ClockOut, Command, Done, Edit, Refile, Todo
 from .errors import (AlreadyArchive, BadEntry, BadLine, BadLocation, BadRepeat, BadTemplate, CannotOpen, CannotRead,
                      CannotWrite, Changed, ClockBackwards, Closed, DateRange, Died, Error, Fault, InsideItself, Locked,
                      Misused, NoClock, NoProgram, NoSuchFile, NotFound, NotThere, NotUnique, OddPlanning, Refused,
                      TimedOut, TooLarge, UnknownState)
 from .heading import Heading, States, headings, lookup
-from .lines import Moment, Order, Path, Text, titles
+from .lines import Moment, Nth, Order, Path, Text, titles
 from .process import program
 from .store import Store, many
 from .targets import Date, Head, Target, Top, Under
@@ -46,10 +46,11 @@ from .version import version
 __all__ = [
     "AlreadyArchive", "Archive", "BadEntry", "BadLine", "BadLocation", "BadRepeat", "BadTemplate", "CannotOpen",
     "CannotRead", "CannotWrite", "Capture", "CaptureTemplate", "Changed", "ClockBackwards", "ClockIn", "ClockOut",
-    "Closed", "Command", "Date", "DateRange", "Died", "Done", "Error", "Fault", "Head", "Heading", "InsideItself",
-    "Locked", "Misused", "Moment", "NoClock", "NoProgram", "NoSuchFile", "NotFound", "NotThere", "NotUnique",
-    "OddPlanning", "Order", "Path", "Refile", "Refused", "States", "Store", "Target", "Text", "TimedOut", "Todo",
-    "TooLarge", "Top", "Under", "UnknownState", "headings", "lookup", "many", "program", "titles",
+    "Closed", "Command", "Date", "DateRange", "Died", "Done", "Edit", "Error", "Fault", "Head", "Heading",
+    "InsideItself", "Locked", "Misused", "Moment", "NoClock", "NoProgram", "NoSuchFile", "NotFound", "NotThere",
+    "NotUnique", "Nth", "OddPlanning", "Order", "Path", "Refile", "Refused", "States", "Store", "Target", "Text",
+    "TimedOut", "Todo", "TooLarge", "Top", "Under", "UnknownState", "headings", "lookup", "many", "program",
+    "titles",
 ]
 
 __version__ = version()

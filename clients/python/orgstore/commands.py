@@ -89,6 +89,27 @@ class CaptureTemplate(Command):
 
 
 @dataclass(frozen=True)
+class Edit(Command):
+    r"""Puts `new` in the place of the bytes `old`, which must stand at a position of a file, in bytes from 0 on.
+    Nothing else of the file changes, and nothing is read into the bytes.
+
+    >>> Edit("a.org", 2, "A", "B\n").line()
+    b'edit\ta.org\t2\tA\tB\\n\n'
+    """
+
+    file: str
+    at: int
+    old: Text
+    new: Text
+
+    def line(self) -> bytes:
+        return line_of(b"edit", field_of(self.file), b"%d" % self.at, field_of(self.old), field_of(self.new))
+
+    def places(self) -> List[Tuple[str, Optional[Target]]]:
+        return [(self.file, None)]
+
+
+@dataclass(frozen=True)
 class _AtHeading(Command):
     """A command on the heading at a path of a file."""
 

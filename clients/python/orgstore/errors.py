@@ -239,7 +239,7 @@ class BadLocation(Refused):
 
 
 class NotThere(Refused):
-    """The bytes that an edit is to replace don't stand at its position."""
+    """The bytes that an edit is to replace don't stand at its position: the file has changed since it was read."""
 
     code, name = 16, "NotThere"
 

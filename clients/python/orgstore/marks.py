@@ -2,7 +2,8 @@
 from __future__ import annotations
 
 import os
-from typing import Dict, List, NamedTuple, Optional, Tuple
+import stat
+from typing import Dict, Iterable, List, NamedTuple, Optional, Tuple
 
 from .journal import JOURNAL
 
@@ -25,9 +26,18 @@ def mark_of(known: os.stat_result) -> Mark:
     return Mark(known.st_ino, known.st_size, known.st_mtime_ns)
 
 
-def look(folder: str) -> Marks:
-    """The marks of the Org files that are in a folder."""
+def look(folder: str, only: Optional[Iterable[str]] = None) -> Marks:
+    """The marks of the Org files that are in a folder, or of some of them."""
     marks = {}
+    if only is not None:
+        for name in only:
+            try:
+                known = os.stat(os.path.join(folder, name))
+            except OSError:
+                continue
+            if stat.S_ISREG(known.st_mode):
+                marks[name] = mark_of(known)
+        return marks
     try:
         with os.scandir(folder) as entries:
             for entry in entries:

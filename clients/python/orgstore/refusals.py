@@ -26,6 +26,7 @@ ADVICE: Dict[int, str] = {
     14: "a file would grow past 64 MiB: archive or refile something from it first",
     15: "its archive location can't be read: the ARCHIVE property, or the file's #+ARCHIVE: line, is a file or "
         "nothing, then '::', then a heading or nothing",
+    16: "the bytes that are to be replaced don't stand there: the file has changed since it was read",
     20: "the program doesn't take the line",
 }
 

@@ -5,6 +5,7 @@ import collections
 import datetime
 import os
 import re
+import sys
 import threading
 import time
 import warnings
@@ -12,15 +13,15 @@ from types import TracebackType
 from typing import Callable, Deque, Dict, Iterable, Iterator, List, Optional, Set, Tuple, Type, Union, cast
 
 from .causes import Why, why_failed, why_not_opened, why_not_written
-from .commands import (Archive, Capture, CaptureTemplate, ClockIn, ClockOut, Command, Done, Refile, Settle, Show, Time,
-                       Todo, refusal)
+from .commands import (Archive, Capture, CaptureTemplate, ClockIn, ClockOut, Command, Done, Edit, Refile, Settle, Show,
+                       Time, Todo, refusal)
 from .errors import (CannotOpen, CannotWrite, Changed, Closed, Died, Error, Fault, Locked, Misused, NoProgram, Refused,
                      TimedOut)
 from .heading import Heading, States, headings
 from .journal import gate_is_open
 from .lines import Moment, Order, Path, Text, as_bytes, titles
 from .marks import Marks, differing, doubtful, look, look_at_journal, replaced
-from .names import is_archive, is_file_name, own_name
+from .names import ARCHIVE, is_archive, is_file_name, own_name
 from .process import Process, Stuck, ended_by, program
 from .refusals import Files
 from .targets import Date, Target, Top, Under
@@ -69,6 +70,10 @@ class Store:
                 before `settle`, or `close`
     `wait`      for how many seconds a folder that another store has open is tried again
     `new`       names of files that the folder lacks yet, for captures to begin
+    `only`      names of the files that are meant, with their archives; the others aren't looked at, however many there
+                are. None means all
+    `whole`     nothing is put on the disk but by `settle` and by `many`, and then all of it as one step. A command that
+                is refused closes the store, and what wasn't settled is given up
     `timeout`   for how many seconds the program may neither answer nor take anything before it is killed, and
                 `TimedOut` is raised; None waits without end. `many` has its own
 
@@ -82,12 +87,14 @@ class Store:
 
     def __init__(self, folder: Union[str, os.PathLike[str]], program: Union[None, str, os.PathLike[str]] = None,
                  states: Union[States, str] = States(), group: int = 1, wait: float = 5.0,
-                 new: Iterable[str] = (), timeout: Optional[float] = 30.0) -> None:
+                 new: Iterable[str] = (), timeout: Optional[float] = 30.0, only: Optional[Iterable[str]] = None,
+                 whole: bool = False) -> None:
         if not 1 <= group <= 1000:
             raise ValueError("a group has 1 to 1,000 commands, not %d" % group)
         self.folder = os.fspath(folder)
         self.states = States.parse(states) if isinstance(states, str) else states
-        self.group = group
+        self.group = sys.maxsize if whole else group
+        self.whole = whole
         self.accepted = 0
         """How many commands were accepted since the store was opened."""
         self.acknowledged = 0
@@ -99,6 +106,8 @@ class Store:
         self._wait, self._timeout = wait, timeout
         self._before = 0  # how many commands were accepted by processes before this one
         self._names = {new} if isinstance(new, str) else set(new)
+        self._only = None if only is None else sorted(map(own_name, [only] if isinstance(only, str) else only))
+        self._names.update(self._only or ())
         self._place = os.path.abspath(self.folder)
         self._program = _program_of(program)
         self._marks: Marks = {}
@@ -113,7 +122,7 @@ class Store:
         end, pause = time.monotonic() + self._wait, 0.01
         while True:
             # before the opening: a file that is replaced meanwhile is another program's
-            marks = look(self._place)
+            marks = self._look()
             try:
                 self._process = self._try_open()
                 self._marks, self._journal = marks, look_at_journal(self._place)
@@ -128,7 +137,9 @@ class Store:
 
     def _try_open(self) -> Process:
         options = ["--todo=" + ",".join(self.states.active), "--done=" + ",".join(self.states.done),
-                   "--group=%d" % self.group, *("--new=" + name for name in sorted(self._names))]
+                   "--whole" if self.whole else "--group=%d" % self.group]
+        options += ["--only=" + name for name in self._only or ()]
+        options += ["--new=" + name for name in sorted(self._names.difference(self._only or ()))]
         try:
             process = Process([self._program, self._place, *map(as_bytes, options)], self._timeout)
         except OSError as fault:
@@ -190,6 +201,9 @@ class Store:
         if self.closed:
             return
         self._check_owner()
+        if self.whole:
+            self._interrupted()  # what wasn't settled is given up
+            return
         if self.accepted > self.acknowledged:
             self._check()
         try:
@@ -331,7 +345,17 @@ class Store:
             progress(len(answers), self.acknowledged)
         return answers
 
+    def edit(self, file: str, at: int, old: Text, new: Text) -> Done:
+        """Puts bytes in the place of those that stand at a position of a file. Raises `NotThere` where they don't."""
+        return self._run(Edit(file, at, old, new))
+
     # -- other programs -------------------------------------------------------------------------------------------
+
+    def _look(self) -> Marks:
+        """The marks of the files that the store may have."""
+        if self._only is None:
+            return look(self._place)
+        return look(self._place, [name for own in sorted(self._names) for name in (own, own + ARCHIVE)])
 
     def _check_owner(self) -> None:
         """Raises `Misused` in another thread or process than the one that opened the store."""
@@ -358,7 +382,7 @@ class Store:
     def _check(self) -> bool:
         """Whether another program wrote a file since this one did. Where commands are pending, it raises `Changed` for
         a file of the store: the program would write over it, and is killed."""
-        written = differing(self._marks, look(self._place))
+        written = differing(self._marks, self._look())
         if self._broken or not written:
             return False
         if self.accepted == self.acknowledged:
@@ -388,7 +412,7 @@ class Store:
         noticed. Raises `Changed` for one that another program wrote after it, and that lacks what this one wrote."""
         if self._process is None:
             return
-        now, journal = look(self._place), look_at_journal(self._place)
+        now, journal = self._look(), look_at_journal(self._place)
         lost = [name for name in doubtful(self._marks, now, journal[0])
                 if own_name(name) in self._names and self._lacks(name)]
         # a lost file keeps the old mark, by which the next command opens the folder again
@@ -516,6 +540,9 @@ class Store:
                 return Done(self.accepted)
             self._note(*self._next().partition(b" ")[::2])
             return Done(self.accepted, self.acknowledged)
+        if word == b"refused" and self.whole:
+            self._finish()
+            raise refusal(rest, command, Files(self.states))
         if word == b"refused":
             return refusal(rest, command, Files(self.states, show))
         if word == b"fault":
@@ -588,7 +615,7 @@ class Store:
     def _device(self) -> Union[Fault, Changed]:
         """A call of the disk failed: says why, as far as the folder tells it, and what became of the command."""
         self._broken = True
-        now, journal = look(self._place), look_at_journal(self._place)
+        now, journal = self._look(), look_at_journal(self._place)
         untouched = journal == self._journal
         # behind its record the program writes files itself, but it replaces none
         written = differing(self._marks, now) if untouched and not self._many else replaced(self._marks, now)
