@@ -26,6 +26,7 @@ class Room:
         self.passed = self.failed = 0
         in_memory = "/dev/shm" if os.access("/dev/shm", os.W_OK) else None
         self.made = tempfile.TemporaryDirectory(prefix="orgstore-orgs.", dir=in_memory)
+        ENVIRONMENT["XDG_STATE_HOME"] = os.path.join(self.made.name, "state")  # where `orgs undo` keeps what it needs
 
     def folder(self, texts):
         """A new folder with files of these names and texts."""

@@ -16,14 +16,15 @@ import functools
 import itertools
 import re
 from dataclasses import dataclass
-from typing import Any, Dict, Iterator, List, Optional, Tuple
+from typing import TYPE_CHECKING, Any, Dict, Iterator, List, Optional, Tuple
 
-from . import stamps
 from .heading import Heading, States, headings
 from .lines import Step, as_string, path_text
 from .outline import Outline
 from .section import BLANKS, planning, properties
-from .stamps import Stamp
+
+if TYPE_CHECKING:
+    from .stamps import Stamp
 
 __all__ = ["Clocked", "Entry", "entries"]
 
@@ -101,6 +102,10 @@ class Entry:
         """The stamps of its planning line by their words, the first of each; what can't be read is left out."""
         line = planning(self.lines)
         found: Dict[str, Stamp] = {}
+        if not line:
+            return found
+        from . import stamps  # most commands read no stamp
+
         for word in re.finditer(PLANNED, line):
             stamp = next(stamps.find(line[word.end():], self.section_start + word.end()), None)
             if stamp and stamp.start == self.section_start + word.end():
@@ -178,6 +183,8 @@ class Entry:
         text = self.outline.text
         if text.find(b"<", self.heading.start, self.end) < 0:
             return
+        from . import stamps  # most commands read no stamp
+
         start, skipped = self.heading.start, b""
         for number, line in enumerate([text[start:self.section_start].rstrip(b"\n"), *self.lines]):
             block = re.match(_BLOCK, line)
@@ -207,6 +214,8 @@ class Entry:
 
 def _clocked(found: re.Match[bytes], line: int) -> Optional[Clocked]:
     """The clock of a line, where its stamps have one time each."""
+    from .stamps import Stamp  # most commands read no stamp
+
     try:
         begin = Stamp.parse(found[1].decode("latin-1"))
         end = Stamp.parse(found[2].decode("latin-1")) if found[2] else None

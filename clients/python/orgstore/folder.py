@@ -10,7 +10,7 @@ from .errors import CannotRead
 from .heading import States
 from .journal import gate_is_open, holder
 from .marks import look_at_journal
-from .names import ARCHIVE, is_archive, is_file_name
+from .names import ARCHIVE, is_archive, is_file_name, own_name
 from .outline import Outline, states_of
 from .store import Store
 
@@ -33,12 +33,17 @@ class Folder:
     def names(self, archives: bool = True) -> List[str]:
         """The store's files that are there, in byte order; an archive file counts beside its file alone."""
         try:
-            there = {entry.name for entry in os.scandir(self.path) if is_file_name(entry.name) and entry.is_file()}
+            there = {entry.name for entry in os.scandir(self.path) if is_file_name(entry.name) and _is_file(entry)}
         except OSError as fault:
             raise CannotRead("%s: %s; name the folder with -C DIR" % (self.path, fault.strerror)) from None
         own = [name for name in there if not is_archive(name)]
         both = [name + ARCHIVE for name in own if name + ARCHIVE in there] if archives else []
         return sorted(own + both, key=os.fsencode)
+
+    def has(self, name: str) -> bool:
+        """Whether the store has a file of this name that is there; an archive file counts beside its file alone."""
+        both = (name, own_name(name))
+        return is_file_name(name) and all(os.path.isfile(os.path.join(self.path, part)) for part in both)
 
     def read(self, name: str) -> bytes:
         """The bytes of a file; none where it isn't there."""
@@ -75,6 +80,16 @@ class Folder:
         self.torn = True
         return texts
 
-    def open(self, group: int = 1, new: Sequence[str] = (), states: Optional[States] = None) -> Store:
-        """A store on the folder, with its states or others."""
-        return Store(self.path, states=states or self.states, group=group, wait=self.wait, new=new)
+    def open(self, group: int = 1, new: Sequence[str] = (), states: Optional[States] = None,
+             only: Optional[Sequence[str]] = None, whole: bool = False) -> Store:
+        """A store on the folder, or on some files of it, with its states or others."""
+        return Store(self.path, states=states or self.states, group=group, wait=self.wait, new=new, only=only,
+                     whole=whole)
+
+
+def _is_file(entry: os.DirEntry[str]) -> bool:
+    """Whether an entry is a file, or leads to one; a link in a circle doesn't."""
+    try:
+        return entry.is_file()
+    except OSError:
+        return False

@@ -2,9 +2,14 @@
 from __future__ import annotations
 
 import os
+import re
 from typing import Dict
 
 SETTINGS = ".orgstore"
+
+
+NAMES = ("states", "capture.file", "capture.todo")
+"""The settings that there are, besides `template.NAME`."""
 
 
 def settings(folder: str) -> Dict[str, str]:
@@ -24,8 +29,8 @@ def settings(folder: str) -> Dict[str, str]:
         name, equals, value = (part.strip() for part in line.partition("="))
         if name.startswith("#") or not line.strip():
             continue
-        if name != "states" or not equals:
-            raise ValueError("%s:%d: '%s' is no setting; it has lines like: states = TODO | DONE"
-                             % (SETTINGS, number, line.strip()))
+        if not equals or name not in NAMES and not re.fullmatch(r"template\.[\w-]+", name):
+            raise ValueError("%s:%d: '%s' is no setting; there are states, capture.file, capture.todo and "
+                             "template.NAME, as in: states = TODO | DONE" % (SETTINGS, number, line.strip()))
         found[name] = value
     return found

@@ -106,6 +106,7 @@ class Store:
         self._wait, self._timeout = wait, timeout
         self._before = 0  # how many commands were accepted by processes before this one
         self._names = {new} if isinstance(new, str) else set(new)
+        self._new = frozenset(self._names)
         self._only = None if only is None else sorted(map(own_name, [only] if isinstance(only, str) else only))
         self._names.update(self._only or ())
         self._place = os.path.abspath(self.folder)
@@ -139,7 +140,7 @@ class Store:
         options = ["--todo=" + ",".join(self.states.active), "--done=" + ",".join(self.states.done),
                    "--whole" if self.whole else "--group=%d" % self.group]
         options += ["--only=" + name for name in self._only or ()]
-        options += ["--new=" + name for name in sorted(self._names.difference(self._only or ()))]
+        options += ["--new=" + name for name in sorted(self._names.difference(self._only or ()).union(self._new))]
         try:
             process = Process([self._program, self._place, *map(as_bytes, options)], self._timeout)
         except OSError as fault:

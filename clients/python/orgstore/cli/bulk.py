@@ -1,13 +1,15 @@
 """Commands over many entries, under one lock."""
 from __future__ import annotations
 
-from dataclasses import dataclass
-from typing import Callable, Dict, List, Optional, Tuple
+from dataclasses import dataclass, field
+from typing import Callable, Dict, List, Optional, Set, Tuple
 
 from ..commands import Command
 from ..errors import Error, Refused
+from ..lines import Nth
+from ..names import own_name
 from ..store import Store
-from .entries import Entry, twin
+from .entries import Entry
 from .explain import stop_of
 from .report import Progress, ask, at_terminal, counted
 from .run import Run
@@ -32,37 +34,48 @@ class Plan:
 
     steps: List[Step]
     left: List[Tuple[Entry, str]]
+    others: Set[str] = field(default_factory=set)
+    """What other files it writes."""
 
 
 def bulk(run: Run, plan: Callable[[Dict[str, bytes]], Plan], names: Optional[List[str]], verb: str, past: str) -> int:
     """Says what a command over many entries will do, asks at a terminal, and does it under one lock."""
     folder, options = run.folder, run.options
-    names = names or folder.names(archives=False)
     asked = not options.yes and not options.dry_run and at_terminal()
-    shown: Optional[Plan] = None
+    shown = plan(folder.snapshot(names or folder.names(archives=False)))
     if options.dry_run or asked:
-        shown = plan(folder.snapshot(names))
         say_plan(run, shown, verb)
         if options.dry_run:
-            return REFUSED if twins(shown) else OK
+            return OK
         question = "%s %s? [y/N] " % (verb.capitalize(), counted(len(shown.steps), "heading"))
         if not shown.steps or ask(question).lower() not in ("y", "yes"):
             run.report.warn("nothing was changed")
-            return REFUSED if twins(shown) else OK
-    with folder.open(group=BULK_GROUP) as store:
-        now = plan({name: folder.read(name) for name in names})
-        if shown is not None:
-            agreed = {(step.entry.file, step.entry.heading.path) for step in shown.steps}
-            now.steps = [step for step in now.steps if (step.entry.file, step.entry.heading.path) in agreed]
+            return OK
+    return carry_out(run, plan, shown, asked, past)
+
+
+def carry_out(run: Run, plan: Callable[[Dict[str, bytes]], Plan], shown: Plan, asked: bool, past: str) -> int:
+    """Opens a store on the files of a plan, plans anew under its lock, and does what was agreed to."""
+    folder = run.folder
+    names = [entry.file for entry in [*(step.entry for step in shown.steps), *(entry for entry, _ in shown.left)]]
+    others = (name for name in shown.others if folder.has(own_name(name)))
+    files = list(dict.fromkeys(map(own_name, [*names, *others])))
+    with folder.open(group=BULK_GROUP, only=files or None) as store, run.recording(files):
+        now = plan({name: folder.read(name) for name in dict.fromkeys(names)})
+        if asked:
+            agreed = {(step.entry.file, step.entry.heading.steps) for step in shown.steps}
+            now.steps = [step for step in now.steps if (step.entry.file, step.entry.heading.steps) in agreed]
             now.left = []
-        if getattr(options, "first", False):
-            now.steps.reverse()
-        return send(run, store, now, past) or (REFUSED if shown and twins(shown) else OK)
+        now.steps = in_safe_order(now.steps, getattr(run.options, "first", False))
+        return send(run, store, now, past)
 
 
-def twins(plan: Plan) -> List[Entry]:
-    """The entries that no path leads to alone."""
-    return [entry for entry, reason in plan.left if reason == "NotUnique"]
+def in_safe_order(steps: List[Step], first: bool) -> List[Step]:
+    """The steps in an order in which none changes the path of a later one: those with numbers in their paths come last,
+    from the end of their files to the front. Where each is put first in its place, the others come backwards."""
+    numbered = [step for step in steps if any(isinstance(part, Nth) for part in step.entry.heading.steps)]
+    alone = [step for step in steps if step not in numbered]
+    return (alone[::-1] if first else alone) + numbered[::-1]
 
 
 def say_plan(run: Run, plan: Plan, verb: str) -> None:
@@ -78,10 +91,7 @@ def say_plan(run: Run, plan: Plan, verb: str) -> None:
 def say_left(run: Run, plan: Plan) -> None:
     """Says what is left, and why."""
     for entry, reason in plan.left:
-        if reason == "NotUnique":
-            run.report.stopped(twin(entry))
-        else:
-            run.report.say("%s  (left: %s)" % (entry.line(), reason), reply="left", reason=reason, **entry.fields())
+        run.report.say("%s  (left: %s)" % (entry.line(), reason), reply="left", reason=reason, **entry.fields())
 
 
 def send(run: Run, store: Store, plan: Plan, past: str) -> int:
@@ -112,9 +122,12 @@ def send(run: Run, store: Store, plan: Plan, past: str) -> int:
         run.report.stopped(run.refused(reply, step.entry.file, step.entry.heading.path))
     say_left(run, plan)
     safe = store.acknowledged
+    run.said = "%d of %d %s" % (safe, total, past)
     if sent < total:
+        run.report.acknowledged = run.report.acknowledged or safe > 0
         raise Stop(INTERRUPTED, "interrupted: %d of %d %s, and safe; the same command does the rest"
                    % (safe, total, past), reply="interrupted", safe=safe, total=total)
     run.report.acknowledged = True
-    run.report.say("%d %s" % (safe, past), reply="ok", command=run.options.command, accepted=store.accepted, safe=safe)
-    return REFUSED if refused or twins(plan) else OK
+    run.said = "%d %s" % (safe, past)
+    run.report.say(run.said, reply="ok", command=run.options.command, accepted=store.accepted, safe=safe)
+    return REFUSED if refused else OK

@@ -2,8 +2,11 @@
 from __future__ import annotations
 
 import argparse
+import contextlib
+import io
 import os
 import re
+import shlex
 import sys
 from typing import List, Tuple
 
@@ -14,17 +17,18 @@ from ..heading import States, headings
 from ..lines import Order
 from ..names import is_file_name, own_name
 from ..section import BLANKS
+from ..settings import SETTINGS
 from ..store import Store
 from ..targets import Date, Head, Target, Top, Under
 from .entries import Entry, named, names_file
 from .finding import entries_of, file_of
-from .parsing import AT_OPTION, FILE_OPTION, Command, flag, option
-from .run import Run, check_state
+from .parsing import AT_OPTION, FILE_OPTION, INBOX, Command, command_parser, flag, option
+from .run import Run, check_state, settings_of
 from .stops import Stop, Titles, Usage, cannot_write, refusal
 
-INBOX = "inbox.org"
 CAPTURE_OPTIONS = (
     FILE_OPTION, AT_OPTION,
+    option("-t", "--template", metavar="NAME", help="with the options that .orgstore has for this name"),
     option("--todo", metavar="STATE", help="its state"),
     option("--priority", metavar="A", help="its priority, a letter or digit"),
     option("--tag", action="append", default=[], metavar="TAG", help="a tag; may be given again"),
@@ -109,11 +113,11 @@ def capture_file(run: Run) -> Tuple[str, List[str]]:
     given = run.options.file
     if given is None and run.words and names_file(run.words[0]):
         given = run.words.pop(0)
-    name = file_of(run.folder, given) if given else INBOX
+    name = file_of(run.folder, given or settings_of(run.folder.path).get("capture.file") or INBOX)
     if not is_file_name(name):
         raise Usage("'%s' can't be a file's name: it ends in .org, and has no slash and no dot in front" % name)
     base = own_name(name)
-    if base in run.folder.names():
+    if run.folder.has(base):
         return name, []
     why = why_not_written(run.folder.path, base)
     if why:
@@ -121,8 +125,45 @@ def capture_file(run: Run) -> Tuple[str, List[str]]:
     return name, [base]
 
 
+def take_template(run: Run) -> None:
+    """Puts the words of a template, and the folder's defaults, in front of those that were given."""
+    settings = settings_of(run.folder.path)
+    name = run.options.template
+    if name is not None:
+        words = settings.get("template." + name)
+        if words is None:
+            there = [known[len("template."):] for known in settings if known.startswith("template.")]
+            raise Usage("no template '%s' in %s; there are: %s" % (name, SETTINGS, ", ".join(there) or "none"))
+        merge(run, name, words)
+    if run.options.todo is None:
+        run.options.todo = settings.get("capture.todo") or None
+
+
+def merge(run: Run, name: str, text: str) -> None:
+    """Takes the words of a template: options that weren't given, words in front, and %s for the title."""
+    try:
+        words = shlex.split(text)
+        with contextlib.redirect_stderr(io.StringIO()):
+            parser = command_parser("capture", COMMANDS["capture"])
+            theirs, front = parser.parse_known_args(words)
+        if any(word.startswith("-") for word in front):
+            raise ValueError(front)
+    except (ValueError, SystemExit):
+        raise Usage("the template '%s' in %s has options that capture doesn't take: %s"
+                    % (name, SETTINGS, text)) from None
+    for known, value in vars(theirs).items():
+        given = getattr(run.options, known, None)
+        setattr(run.options, known, value + given if isinstance(given, list) else given or value)
+    titles = [word for word in front if "%s" in word]
+    if titles and run.words:
+        title = titles[0].replace("%s", run.words.pop())
+        front = [title if word == titles[0] else word for word in front]
+    run.words = front + run.words
+
+
 def capture(run: Run) -> int:
     """`orgs capture`."""
+    take_template(run)
     options = run.options
     file, new = capture_file(run)
     title, body = title_and_body(run)
@@ -152,7 +193,7 @@ def capture(run: Run) -> int:
                         path=None if options.date else list(path))
 
     places = [run.place_of(options.under, file)] if options.under is not None else []
-    return run.with_headings(places, act, new)
+    return run.with_headings(places, act, new, also=lambda found: [file])
 
 
 def head_path(folder: Folder, file: str, title: str) -> Titles:

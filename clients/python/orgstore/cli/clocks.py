@@ -37,7 +37,13 @@ def clock_in(run: Run) -> int:
             says += "; that of %s stopped, %s" % (before[0].name, hours(moment - before[1])) if before else ""
         return run.done(done, says, file=entry.file, path=list(path))
 
-    return run.with_headings([place], act)
+    return run.with_headings([place], act, also=lambda found: clock_file(run.folder))
+
+
+def clock_file(folder: Folder) -> List[str]:
+    """The file where a clock runs, if one does."""
+    clock = running_clock(folder)
+    return [clock[0].file] if clock else []
 
 
 def clock_out(run: Run) -> int:
@@ -58,7 +64,7 @@ def clock_out(run: Run) -> int:
         return run.done(done, "%s: clock stopped, %s" % (before[0].name, hours(span)), file=file,
                         path=list(path or ()), minutes=int(span.total_seconds()) // 60)
 
-    return run.with_headings([], act)
+    return run.with_headings([], act, also=lambda found: clock_file(run.folder))
 
 
 def total(run: Run) -> int:

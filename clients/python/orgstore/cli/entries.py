@@ -141,12 +141,4 @@ def choose(several: Ambiguous) -> Place:
     if not answer.isdigit() or not 1 <= int(answer) <= len(offered):
         raise several.refused()
     entry = offered[int(answer) - 1]
-    if not entry.heading.unique:
-        raise twin(entry)
     return Place(entry.file, several.place.text, path=entry.heading.steps)
-
-
-def twin(entry: Entry) -> Stop:
-    """The refusal of a heading that no path leads to alone."""
-    return refusal("NotUnique", "%s has a twin of the same path, '%s'; change the title of one, and try again"
-                   % (entry.place, shown(path_text(entry.heading.path))), entry.file, entry.heading.path)

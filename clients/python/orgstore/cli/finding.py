@@ -9,7 +9,7 @@ from ..folder import Folder
 from ..lines import path_text, titles
 from ..names import is_file_name
 from ..outline import Outline
-from .entries import FILE_LINE, Ambiguous, Entry, Place, twin
+from .entries import FILE_LINE, Ambiguous, Entry, Place
 from .report import counted, shown
 from .stops import Stop, refusal
 
@@ -46,7 +46,7 @@ def file_of(folder: Folder, word: str) -> str:
 def existing(folder: Folder, word: str) -> str:
     """The name of a file that has to be there."""
     name = file_of(folder, word)
-    if name not in folder.names():
+    if not folder.has(name):
         raise no_file(folder, name)
     return name
 
@@ -58,11 +58,8 @@ def no_file(folder: Folder, name: str) -> Stop:
 
 
 def find(folder: Folder, place: Place) -> Entry:
-    """The one heading that is meant, and that the store finds by its path."""
-    entry = choice(folder, place, entries_of(folder, place.file))
-    if not entry.heading.unique:
-        raise twin(entry)
-    return entry
+    """The one heading that is meant."""
+    return choice(folder, place, entries_of(folder, place.file))
 
 
 def choice(folder: Folder, place: Place, found: List[Entry]) -> Entry:

@@ -6,8 +6,8 @@ import os
 from ..folder import Folder
 from ..heading import States
 from ..settings import SETTINGS
-from .parsing import Command
-from .run import Run, read_states, settings_of
+from .parsing import INBOX, Command, flag
+from .run import Run, find_folder, read_states, settings_of
 from .status import states_field
 from .stops import OK, Usage, cannot, refusal
 
@@ -17,6 +17,8 @@ def init(run: Run) -> int:
     options, words = run.options, run.words
     if len(words) > 1:
         raise Usage("a word too many, '%s'" % words[1])
+    if options.show:
+        return show(run, find_folder(words[0] if words else options.directory))
     path = words[0] if words else options.directory or "."
     try:
         os.makedirs(path, exist_ok=True)
@@ -27,7 +29,7 @@ def init(run: Run) -> int:
     if old is not None and str(States.parse(old)) != str(states):
         raise refusal("UnknownState", "%s has the states %s already; edit it" % (os.path.join(path, SETTINGS), old))
     folder = Folder(path, states, options.wait)
-    with folder.open() as store:
+    with folder.open(only=folder.names(archives=False)[:1] or None) as store:
         store.settle()
     if old is None:
         with open(os.path.join(path, SETTINGS), "w", encoding="utf-8") as file:
@@ -37,9 +39,20 @@ def init(run: Run) -> int:
     return OK
 
 
+def show(run: Run, path: str) -> int:
+    """`orgs init --show`: what holds in a folder, by its .orgstore and else."""
+    found = settings_of(path)
+    rows = {"states": str(read_states(path, run.options.states)), "capture.file": INBOX, "capture.todo": "", **found}
+    rows["states"] = str(read_states(path, run.options.states))
+    text = "\n".join("%s = %s" % row for row in rows.items())
+    run.report.say(text, reply="settings", folder=os.path.abspath(path), settings=rows)
+    return OK
+
+
 COMMANDS = {
     "init": Command(
         "[DIR]", "begins a folder and writes its states to .orgstore", init,
         "Makes DIR, else takes the folder that one stands in; --states gives the states.",
-        "orgs init ~/org --states 'TODO WAIT | DONE CANCELLED'", begins=True),
+        "orgs init ~/org --states 'TODO WAIT | DONE CANCELLED'\norgs init --show",
+        (flag("--show", help="say what holds in the folder, and begin none"),), begins=True),
 }

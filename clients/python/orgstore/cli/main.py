@@ -18,7 +18,10 @@ from .stops import FAULT, INTERRUPTED, OK, Stop, Usage
 from .waiting import Left
 
 MODULES = {
-    "capture": "capture", "refile": "moving", "done": "states", "todo": "states", "archive": "moving", "in": "clocks",
+    "capture": "capture", "import": "importing", "refile": "moving", "done": "states", "todo": "states",
+    "archive": "moving",
+    "schedule": "changing", "deadline": "changing", "tag": "changing", "priority": "changing", "rename": "changing",
+    "note": "changing", "prop": "changing", "delete": "changing", "edit": "edit", "undo": "undoing", "in": "clocks",
     "out": "clocks", "time": "clocks", "clock": "timesheet", "agenda": "agenda", "today": "agenda",
     "overdue": "agenda", "ls": "reading", "find": "reading", "show": "reading", "export": "exporting",
     "check": "exporting", "status": "status", "init": "init",
@@ -61,7 +64,7 @@ def execute(options: argparse.Namespace, report: Report) -> int:
     """Runs the subcommand that the options name."""
     command = command_of(options.command)
     parser = command_parser(options.command, command)
-    run = Run(options, words_of(parser, options, options.rest), report)
+    run = Run(options, words_of(parser, options, options.rest, command.signed), report)
     report.as_json, report.quiet = options.json, options.quiet
     where = options.directory or "."
     try:
@@ -84,6 +87,11 @@ def execute(options: argparse.Namespace, report: Report) -> int:
 
 def run_words(arguments: List[str], report: Report) -> int:
     """Runs the command of these words."""
+    if arguments[:1] == ["complete"]:
+        from .completing import complete
+
+        report.print(complete(arguments[2:] if arguments[1:2] == ["--"] else arguments[1:]))
+        return OK
     parser = top_parser()
     options = argparse.Namespace(directory=None, states=None, json=False, wait=5.0, quiet=False, at=None)
     # A '--' directly behind the command would be taken for the end of the options before it.

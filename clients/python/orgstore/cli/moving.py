@@ -15,10 +15,9 @@ from ..section import CLOSED, planning
 from ..stamps import moved
 from ..store import Store
 from .bulk import Plan, Step, bulk
-from .entries import Ambiguous, Entry, Place, choose
+from .entries import Entry, Place
 from .finding import find
 from .parsing import AT_OPTION, BULK_OPTIONS, FILE_OPTION, NAMING, Command, flag, option
-from .report import at_terminal
 from .run import Run
 from .stops import Usage
 
@@ -77,7 +76,8 @@ def archive(run: Run) -> int:
         says = "%s: archived in %s" % (entry.name, where)
         return run.done(done, says, file=entry.file, path=list(path), archive=where)
 
-    return run.with_headings([place], act)
+    return run.with_headings([place], act, also=lambda found: [entry.outline.location(entry.number).file
+                                                               for entry in found])
 
 
 def archive_all(run: Run) -> int:
@@ -93,6 +93,7 @@ def archive_all(run: Run) -> int:
             part = plan_archive(run.folder.outline(name, text), run.folder.states, oldest, moment)
             whole.steps += part.steps
             whole.left += part.left
+            whole.others |= part.others
         return whole
 
     return bulk(run, plan, [file] if file else None, "archive", "archived")
@@ -124,11 +125,9 @@ def plan_archive(outline: Outline, states: States, oldest: Optional[datetime.dat
             plan.left.append((entry, "something below it is open"))
             continue
         taken = heading.end
-        if not heading.unique:
-            plan.left.append((entry, "NotUnique"))
-            continue
         note = "closed %s" % closed[1].decode() if closed else heading.keyword
         plan.steps.append(Step(entry, note, Archive(outline.file, entry.path(states), moment)))
+        plan.others.add(outline.location(number).file)
     return plan
 
 
@@ -140,16 +139,11 @@ def refile_all(run: Run) -> int:
     file = run.take_file() if len(run.words) > 2 or options.file else None
     target = run.take_place("HEADING to move them under")
     run.no_more_words()
-    try:
-        under = find(run.folder, target)
-    except Ambiguous as several:
-        if not at_terminal():
-            raise several.refused() from None
-        under = find(run.folder, choose(several))
+    under, = run.choose_headings([target])
     exact = Place(under.file, target.text, path=under.heading.steps)
 
     def plan(texts: Dict[str, bytes]) -> Plan:
-        whole, goal = Plan([], []), find(run.folder, exact)
+        whole, goal = Plan([], [], {exact.file or ""}), find(run.folder, exact)
         for name, text in texts.items():
             part = plan_refile(run.folder, name, text, options.all_matching.casefold(), goal, options.first)
             whole.steps += part.steps
@@ -170,12 +164,9 @@ def plan_refile(folder: Folder, file: str, text: bytes, wanted: str, goal: Entry
         if same and heading.start <= goal.heading.start < heading.end:
             continue
         taken = heading.end
-        if same and heading.path[:-1] == goal.heading.path:
+        if same and heading.steps[:-1] == goal.heading.steps:
             continue
         entry = Entry(outline, number)
-        if not heading.unique:
-            plan.left.append((entry, "NotUnique"))
-            continue
         command = Refile(file, entry.path(folder.states), goal.file, goal.path(folder.states),
                          "first" if first else "last")
         plan.steps.append(Step(entry, "", command))

@@ -2,6 +2,7 @@
 from __future__ import annotations
 
 import argparse
+import re
 import sys
 from dataclasses import dataclass
 from typing import IO, TYPE_CHECKING, Any, Callable, Dict, List, Optional, Tuple
@@ -24,6 +25,8 @@ class Command:
     options: Tuple[Callable[[argparse.ArgumentParser], object], ...] = ()
     begins: bool = False
     """Whether it begins a folder, and so needs none."""
+    signed: bool = False
+    """Whether a word may begin with a minus and a letter, and be no option."""
 
 
 def option(*names: str, **kind: Any) -> Callable[[argparse.ArgumentParser], object]:
@@ -36,6 +39,7 @@ def flag(*names: str, help: str) -> Callable[[argparse.ArgumentParser], object]:
     return option(*names, action="store_true", help=help)
 
 
+INBOX = "inbox.org"
 FILE_OPTION = option("-f", "--file", metavar="FILE", help="the file; then every word is a heading or a title")
 AT_OPTION = option("--at", metavar="MOMENT",
                    help="the moment: 10:00, 'yesterday 17:00', -10m, '2026-07-01 10:00'; else now")
@@ -99,17 +103,36 @@ def top_parser() -> argparse.ArgumentParser:
     return parser
 
 
-def versioned(words: List[str]) -> List[str]:
-    """The words, with the second form of --porcelain as an option of its own: argparse takes no optional value that
-    stands behind an equals sign alone."""
-    return [{"--porcelain=1": "--porcelain", "--porcelain=2": "--porcelain-2"}.get(word, word) for word in words]
+# what argparse sees in front of a word that begins with a minus and is no option
+_KEPT = "\0"
+# a date or a moment that begins with a minus, and the options that take one
+_BACK = re.compile(r"--?(?:\d+(?:[dwmyh]|min)?|\d*(?:mon|tue|wed|thu|fri|sat|sun)[a-z]*)(?: .*)?", re.IGNORECASE)
+_DATED = ("--at", "--from", "--before", "--after", "--scheduled", "--deadline")
 
 
-def words_of(parser: argparse.ArgumentParser, options: argparse.Namespace, given: List[str]) -> List[str]:
-    """Reads the options of a subcommand, wherever they stand before a '--', and answers the words that are left."""
+def prepared(words: List[str], signed: bool) -> List[str]:
+    """The words as argparse takes them for what they are: `--porcelain=2` as an option of its own, a date that begins
+    with a minus behind the equals sign of its option; where it is signed, no other word with a minus is an option."""
+    found: List[str] = []
+    for word in words:
+        if found and found[-1] in _DATED and _BACK.fullmatch(word):
+            found[-1] += "=" + word
+        elif word in ("--porcelain=1", "--porcelain=2"):
+            found.append("--porcelain" if word.endswith("1") else "--porcelain-2")
+        elif signed and re.match(r"-[^-]|--\d", word) and word not in ("-f", "-C", "-q", "-h"):
+            found.append(_KEPT + word)
+        else:
+            found.append(word)
+    return found
+
+
+def words_of(parser: argparse.ArgumentParser, options: argparse.Namespace, given: List[str],
+             signed: bool = False) -> List[str]:
+    """Reads the options of a subcommand, wherever they stand before a '--', and answers the words that are left. Where
+    it is signed, a minus begins none but -f, -C, -q and -h."""
     cut = given.index("--") if "--" in given else len(given)
-    _, words = parser.parse_known_args(versioned(given[:cut]), options)
+    _, words = parser.parse_known_args(prepared(given[:cut], signed), options)
     unknown = [word for word in words if word.startswith("-") and word != "-"]
     if unknown:
         parser.error("unknown option %s" % unknown[0])
-    return words + given[cut + 1:]
+    return [word[len(_KEPT):] if word.startswith(_KEPT) else word for word in words] + given[cut + 1:]

@@ -172,7 +172,8 @@ def show(run: Run) -> int:
             return name, (), text
         return name, found[0].heading.path, text[found[0].heading.start:found[0].heading.end]
 
-    name, path, text = run.with_headings([place] if place else [], act)
+    name, path, text = run.with_headings([place] if place else [], act,
+                                         also=lambda found: [file] if file else [])
     if run.report.as_json:
         run.report.say("", reply="text", file=name, path=list(path), **text_field(text))
     else:

@@ -2,18 +2,20 @@
 from __future__ import annotations
 
 import argparse
+import contextlib
 import datetime
 import functools
 import os
 from dataclasses import dataclass
-from typing import Any, Callable, Dict, List, Optional, Sequence, Tuple, TypeVar
+from typing import Any, Callable, Dict, Iterable, Iterator, List, Optional, Sequence, Tuple, TypeVar
 
 from ..commands import Done
-from ..errors import CannotWrite, Refused
+from ..errors import CannotRead, CannotWrite, Refused
 from ..folder import Folder
 from ..heading import States
 from ..journal import JOURNAL
-from ..lines import titles
+from ..lines import steps
+from ..names import ARCHIVE, own_name
 from ..settings import SETTINGS, settings
 from ..store import Store
 from .entries import FILE_LINE, LISTED, Ambiguous, Entry, Place, choose, named, names_file
@@ -74,6 +76,8 @@ class Run:
     options: argparse.Namespace
     words: List[str]
     report: Report
+    said: str = ""
+    """What was said of the command that is done."""
 
     @functools.cached_property
     def folder(self) -> Folder:
@@ -92,7 +96,7 @@ class Run:
             name, self.options.file = self.options.file, None
             return existing(self.folder, name)
         if self.words and names_file(self.words[0]):
-            if len(self.words) > 1 or os.path.basename(self.words[0]) in self.folder.names():
+            if len(self.words) > 1 or self.folder.has(os.path.basename(self.words[0])):
                 return existing(self.folder, self.words.pop(0))
         return None
 
@@ -102,12 +106,12 @@ class Run:
             raise Usage("an empty HEADING; name one that has no title by its FILE:LINE")
         line, listed = FILE_LINE.fullmatch(word), LISTED.fullmatch(word)
         found = listed or line
-        if found and names_file(found[1]) and file_of(self.folder, found[1]) in self.folder.names():
+        if found and names_file(found[1]) and self.folder.has(file_of(self.folder, found[1])):
             name = file_of(self.folder, found[1])
             if file is not None and name != file:
                 raise Usage("%s isn't in %s" % (shown(word), file))
             if listed:
-                return Place(name, listed[2], path=titles(listed[2], strict=False))
+                return Place(name, listed[2], path=steps(listed[2], strict=False))
             if line:
                 return Place(name, line[0], line=int(line[2]), stood=line[3] or "", listed=line[4] or "")
         return Place(file, word)
@@ -140,27 +144,65 @@ class Run:
         return refusal(refused.name, message, file, path)
 
     def with_headings(self, places: List[Place], act: Callable[[Store, List[Entry]], Result],
-                      new: Sequence[str] = ()) -> Result:
-        """Finds the headings, opens the store with the states of the first one's file, finds them again under its
-        lock, and acts; it asks with the store closed."""
+                      new: Sequence[str] = (), also: Callable[[List[Entry]], List[str]] = lambda found: [],
+                      whole: bool = False) -> Result:
+        """Finds the headings, opens a store on their files, the new ones and what else `also` names, finds them again
+        under its lock, and acts; it asks with the store closed. The states are those of the first heading's file."""
+        while True:
+            found = self.choose_headings(places)
+            more = (name for name in also(found) if self.folder.has(own_name(name)))
+            names = list(dict.fromkeys(map(own_name, [*(entry.file for entry in found), *new, *more])))
+            states = found[0].outline.states if found else self.folder.states
+            only = names or self.folder.names(archives=False)[:1] or None  # a clock that doesn't run is in no file
+            with self.folder.open(new=new, states=states, only=only, whole=whole) as store:
+                now = [find(self.folder, Place(entry.file, path=entry.heading.steps)) for entry in found]
+                missed = [name for name in map(own_name, also(now)) if name not in names and self.folder.has(name)]
+                if missed or now and now[0].outline.states != states:
+                    continue  # another program wrote in between
+                with waiting(store), self.recording(names):
+                    return act(store, now)
+
+    def choose_headings(self, places: List[Place]) -> List[Entry]:
+        """The headings at places; where several fit one, it asks at a terminal."""
         while True:
             try:
-                found = [find(self.folder, place) for place in places]
-                states = found[0].outline.states if found else self.folder.states
-                with self.folder.open(new=new, states=states) as store:
-                    found = [find(self.folder, place) for place in places]
-                    if found and found[0].outline.states != states:
-                        continue
-                    with waiting(store):
-                        return act(store, found)
+                return [find(self.folder, place) for place in places]
             except Ambiguous as several:
                 if not at_terminal():
                     raise several.refused() from None
                 places = [choose(several) if place == several.place else place for place in places]
 
+    @contextlib.contextmanager
+    def recording(self, names: Iterable[str]) -> Iterator[None]:
+        """Keeps what is changed within it in some files and their archives, for `orgs undo`."""
+        if self.options.command in ("show", "time"):
+            yield
+            return
+        files = [file for name in names for file in (name, name + ARCHIVE)]
+        before = {file: self.folder.read(file) for file in files}
+        try:
+            yield
+        finally:
+            self.keep(before)
+
+    def keep(self, before: Dict[str, bytes]) -> None:
+        """Keeps what became of files since they had these bytes, for `orgs undo`."""
+        try:
+            after = {file: self.folder.read(file) for file in before}
+        except CannotRead:
+            return  # the command is done all the same
+        if after == before:
+            return
+        from ..undo import Log, Record, differences  # not needed by what only reads
+
+        changes = [change for file in before for change in differences(file, before[file], after[file])]
+        at = datetime.datetime.now().strftime("%Y-%m-%d %H:%M")
+        Log(self.folder.path).add(Record(at, self.options.command, self.said, changes))
+
     def done(self, done: Done, text: str, **fields: Any) -> int:
         """Says what was done: from here on the run ends well."""
         self.report.acknowledged = True
+        self.said = text
         self.report.say(text, reply="ok", command=self.options.command, accepted=done.accepted, safe=done.safe,
                         **fields)
         return OK

@@ -2,8 +2,10 @@
 from __future__ import annotations
 
 import os
-from typing import List, Optional, Tuple
+import sys
+from typing import Any, Dict, List, Optional, Tuple
 
+from ..commands import Todo
 from ..errors import CannotRead, Refused
 from ..folder import Folder
 from ..section import BLANKS, planning
@@ -11,33 +13,84 @@ from ..store import Store
 from .entries import Entry, Place
 from .parsing import AT_OPTION, FILE_OPTION, NAMING, Command
 from .run import Run, check_state
-from .stops import Usage
+from .stops import OK, Stop, Usage
 
 
 def change_state(run: Run, place: Place, wanted: Optional[str]) -> int:
     """Gives a heading a state, else the first done one of its file, and says which one it has then."""
-    moment = run.moment
-
     def act(store: Store, found: List[Entry]) -> int:
         entry = found[0]
-        path, states = entry.heading.path, entry.outline.states
-        state = states.done[0] if wanted is None else wanted
-        if state:
-            check_state(state, states)
+        command = command_of(run, store, entry, wanted)
         try:
-            done = store.todo(entry.file, entry.path(store.states), state, moment=moment)
+            done = store.todo(command.file, command.path, command.state, moment=command.moment)
         except Refused as refused:
-            raise run.refused(refused, entry.file, path) from None
-        # only a task that repeats gets another state than the one that was asked for
+            raise run.refused(refused, entry.file, entry.heading.path) from None
         run.report.acknowledged = True
-        now = state_now(run.folder, entry) if state in states.done else None
-        keyword, dates = now or (state, "")
-        says = keyword or "no state"
-        if keyword != state:
-            says = "%s, and %s again, %s" % (state, keyword, dates)
-        return run.done(done, "%s: %s" % (entry.name, says), file=entry.file, path=list(path), state=keyword)
+        says, fields = said_of(run, entry, command.state or "")
+        return run.done(done, says, **fields)
 
     return run.with_headings([place], act)
+
+
+def change_states(run: Run, places: List[Place], wanted: Optional[str]) -> int:
+    """Gives several headings a state: all of them, or none, as one step for those whose files have the same states."""
+    found = {(entry.file, entry.number): entry for entry in run.choose_headings(places)}
+    groups: Dict[str, List[Entry]] = {}
+    for entry in found.values():
+        groups.setdefault(str(entry.outline.states), []).append(entry)
+
+    def act(store: Store, entries: List[Entry]) -> int:
+        commands = [command_of(run, store, entry, wanted) for entry in entries]
+        try:
+            store.many(commands)
+        except Refused as refused:
+            stop = run.refused(refused, refused.file, refused.path)
+            fields = {**stop.fields, "message": "%s; nothing was changed" % stop}
+            raise Stop(stop.status, fields.pop("message"), **fields) from None
+        run.report.acknowledged = True
+        run.said = "%s: %s" % (run.options.command, ", ".join(entry.name for entry in entries))
+        for entry, command in zip(entries, commands):
+            says, named = said_of(run, entry, command.state or "")
+            run.report.say(says, reply="ok", command=run.options.command, accepted=store.accepted,
+                           safe=store.acknowledged, **named)
+        return OK
+
+    for entries in groups.values():
+        run.with_headings([Place(entry.file, path=entry.heading.steps) for entry in entries], act, whole=True)
+    return OK
+
+
+def command_of(run: Run, store: Store, entry: Entry, wanted: Optional[str]) -> Todo:
+    """The command that gives an entry a state, else the first done one of its file."""
+    states = entry.outline.states
+    state = states.done[0] if wanted is None else wanted
+    if state:
+        check_state(state, states)
+    return Todo(entry.file, entry.path(store.states), state, run.moment)
+
+
+def said_of(run: Run, entry: Entry, state: str) -> Tuple[str, Dict[str, Any]]:
+    """What is said of an entry that got a state, and the fields of its object."""
+    # only a task that repeats gets another state than the one that was asked for
+    now = state_now(run.folder, entry) if state in entry.outline.states.done else None
+    keyword, dates = now or (state, "")
+    says = keyword or "no state"
+    if keyword != state:
+        says = "%s, and %s again, %s" % (state, keyword, dates)
+    return "%s: %s" % (entry.name, says), {"file": entry.file, "path": list(entry.heading.path), "state": keyword}
+
+
+def take_places(run: Run) -> List[Place]:
+    """All headings that the words name; - is a list of them on standard input, a name a line."""
+    file = run.take_file()
+    words: List[str] = []
+    for word in run.words:
+        lines = os.fsdecode(sys.stdin.buffer.read()).split("\n") if word == "-" else [word]
+        words += [line.rstrip("\r") for line in lines if word != "-" or line.strip()]
+    run.words = []
+    if not words:
+        raise Usage("no HEADING")
+    return [run.place_of(word, file) for word in words]
 
 
 def state_now(folder: Folder, entry: Entry) -> Optional[Tuple[str, str]]:
@@ -52,9 +105,8 @@ def state_now(folder: Folder, entry: Entry) -> Optional[Tuple[str, str]]:
 
 def done(run: Run) -> int:
     """`orgs done`."""
-    place = run.take_place()
-    run.no_more_words()
-    return change_state(run, place, None)
+    places = take_places(run)
+    return change_state(run, places[0], None) if len(places) == 1 else change_states(run, places, None)
 
 
 def todo(run: Run) -> int:
@@ -62,16 +114,19 @@ def todo(run: Run) -> int:
     if len(run.words) < 2:
         raise Usage("todo takes a HEADING and a STATE; '' is no state")
     state = run.words.pop()
-    place = run.take_place()
-    run.no_more_words()
-    return change_state(run, place, state)
+    places = take_places(run)
+    return change_state(run, places[0], state) if len(places) == 1 else change_states(run, places, state)
 
+
+SEVERAL = " Several are one step; - reads their names from standard input, one a line."
 
 COMMANDS = {
     "done": Command(
-        "[FILE] HEADING", "marks an entry as done", done, NAMING + " A task that repeats gets its next date.",
-        "orgs done work.org 'Pay rent'", (FILE_OPTION, AT_OPTION)),
+        "[FILE] HEADING..|-", "marks entries as done", done,
+        NAMING + SEVERAL + " A task that repeats gets its next date.",
+        "orgs done work.org 'Pay rent'\norgs ls --todo --porcelain | fzf -m | orgs done -", (FILE_OPTION, AT_OPTION)),
     "todo": Command(
-        "[FILE] HEADING STATE", "changes an entry's state", todo, NAMING + " An empty STATE, '', takes the state away.",
+        "[FILE] HEADING..|- STATE", "changes the state of entries", todo,
+        NAMING + SEVERAL + " An empty STATE, '', takes the state away.",
         "orgs todo work.org 'Pay rent' WAIT", (FILE_OPTION, AT_OPTION)),
 }
