@@ -317,26 +317,3 @@ def lisp(value: object) -> str:
 def call(name: str, *values: object) -> str:
     """A call of a function in Lisp."""
     return "(%s)" % " ".join([name, *map(lisp, values)])
-
-
-def emacs_target(command: Command) -> str:
-    """The target of a capture, as `org-capture-templates` has it."""
-    kind = {"top": "file", "head": "file+headline", "path": "file+olp", "date": "file+olp+datetree"}[command.target]
-    return "(list '%s %s)" % (kind, " ".join(map(lisp, (command.file, *command.under))))
-
-
-def emacs_form(command: Command, lines: Dict[Tuple[str, Path], int], stale: bool) -> str:
-    """The form for a command, whose headings are at these lines; with `stale` its buffer isn't read again."""
-    now = "(setq year-now (encode-time (list 0 %d %d %d %d %d nil -1 nil)))" % (
-        command.moment.minute, command.moment.hour, command.moment.day, command.moment.month, command.moment.year)
-    if command.word == "capture":
-        first, text = lisp(command.place == "first"), lisp(command.entry.rstrip("\n"))
-        return "(progn %s (year-capture %s %s %s))" % (now, emacs_target(command), first, text)
-    if command.word == "clock-out":
-        return '(progn %s (year-visit "inbox.org") (orgstore-clock-out))' % now
-    at = call("year-at", command.file, lines[command.file, command.path] + 1, stale)
-    what = {"todo": call("orgstore-todo", command.state), "archive": "(orgstore-archive-subtree)",
-            "clock-in": "(orgstore-clock-in)"}.get(command.word, "")
-    if command.word == "refile":
-        what = call("year-refile", command.into, lines[command.into, command.under] + 1, command.place == "first")
-    return "(progn %s %s %s)" % (now, at, what)

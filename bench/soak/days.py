@@ -17,7 +17,7 @@ from typing import Callable, Counter, List, Optional, Sequence, Tuple
 from soak import clients
 from soak.clients import ACCEPTED, NO_MEMORY, SOME_REFUSAL, Emacs, Outcome, call
 from soak.judge import Judge, Wrong, census, marks
-from soak.model import Command, Files, Heading, Path, Refused, execute, outline, running, terminated
+from soak.model import Command, Files, Refused, execute, outline, running, terminated
 from soak.people import FOREIGN, Edit, Person
 from soak.room import STORE_FAULTS, Room
 
@@ -294,78 +294,59 @@ class Year:
         """The files as they are when Emacs has saved all."""
         return {**self.state.files, **{name: terminated(text) for name, text in self.unsaved.items()}}
 
-    def _emacs_command(self) -> Optional[Tuple[Command, Files]]:
-        """A command that Emacs can be given at a heading, and the files where its buffers are saved."""
+    def _emacs_step(self) -> Optional[Tuple[str, Files, Files]]:
+        """What a command would change: its name, and these files before and after it. Emacs is to do that in its
+        buffers, as one step."""
         files = self._bases()
         command = self.person.command(files, self._moment())
-        paths = [(command.file, command.path)] + ([(command.into, command.under)] if command.into else [])
-        # Org itself takes tabs out of a template.
-        if "\t" in command.entry or any(path and first_at(files, name, path) is None for name, path in paths):
+        after = after_all(files, command)
+        if after is None:
             self._drop_entry(command)
             return None
-        return command, files
+        changed = [name for name in sorted(after) if after[name] != files[name]]
+        return told([command]), {name: files[name] for name in changed}, {name: after[name] for name in changed}
 
     def emacs_command(self) -> None:
-        """A command in Emacs."""
-        found = self._emacs_command()
+        """A step in Emacs."""
+        found = self._emacs_step()
         if found is None:
             return
-        command, files = found
+        what, before, after = found
         trouble = self._trouble(15)
-        stale = self._may_be_stale(command)
-        self._step("Emacs, %s%s: %s" % (trouble or "well", ", in its old buffer" if stale else "", told([command])))
-        error = self.emacs.ask(form_of(files, command, stale))
+        self._step("Emacs, %s: %s" % (trouble or "well", what))
+        error = self.emacs.ask(step_form(before, after))
+        self.room.disarm()
+        self._settle_emacs(before, after, error, trouble)
+
+    def _settle_emacs(self, before: Files, after: Files, error: Optional[str], trouble: str) -> None:
+        """Judges what a step in Emacs came to. Where it failed, the user saves its buffers."""
         if error:
             self._step("  Emacs says: %s" % error)
-        self.room.disarm()
-        if trouble and error:
-            self._after_trouble(error)
-        self._settle_emacs(command, files, error, trouble)
-
-    def _after_trouble(self, error: str) -> None:
-        """What the user does where something went wrong."""
-        kind = "kills" if "killed" in error else "faults"
-        self.state.counts[kind] += 1
-        said = self.room.reopen()
-        if said:
-            raise Wrong("the store doesn't open again: %s" % said)
-        self.emacs.ask("(orgstore-forget-fault)")
-
-    def _may_be_stale(self, command: Command) -> bool:
-        """Whether the command may be given in a buffer as it is, since its file only became longer behind it."""
-        seen, place = self.seen.get(command.file), first_at(self.state.files, command.file, command.path)
-        if command.word not in ("todo", "archive", "clock-in") or seen is None or place is None:
-            return False
-        return (command.file not in self.unsaved and self.state.files[command.file].startswith(seen)
-                and place.line < len(outline(seen).lines) and self.numbers.randrange(2) == 0)
-
-    def _settle_emacs(self, command: Command, files: Files, error: Optional[str], trouble: str) -> None:
-        """Judges what a command in Emacs came to."""
-        after = after_all(files, command)
-        if not trouble and bool(error) != (after is None):
-            raise Wrong("%s in Emacs: %s" % (command, error or "it wasn't refused, but is so by the model"))
-        saved = self._saved_now()
-        before = {**self.state.files, **{name: files[name] for name in saved}}
-        done = self._with_unsaved(before, files, after) if after is not None else before
-        candidates = [before] if after is None or error and not trouble else [before, done] if error else [done]
-        number = self.judge.settle(self.state.files, candidates)
-        if candidates[number] is not done or after is None:
-            self._drop_entry(command)
+            self._after_error(before, after, error, trouble)
+        saved = {name: text for name, text in self._bases().items() if name in self._saved_now()}
+        done = {**self.state.files, **saved, **after}
+        self.judge.settle(self.state.files, [done])
         self.unsaved = {name: text for name, text in self.unsaved.items() if name not in saved}
-        self.state.files = candidates[number]
+        self.state.files = done
         self.state.done += 1
         self.state.counts["Emacs"] += 1
-        self.state.counts["refused"] += after is None
         self._judge_buffers()
         time.sleep(TICK)
 
-    def _with_unsaved(self, before: Files, files: Files, after: Files) -> Files:
-        """The files after a command, where some buffers that it doesn't name aren't saved."""
-        changed = {name: text for name, text in after.items() if text is not files[name]}
-        for name in changed:
-            if name in self.unsaved and name not in self._saved_now():
-                raise Wrong("the command changed %s, whose buffer wasn't saved" % name)
-        return {**before, **changed}
+    def _after_error(self, before: Files, after: Files, error: str, trouble: str) -> None:
+        """What the user does where a step failed. It changed all of its files or none, and its buffers are modified."""
+        if not trouble:
+            raise Wrong("a step in Emacs: %s" % error)
+        self.state.counts["locked" if trouble == "locked" else "kills" if "killed" in error else "faults"] += 1
+        said = self.room.reopen() if trouble != "locked" else None
+        if said:
+            raise Wrong("the store doesn't open again: %s" % said)
+        done = {**self.state.files, **after}
+        if self.judge.settle(self.state.files, [self.state.files, done]) == 1:
+            for name in after:
+                self._ask(call("year-revert", name))
+        elif after:
+            self._ask(call("year-save", min(after)))
 
     def _saved_now(self) -> List[str]:
         """The files whose changes Emacs has saved."""
@@ -497,14 +478,14 @@ class Year:
     def _locked_emacs(self) -> None:
         """It closes meanwhile: Emacs waits for it."""
         self.state.counts["locked"] += 1
-        found = self._emacs_command()
+        found = self._emacs_step()
         if found:
-            command, files = found
-            self._step("Emacs, while it is open: %s" % told([command]))
-            error = self.emacs.ask(form_of(files, command, False))
+            what, before, after = found
+            self._step("Emacs, while it is open: %s" % what)
+            error = self.emacs.ask(step_form(before, after))
             # It waits for two seconds, in which a busy machine may not come to close the other store.
-            late = "locked" if error and "Another store is open" in error else ""
-            self._settle_emacs(command, files, error, late)
+            late = "locked" if error and "another store is open" in error else ""
+            self._settle_emacs(before, after, error, late)
 
     def full_disk(self) -> None:
         """The disk is full for a while."""
@@ -533,7 +514,7 @@ class Year:
         self._step("lines: %s" % told([other]))
         self._settle("lines", [other], clients.by_lines(self.room, [other]), False)
         path = outline(self.state.files[name]).path(heading)
-        error = self.emacs.ask("(progn %s (orgstore-todo \"WAIT\"))" % call("year-at", name, heading.line + 1, True))
+        error = self.emacs.ask(call("year-todo", name, heading.line + 1, "WAIT"))
         self._step("Emacs, todo of %s: %s" % (path, error))
         if not error:
             raise Wrong("Emacs did a command on %s, which was changed on the disk and in its buffer" % name)
@@ -543,17 +524,24 @@ class Year:
         self._judge_buffers()
 
     def emacs_killed(self) -> None:
-        """Emacs is killed in the middle of a command."""
+        """Emacs is killed in the middle of a step."""
         self._save(list(self.unsaved))
-        found = self._emacs_command()
+        found = self._emacs_step()
         if found is None:
             return
-        command, files = found
-        after = self.numbers.uniform(0, 0.03)
-        self._step("Emacs is killed after %.4f s: %s" % (after, told([command])))
-        self.emacs.kill_in(form_of(files, command, False), after)
+        what, before, after = found
+        wait = self.numbers.uniform(0, 0.03)
+        self._step("Emacs is killed after %.4f s: %s" % (wait, what))
+        self.emacs.kill_in(step_form(before, after), wait)
         self.seen = {}
-        self._settle("Emacs", [command], Outcome(end="killed", said="Emacs"), True)
+        self._judge_end(Outcome(end="killed", said="Emacs"), True)
+        done = {**self.state.files, **after}
+        if self.judge.settle(self.state.files, [self.state.files, done]) == 0:
+            self.person.drop(sorted(marks(after) - marks(before)))
+        else:
+            self.state.files = done
+        self.state.done += 1
+        self.state.counts["Emacs"] += 1
         self.emacs.start()
 
 
@@ -580,25 +568,21 @@ def digest_of(text: str) -> str:
     return hashlib.md5(text.encode("utf-8", "surrogateescape")).hexdigest()
 
 
-def first_at(files: Files, name: str, path: Path) -> Optional[Heading]:
-    """The first heading with a path, also where it has twins."""
-    if name not in files or not path:
-        return None
-    tree = outline(files[name])
-    alike = (heading for heading in tree.headings if heading.title == path[-1])
-    return next((heading for heading in alike if tree.path(heading) == path), None)
-
-
-def form_of(files: Files, command: Command, stale: bool) -> str:
-    """The form for Emacs."""
-    places = ((command.file, command.path), (command.into, command.under))
-    return clients.emacs_form(command, {(name, path): found.line for name, path in places
-                                        if path and (found := first_at(files, name, path))}, stale)
-
-
 def edit_form(edit: Edit) -> str:
     """An edit as Emacs does it."""
     return call("year-edit", edit.file, edit.start, edit.end, "".join(line + "\n" for line in edit.lines))
+
+
+def step_form(before: Files, after: Files) -> str:
+    """The form for a step that makes the files what they are after it."""
+    edits = []
+    for name in sorted(after):
+        old, new = before[name].split("\n"), after[name].split("\n")
+        front = len(os.path.commonprefix([old, new]))
+        back = len(os.path.commonprefix([old[front:][::-1], new[front:][::-1]]))
+        lines = new[front:len(new) - back]
+        edits.append([name, front, len(old) - back, "".join(line + "\n" for line in lines)])
+    return call("year-step", *edits)
 
 
 def edited(files: Files, edit: Edit) -> str:

@@ -1,4 +1,4 @@
-;;; unsaved.el --- A fault built in: no buffer is saved before a command  -*- lexical-binding: t; -*-
+;;; unsaved.el --- A fault built in: some saves aren't done  -*- lexical-binding: t; -*-
 
 ;; SPDX-License-Identifier: MIT OR Apache-2.0
 
@@ -12,9 +12,15 @@
 
 (require 'orgstore)
 
-(defun orgstore--save-first (_name)
-  "Leave the current buffer as it is, and let nobody notice."
-  (set-buffer-modified-p nil))
+(defun unsaved-write (write entries)
+  "Do WRITE with ENTRIES, but where one file alone gains an entry of the person's."
+  (if (and (null (cdr entries))
+           (seq-some (lambda (it) (string-match-p "k[0-9]\\{6\\}" (nth 2 it)))
+                     (orgstore--entry-edits (car entries))))
+      (setf (orgstore--entry-done (car entries)) t)
+    (funcall write entries)))
+
+(advice-add 'orgstore--write-folder :around #'unsaved-write)
 
 (provide 'unsaved)
 ;;; unsaved.el ends here

@@ -18,7 +18,6 @@
 
 (require 'cl-lib)
 (require 'org)
-(require 'org-capture)
 (require 'org-clock)
 (require 'org-lint)
 (require 'orgstore)
@@ -35,8 +34,6 @@
   "Set what a person would have set, and let nothing ask."
   (setq orgstore-directory year-notes
         orgstore-program (getenv "YEAR_PROGRAM")
-        orgstore-check-settings nil
-        orgstore-undo-directory (expand-file-name "undo/" (getenv "YEAR_ROOM"))
         user-emacs-directory (expand-file-name "emacs.d/" (getenv "YEAR_ROOM"))
         org-directory year-notes
         org-todo-keywords '((sequence "TODO" "WAIT" "|" "DONE" "CANCELLED"))
@@ -54,8 +51,9 @@
         coding-system-for-write nil
         large-file-warning-threshold nil)
   (prefer-coding-system 'utf-8-unix)
+  ;; Where a file changed on the disk it isn't saved.
   (dolist (it '(y-or-n-p yes-or-no-p))
-    (fset it (lambda (&rest _) t)))
+    (fset it (lambda (prompt &rest _) (not (string-match-p "changed since visited" prompt)))))
   (fset 'ask-user-about-supersession-threat #'ignore)
   (fset 'org-current-time (lambda (&rest _) (or year-now (current-time))))
   (add-to-list 'auto-mode-alist '("\\.org_archive\\'" . org-mode))
@@ -95,8 +93,9 @@
   (condition-case err
       (progn (eval form t) (year-line "done"))
     ((error quit) (year-line "error" (year-base64 (error-message-string err)))))
-  (pcase-dolist (`(,buffer . ,name) (orgstore--buffers year-notes))
-    (year-tell buffer name))
+  (dolist (buffer (buffer-list))
+    (when-let* ((place (orgstore--place buffer)))
+      (year-tell buffer (cdr place))))
   (year-line "end"))
 
 (defun year-loop ()
@@ -127,30 +126,11 @@
     (unless (<= (point-min) pos (point-max)) (widen))
     (goto-char pos)))
 
-(defun year-at (name line &optional stale)
-  "Go to LINE of the file NAME; with STALE, in its buffer as it is."
-  (if (and stale (find-buffer-visiting (expand-file-name name year-notes)))
-      (switch-to-buffer (find-buffer-visiting (expand-file-name name year-notes)))
-    (year-visit name))
-  (year-goto line))
-
-(defun year-marker (name line)
-  "Return a marker at LINE of the file NAME."
-  (save-current-buffer
-    (save-window-excursion
-      (year-visit name)
-      (org-with-wide-buffer (year-goto line) (point-marker)))))
-
-(defun year-capture (target prepend text)
-  "Capture TEXT to TARGET, as in `org-capture-templates', first with PREPEND."
-  (let ((org-capture-templates `(("k" "key" entry ,target ,text :immediate-finish t :prepend ,prepend))))
-    (orgstore-capture nil "k")))
-
-(defun year-refile (name line first)
-  "Refile the entry at point below that at LINE of the file NAME, as its FIRST child."
-  (let ((org-reverse-note-order first)
-        (target (year-marker name line)))
-    (orgstore-refile nil target)))
+(defun year-todo (name line state)
+  "Give the entry at LINE of the buffer of the file NAME, as it is, this STATE."
+  (switch-to-buffer (find-buffer-visiting (expand-file-name name year-notes)))
+  (year-goto line)
+  (org-todo state))
 
 (defun year-edit (name from to text)
   "In the file NAME put TEXT in place of the lines from FROM to before TO, counted from 0."
@@ -162,6 +142,10 @@
    (delete-region (point) (save-excursion (forward-line (- to from)) (point)))
    (insert text))
   (undo-boundary))
+
+(defun year-step (&rest edits)
+  "Do EDITS, lists of the arguments of `year-edit', as one step."
+  (orgstore-as-step (lambda () (dolist (it edits) (apply #'year-edit it)))))
 
 (defun year-save (name)
   "Save the buffer of the file NAME."

@@ -1,331 +1,410 @@
-;;; orgstore-step.el --- One command as one step -*- lexical-binding: t; -*-
+;;; orgstore-step.el --- Commands as steps  -*- lexical-binding: t; -*-
 
 ;; SPDX-License-Identifier: MIT OR Apache-2.0
 
-;; This file is not part of GNU Emacs.
-
 ;;; Commentary:
 
-;; What all commands share: run lines over the store and refresh the buffers,
-;; have the user tell twins apart, find the headings of a region, and bring
-;; statistics cookies up to date.
+;; A step is a function call within which served buffers aren't saved, and at whose
+;; end all that it changed are saved together.  Where it ends in an error or a quit
+;; nothing is written, and the buffers are left as Org leaves them; they are bound
+;; then, so that none of them is saved without the others.
+;;
+;; A command that isn't called as a step, and changed several served buffers, is
+;; made one behind it.
 
 ;;; Code:
 
 (require 'cl-lib)
 (require 'seq)
-(require 'bookmark)
-(require 'org)
-(require 'orgstore-files)
-(require 'orgstore-process)
-(require 'orgstore-paths)
-(require 'orgstore-buffers)
-(require 'orgstore-undo)
+(require 'orgstore-save)
 
-(defcustom orgstore-after-command-hook nil
-  "Hook run after an accepted command, when all buffers agree with the files.
-It is run in the buffer of the command."
-  :type 'hook
-  :group 'orgstore)
+(defvar org-capture-mode)
+(defvar org-log-note-how)
+(declare-function org-capture-get "org-capture" (prop &optional local))
+(declare-function org-agenda-redo "org-agenda" (&optional all))
 
-(defconst orgstore--garbage (* 256 1024 1024)
-  "How much may be allocated in a step before garbage is collected.
-Large files are read and compared in one; collecting in between would take
-longer than all the rest.")
+;;;; Steps
 
-(cl-defun orgstore--do (root lines &key names states group new removed
-                             progress)
-  "Run LINES over the store at ROOT and make the buffers agree.
-NAMES are the files that they may change, and may make.  STATES, GROUP, NEW and
-PROGRESS are as in `orgstore--run'.  REMOVED is nil or a list with a pair of
-markers for each line: what the command takes out.  Return the replies; a
-refusal of a lone line is an error."
-  (let* ((gc-cons-threshold (max gc-cons-threshold orgstore--garbage))
-         (buffer (current-buffer))
-         (kept (and names (orgstore--keep root names (orgstore--say lines))))
-         replies)
-    (setq orgstore--last-change nil)
-    (unwind-protect
-        (setq replies (orgstore--run root lines :states states :group group
-                                     :new (or new
-                                              (orgstore--absent root names))
-                                     :progress progress))
-      (unless (or (member root orgstore--faults)
-                  ;; It couldn't be opened again, and the files may be torn.
-                  (and (null replies) (orgstore--gate-open-p root)))
-        (orgstore--reload-all
-         root names
-         (lambda (name)
-           (let ((copy (and kept (orgstore--kept-copy kept name))))
-             (and copy (file-exists-p copy) copy)))
-         (cl-loop for pair in removed
-                  for reply in replies
-                  when (eq (car reply) 'ok) collect pair))
-        ;; The command is done, whatever comes of its copies.
-        (when kept
-          (condition-case err (orgstore--keep-end kept)
-            (file-error (message "orgstore: the copies aren't in order: %s"
-                                 (error-message-string err)))))))
-    (pcase replies
-      (`((refused . ,_)) (user-error "%s" (orgstore--refusal (car replies))))
-      (`((fault . ,_))
-       (user-error "The store ran out of memory; nothing was changed")))
-    (when (and (buffer-live-p buffer) (assq 'ok replies))
-      (with-current-buffer buffer (run-hooks 'orgstore-after-command-hook)))
-    replies))
+(defvar orgstore--pending nil
+  "A step that is written with the note which Org logs behind the command.")
 
-(defun orgstore--say (lines)
-  "Return words on LINES, for the user."
-  (let ((words (replace-regexp-in-string
-                "\t\\|\\\\[nts\\]"
-                (lambda (it) (pcase it ("\\s" "/") ("\\\\" "\\") (_ " ")))
-                (decode-coding-string (string-trim (car lines)) 'utf-8)
-                t t)))
-    (concat (truncate-string-to-width words 70 nil nil "...")
-            (if (cdr lines) (format " and %d more" (length (cdr lines))) ""))))
+(cl-defstruct (orgstore--step (:constructor orgstore--step-make)
+                              (:copier nil))
+  "A step.
+The MARKS are those of all buffers at its start, or t where what changed doesn't
+matter; TEXTS are of those that were modified then, DEPTH is its recursion depth.
+SAVES are buffers whose saving was put off, KILLS those to be killed at its end,
+MADE files that were made empty."
+  marks texts depth saves kills made)
 
-;;;; Twins
+(defun orgstore--marks ()
+  "Return a mark for each buffer that visits a file."
+  (let (marks)
+    (dolist (it (buffer-list) marks)
+      (when (buffer-file-name it)
+        (push (with-current-buffer it (orgstore--mark)) marks)))))
 
-(defun orgstore--jump (marker)
-  "Go to the heading at MARKER.  A question that is asked meanwhile is ended."
-  (if (active-minibuffer-window)
-      (progn (run-at-time 0 nil #'orgstore--jump marker)
-             (abort-recursive-edit))
-    (pop-to-buffer (marker-buffer marker))
+(defun orgstore--growth (buffer mark)
+  "Return how much BUFFER has grown since MARK, its own or nil.
+Where it didn't change, or is saved, return nil."
+  (pcase-let ((`(,_ ,tick . ,size) mark))
+    (and (buffer-live-p buffer)
+         (buffer-file-name buffer)
+         (buffer-modified-p buffer)
+         (not (equal tick (buffer-chars-modified-tick buffer)))
+         (- (buffer-size buffer) (or size 0)))))
+
+(defun orgstore--changed (before served)
+  "Return the changed buffers as pairs with their growth since BEFORE.
+They are those of served files with SERVED, else those of others."
+  (let (changed)
+    (dolist (it (and (listp before) (buffer-list)) (nreverse changed))
+      (when-let* ((growth (orgstore--growth it (assq it before)))
+                  ((if (orgstore--place it) served (not served))))
+        (push (cons it growth) changed)))))
+
+(defun orgstore--text ()
+  "Return the whole text of this buffer."
+  (save-restriction
     (widen)
-    (goto-char marker)
-    (funcall (if (fboundp 'org-fold-show-context) 'org-fold-show-context
-               'org-show-context)
-             'link-search)))
+    (buffer-substring-no-properties (point-min) (point-max))))
 
-(defun orgstore--show-headings (words items)
-  "Show WORDS, and below them a line with a button for each of ITEMS.
-They are pairs of a marker at a heading and what to say of it, or nil."
-  (with-current-buffer (get-buffer-create "*orgstore headings*")
-    (let ((inhibit-read-only t))
-      (erase-buffer)
-      (insert words "\n\n")
-      (pcase-dolist (`(,marker . ,more) items)
-        (insert-text-button
-         (with-current-buffer (marker-buffer marker)
-           (org-with-wide-buffer
-            (goto-char marker)
-            (format "%s:%d: %s" (buffer-name) (line-number-at-pos nil t)
-                    (buffer-substring-no-properties
-                     (point) (line-end-position)))))
-         'follow-link t
-         'action (lambda (_) (orgstore--jump marker)))
-        (insert (if more (concat "\n    " more "\n") "\n"))))
-    (special-mode)
-    (goto-char (point-min))
-    (display-buffer (current-buffer))))
+(defun orgstore--begin ()
+  "Return a step that begins."
+  (let ((marks (orgstore--marks)) texts)
+    (pcase-dolist (`(,it . ,_) marks)
+      (when (and (buffer-modified-p it) (orgstore--place it))
+        (with-current-buffer it
+          (push (cons it (orgstore--text)) texts)
+          (setf (orgstore--watch-step (orgstore--start-watch))
+                (orgstore--span)))))
+    (orgstore--step-make :marks marks :texts texts :depth (recursion-depth))))
 
-(defun orgstore--free-title (title positions words)
-  "Return TITLE with a number that none of its siblings has.
-They are those of the headings at POSITIONS.  WORDS are the states."
-  (let* ((outline (orgstore--outline words))
-         (parent (aref (seq-find (lambda (it) (= (aref it 0) (car positions)))
-                                 outline)
-                       4))
-         (taken (cl-loop for heading across outline
-                         when (equal (aref heading 4) parent)
-                         collect (aref heading 3)))
-         (n 2))
-    (while (member (format "%s (%d)" title n) taken)
-      (setq n (1+ n)))
-    (format "%s (%d)" title n)))
+(defun orgstore--renew (step)
+  "Have STEP begin anew, after what it changed was written or bound."
+  (let ((new (orgstore--begin)))
+    (setf (orgstore--step-marks step) (orgstore--step-marks new)
+          (orgstore--step-texts step) (orgstore--step-texts new)
+          (orgstore--step-saves step) nil
+          (orgstore--step-made step) nil)))
 
-(defun orgstore--title-at (pos words)
-  "Return the title of the heading at POS.  WORDS are the states."
+(defun orgstore--step-buffers (step)
+  "Return the served buffers that STEP changed or would have saved."
+  (seq-uniq (append (mapcar #'car (orgstore--changed
+                                   (orgstore--step-marks step) t))
+                    (reverse (orgstore--step-saves step)))
+            #'eq))
+
+(defun orgstore--abandon (step)
+  "Have nothing of STEP be written now; what it changed is saved together."
+  (dolist (file (orgstore--step-made step))
+    (when (equal 0 (file-attribute-size (file-attributes file)))
+      (delete-file file)
+      (when-let* ((buffer (get-file-buffer file)))
+        (with-current-buffer buffer (clear-visited-file-modtime)))))
+  (setf (orgstore--step-made step) nil)
+  (orgstore--bond (orgstore--step-buffers step)))
+
+(defun orgstore--save-gainers (step)
+  "Save the files beside the store that gained text which STEP takes from it.
+They are written before, so that a crash doubles text and never loses it."
+  (when (seq-some (lambda (it) (< (cdr it) 0))
+                  (orgstore--changed (orgstore--step-marks step) t))
+    (pcase-dolist (`(,buffer . ,growth)
+                   (orgstore--changed (orgstore--step-marks step) nil))
+      (with-current-buffer buffer
+        (when (and (> growth 0) (derived-mode-p 'org-mode))
+          (save-buffer))))))
+
+;;;; What is written later
+
+(defun orgstore--note-comes-p ()
+  "Whether Org is to log a note that needs no text, after this command.
+It is written with the command then, by the step of `org-store-log-note'."
+  (and (assq (recursion-depth) orgstore--commands)
+       (memq 'org-add-log-note (default-value 'post-command-hook))
+       (memq org-log-note-how '(time state))))
+
+(defun orgstore--capture-open-p (buffers)
+  "Whether a capture into one of BUFFERS is open."
+  (and (boundp 'org-capture-mode)
+       (seq-some (lambda (it)
+                   (and (buffer-base-buffer it)
+                        (buffer-local-value 'org-capture-mode it)
+                        (memq (buffer-base-buffer it) buffers)))
+                 (buffer-list))))
+
+;;;; Calling a step
+
+(defun orgstore--end (step)
+  "Write what STEP changed."
+  (save-match-data
+    (let* ((orgstore--step nil)
+           (buffers (orgstore--step-buffers step))
+           whole)
+      (unwind-protect
+          (cond
+           ((orgstore--note-comes-p) (setq orgstore--pending step))
+           ;; That is written with the capture.
+           ((and (bound-and-true-p org-capture-mode)
+                 (null (orgstore--step-saves step))
+                 (equal buffers (list (orgstore--base)))))
+           (t (orgstore--save-gainers step)
+              (orgstore--save-together buffers (orgstore--step-texts step))
+              (setq whole t)))
+        (unless whole (orgstore--abandon step))))))
+
+(defun orgstore--end-capture (step)
+  "Write what STEP, a call of `org-capture', changed.
+Where a capture buffer is left open, that is written with the capture."
+  (let ((buffers (orgstore--step-buffers step)))
+    (if (orgstore--capture-open-p buffers)
+        (orgstore--abandon step)
+      (orgstore--end step))))
+
+(defun orgstore--call (end function args)
+  "Call FUNCTION with ARGS as a step, at whose end the function END is called.
+Within another step it is part of that one."
+  (if orgstore--step
+      (apply function args)
+    (let ((step (or orgstore--pending (orgstore--begin))) whole result)
+      (setq orgstore--pending nil)
+      (unwind-protect
+          (progn
+            (let ((orgstore--step step))
+              (setq result (apply function args)
+                    whole t))
+            (funcall end step)
+            result)
+        (unless whole (orgstore--abandon step))
+        (dolist (it (orgstore--step-kills step))
+          (when (and (buffer-live-p it) (not (buffer-modified-p it)))
+            (kill-buffer it)))
+        (orgstore--mark-command)))))
+
+;;;###autoload
+(defun orgstore-as-step (function &rest args)
+  "Call FUNCTION with ARGS as one step over all served files.
+The buffers of these files aren't saved within it, and are saved together at its
+end, before this returns its value.  Where it ends in an error or a quit nothing
+is written: the buffers are as FUNCTION left them, and none of them is saved
+without the others.
+
+Steps may be nested: then the outermost is the step."
+  (orgstore--call #'orgstore--end function args))
+
+(defun orgstore--as-capture (function &rest args)
+  "Call FUNCTION, which is `org-capture', with ARGS as a step."
+  (orgstore--call #'orgstore--end-capture function args))
+
+(defun orgstore--captured ()
+  "Write a finished capture, so that the user's functions find it on the disk.
+This is the first function of `org-capture-after-finalize-hook'."
+  (when orgstore--step
+    (if (org-capture-get :no-save)
+        (orgstore--abandon orgstore--step)
+      (orgstore--end orgstore--step))
+    (orgstore--renew orgstore--step)))
+
+;;;; Saves within a step
+
+(defun orgstore--make-empty ()
+  "Make the file of this buffer, whose save is put off, where it isn't there.
+`org-archive-subtree' puts a header into an archive whose file isn't there yet.
+To the program an empty file is none."
+  (unless (or (file-exists-p buffer-file-name)
+              (not (file-directory-p (file-name-directory buffer-file-name))))
+    (write-region "" nil buffer-file-name nil 'quiet)
+    (set-visited-file-modtime)
+    (push buffer-file-name (orgstore--step-made orgstore--step))))
+
+(defun orgstore--typed-p ()
+  "Whether this is called by what the user does while the step asks something."
+  (let ((depth (recursion-depth)))
+    (and (> depth (orgstore--step-depth orgstore--step))
+         (assq depth orgstore--commands))))
+
+(defun orgstore--save (save &rest args)
+  "Do SAVE, which is `basic-save-buffer', with ARGS.
+The save of a served buffer within a step is put off.  One that the user does
+at a prompt of the step writes all that it changed by then."
+  (let ((base (orgstore--base)))
+    (cond
+     ((or (eq base orgstore--saving)
+          (not (orgstore--place base))
+          (not (orgstore--to-save-p base)))
+      (apply save args))
+     ((null orgstore--step)
+      (orgstore--save-together (list base)))
+     (t
+      (cl-pushnew base (orgstore--step-saves orgstore--step))
+      (with-current-buffer base (orgstore--make-empty))
+      (when (orgstore--typed-p)
+        (orgstore--end orgstore--step)
+        (orgstore--renew orgstore--step))))))
+
+(defun orgstore--save-some (save &rest args)
+  "Do SAVE, which is `save-some-buffers', with ARGS, as a step.
+Where the user quits, what he had saved by then is saved.  Buffers whose files
+changed on the disk, of which Emacs will ask, aren't part of the step."
+  (if orgstore--step (apply save args)
+    (let ((step (orgstore--step-make :marks t :depth (recursion-depth))))
+      (unwind-protect
+          (let ((orgstore--step step)) (apply save args))
+        (let* ((saves (reverse (orgstore--step-saves step)))
+               (these (seq-filter #'verify-visited-file-modtime saves)))
+          (orgstore--save-together these)
+          (dolist (it (seq-difference saves these #'eq))
+            (orgstore--save-together (list it))))))))
+
+(defun orgstore--kill-query ()
+  "Whether this buffer may be killed now: its save may have been put off."
+  (not (and orgstore--step
+            (memq (current-buffer) (orgstore--step-saves orgstore--step))
+            (buffer-modified-p)
+            (cl-pushnew (current-buffer)
+                        (orgstore--step-kills orgstore--step)))))
+
+;;;; Other commands
+
+(defvar orgstore--kill nil "The newest kill before the command.")
+
+(defvar orgstore--failed nil "Whether the command ended in an error.")
+
+(defvar orgstore--cut nil
+  "What was last cut from a served buffer: (BUFFER . TITLE), or nil.")
+
+(defun orgstore--mark-command ()
+  "Forget what the command changed until now."
+  (when-let* ((command (assq (recursion-depth) orgstore--commands)))
+    (setcdr command nil)))
+
+(defun orgstore--before-command ()
+  "Note how things are before a command."
+  (let ((depth (recursion-depth)))
+    (unless orgstore--step (setq orgstore--pending nil))
+    (setq orgstore--failed nil
+          orgstore--kill (car kill-ring)
+          orgstore--commands
+          (cons (list depth)
+                (seq-filter (lambda (it) (< (car it) depth))
+                            orgstore--commands)))))
+
+(defun orgstore--command-error (&rest _)
+  "Note that the command ended in an error or a quit."
+  (setq orgstore--failed t))
+
+(defun orgstore--note-cut (buffer growth)
+  "Note a cut from BUFFER, and bind it to one into which that is pasted.
+GROWTH tells by how much the last command let BUFFER grow."
+  (let ((kill (car kill-ring)))
+    (cond
+     ((and (< growth 0) kill (not (eq kill orgstore--kill))
+           (string-match "^\\*+[ \t]+\\(.*\\)" kill))
+      (setq orgstore--cut
+            (cons buffer (substring-no-properties (match-string 1 kill)))))
+     ((and (> growth 0) orgstore--cut
+           (not (eq buffer (car orgstore--cut)))
+           (buffer-live-p (car orgstore--cut))
+           (buffer-modified-p (car orgstore--cut))
+           (with-current-buffer buffer
+             (save-excursion
+               (save-restriction
+                 (widen)
+                 (goto-char (point-min))
+                 (search-forward (cdr orgstore--cut) nil t)))))
+      (orgstore--bond (list buffer (car orgstore--cut)))))))
+
+(defun orgstore--note-undo (buffer)
+  "Bind BUFFER, if its part of the last step was undone, to the step's others.
+They may have been undone too."
+  (when (and (symbolp this-command)
+             (string-match-p "undo" (symbol-name this-command)))
+    (let ((files (mapcar #'car (cdar orgstore--history))))
+      (when (member (buffer-file-name buffer) files)
+        (orgstore--bond
+         (cons buffer
+               (seq-filter (lambda (it) (and it (not (eq it buffer))
+                                             (buffer-modified-p it)))
+                           (mapcar #'get-file-buffer files))))))))
+
+(defun orgstore--together (buffers)
+  "Save BUFFERS, which one command changed, or bind them where that fails."
+  (if orgstore--failed (orgstore--bond buffers)
+    ;; An error would take the function off the hook.
+    (condition-case err
+        (orgstore--save-together buffers)
+      ((error quit)
+       (orgstore--bond (seq-filter #'buffer-modified-p buffers))
+       (message "%s" (error-message-string err))))))
+
+(defun orgstore--after-command ()
+  "Make a step of a command that changed several served buffers."
+  (let ((command (assq (recursion-depth) orgstore--commands)) changed)
+    (setq orgstore--commands (delq command orgstore--commands))
+    (unless orgstore--step
+      (dolist (mark (cdr command))
+        (when-let* ((growth (orgstore--growth (car mark) mark)))
+          (push (cons (car mark) growth) changed))))
+    (pcase changed
+      ('nil nil)
+      (`((,buffer . ,growth))
+       (orgstore--note-cut buffer growth)
+       (orgstore--note-undo buffer))
+      (_ (orgstore--together (mapcar #'car changed))))))
+
+;;;; Undo, by the edits of bytes that saves and steps wrote
+
+(defun orgstore--put-text (text)
+  "Have this buffer be TEXT, by a change as small as can be."
   (save-excursion
-    (goto-char pos)
-    (nth 1 (orgstore--here-parts words))))
+    (save-restriction
+      (widen)
+      (pcase-let ((`(,front . ,back) (orgstore--trim (orgstore--text) text))
+                  (inhibit-read-only t))
+        (narrow-to-region (+ (point-min) front) (- (point-max) back))
+        (replace-region-contents
+         (point-min) (point-max)
+         (lambda () (substring text front (- (length text) back)))
+         1)))))
 
-(defun orgstore--mend-twins (hidden words)
-  "Have the user give another title to a heading that has twins.
-HIDDEN is as in `orgstore--hidden', of the current buffer; WORDS are the
-states.  Where none is given it is an error."
-  (let* ((on (copy-marker (car hidden)))
-         (title (orgstore--title-at on words))
-         (why (format "“%s” stands more than once under one heading \
-(lines %s)" title
-                      (mapconcat (lambda (it)
-                                   (number-to-string (line-number-at-pos it t)))
-                                 (cdr hidden) ", ")))
-         (new ""))
-    (unless noninteractive
-      (save-window-excursion
-        (orgstore--show-headings
-         (concat why ".\nA path can't tell them apart.")
-         (mapcar (lambda (it) (list (copy-marker it))) (cdr hidden)))
-        (condition-case nil
-            (setq new (string-trim
-                       (read-string
-                        (format "%s.  Title for that in line %d: " why
-                                (line-number-at-pos on t))
-                        (orgstore--free-title title (cdr hidden) words))))
-          ;; C-g is no title.
-          (quit nil))))
-    (when (member new (list "" title))
-      (unless noninteractive (display-buffer "*orgstore headings*"))
-      (user-error "%s: give one of them another title, and try again" why))
-    ;; Other commands may have been done while it was asked for.
-    (unless (equal title (orgstore--title-at on words))
-      (user-error "“%s” isn't there any more: try again" title))
-    (orgstore--retitle on words new)))
+(defun orgstore--undone (file edits)
+  "Return (BUFFER . TEXT): the text of FILE before EDITS, and its buffer."
+  (with-current-buffer (find-file-noselect file)
+    (when (or (buffer-modified-p) (not (verify-visited-file-modtime)))
+      (user-error "Save or revert %s first" (buffer-name)))
+    (let ((bytes (orgstore--patched (orgstore--bytes file)
+                                    (orgstore--reversed edits))))
+      (unless bytes
+        (user-error "%s was changed there since that step" (buffer-name)))
+      (cons (current-buffer)
+            (decode-coding-string bytes (or buffer-file-coding-system
+                                            'undecided))))))
 
-(defun orgstore--call-unique (headings words function)
-  "Call FUNCTION, and again where a refusal as not unique was mended.
-HEADINGS are markers at the headings that it names, and WORDS the states."
-  (let (value done)
-    (while (not done)
-      (condition-case err
-          (setq value (funcall function)
-                done t)
-        (user-error
-         (unless (and (stringp (cadr err))
-                      (eq 5 (get-text-property 0 'orgstore-code (cadr err)))
-                      (seq-some
-                       (lambda (marker)
-                         (with-current-buffer (orgstore--base-of marker)
-                           (org-with-wide-buffer
-                            (let ((hidden (orgstore--hidden
-                                           (orgstore--heading marker) words)))
-                              (when hidden
-                                (orgstore--mend-twins hidden words)
-                                t)))))
-                       headings))
-           (signal (car err) (cdr err))))))
-    value))
-
-(defmacro orgstore--unique (headings words &rest body)
-  "Do BODY; where twins are in its way have one renamed, and do it again.
-HEADINGS are markers at the headings that BODY names, WORDS the states."
-  (declare (indent 2) (debug t))
-  `(orgstore--call-unique ,headings ,words (lambda () ,@body)))
-
-;;;; Headings of a region
-
-(defun orgstore--region-headings (&optional tops)
-  "Return markers at the headings of the active region, or at that of point.
-With TOPS, those alone whose parent isn't in the region."
-  (if (not (and (use-region-p) org-loop-over-headlines-in-active-region))
-      (list (copy-marker (orgstore--heading)))
-    (let ((end (region-end)) first level found)
-      (save-excursion
-        (goto-char (region-beginning))
-        (beginning-of-line)
-        (while (< (point) end)
-          (let ((here (orgstore--level)))
-            (when here
-              (setq first (or first here))
-              (when (and (or (not tops) (null level) (<= here level))
-                         (or (not (eq org-loop-over-headlines-in-active-region
-                                      'start-level))
-                             (= here first)))
-                (push (copy-marker (point)) found)
-                (setq level here))))
-          (forward-line 1)))
-      (or (nreverse found) (user-error "No heading is in the region")))))
-
-(defun orgstore--extents (positions)
-  "Return a pair of markers round the subtree at each of POSITIONS."
-  (mapcar (lambda (pos)
-            (cons (orgstore--base-marker pos)
-                  (orgstore--base-marker (orgstore--subtree-end pos))))
-          positions))
-
-(defun orgstore--progress (words count)
-  "Return a function that reports how many of COUNT are done, with WORDS.
-It is nil for a few."
-  (when (> count 20)
-    (let ((reporter (make-progress-reporter words 0 count)))
-      (lambda (n) (progress-reporter-update reporter n)))))
-
-(defun orgstore--summary (what replies &optional markers)
-  "Tell how many of REPLIES to WHAT were accepted.
-MARKERS are at the headings of the replies; those refused are listed."
-  (let ((bad (cl-loop for reply in replies
-                      for marker in markers
-                      when (eq (car reply) 'refused)
-                      collect (cons marker (orgstore--refusal reply))))
-        (words (format "%s: %d of %d" what
-                       (seq-count (lambda (it) (eq (car it) 'ok)) replies)
-                       (length replies))))
-    (when bad (orgstore--show-headings (concat words ".  Refused were:") bad))
-    (message "%s%s" words (if bad "; see *orgstore headings*" ""))))
-
-;;;; Afterwards
-
-(defconst orgstore--cookie "\\[\\(?:[0-9]*%\\|[0-9]*/[0-9]*\\)\\]"
-  "What a statistics cookie is.")
-
-(defun orgstore--cookies-above (pos &optional own)
-  "Return the heading lines above that at POS, as one string.
-With OWN its line is among them.  Nil where none has a statistics cookie."
-  (save-excursion
-    (goto-char pos)
-    (beginning-of-line)
-    (let ((level (orgstore--level)) lines)
-      (when own
-        (push (buffer-substring-no-properties pos (line-end-position)) lines))
-      (while (and level (> level 1)
-                  (setq level (orgstore--previous-heading level)))
-        (push (buffer-substring-no-properties (point) (line-end-position))
-              lines))
-      (let ((text (string-join lines "\n")))
-        (and (string-match-p orgstore--cookie text) text)))))
-
-(defun orgstore--cookies-p ()
-  "Whether a heading of this buffer, which is widened, has a cookie."
-  (save-excursion
-    (goto-char (point-min))
-    (re-search-forward (concat "^\\*+ .*" orgstore--cookie) nil t)))
-
-(defun orgstore--undo-join ()
-  "Have one undo take back the last command and what is edited next.
-This is so where the command changed the current buffer."
-  (when (and orgstore--last-change
-             (eq (marker-buffer orgstore--last-change) (current-buffer)))
-    (while (and (consp buffer-undo-list) (null (car buffer-undo-list)))
-      (pop buffer-undo-list))))
-
-(defun orgstore--update-cookies (root name positions &optional own)
-  "Bring the statistics cookies above POSITIONS up to date, as Org does.
-With OWN, those in the headings there.  Then save the buffer, of the file NAME
-of ROOT, where that changed it: this is no part of the step."
-  (when org-provide-todo-statistics
-    (with-current-buffer (orgstore--base)
-      (orgstore--undo-join)
-      (org-with-wide-buffer
-       (let (tried changed)
-         ;; Looking above each of many takes longer than through the buffer.
-         (dolist (pos (and (or (null (nthcdr 20 positions))
-                               (orgstore--cookies-p))
-                           positions))
-           (let ((before (orgstore--cookies-above pos own)))
-             (when before
-               (setq tried t)
-               (goto-char pos)
-               (if own (org-update-statistics-cookies nil)
-                 (org-update-parent-todo-statistics))
-               (unless (equal before (orgstore--cookies-above pos own))
-                 (setq changed t)))))
-         (undo-boundary)
-         (cond (changed (orgstore--save root name))
-               ;; Org writes the same cookie anew.
-               (tried (restore-buffer-modified-p nil))))))))
-
-(defun orgstore--bookmark (which)
-  "Set Org's bookmark WHICH at the last change, where a buffer has it."
-  (let ((name (plist-get org-bookmark-names-plist which)))
-    (when (and name orgstore--last-change
-               (marker-buffer orgstore--last-change))
-      (with-demoted-errors "Bookmark set error: %S"
-        (with-current-buffer (marker-buffer orgstore--last-change)
-          (org-with-wide-buffer
-           (goto-char orgstore--last-change)
-           (bookmark-set name)))))))
+;;;###autoload
+(defun orgstore-undo-last ()
+  "Take back what the last step or save wrote, in all its files, as one step.
+Called again it takes back the one before.  In each buffer that is a change
+which `undo' takes back."
+  (interactive)
+  (let* ((step (or (car orgstore--history)
+                   (user-error "There is no step to take back")))
+         (texts (mapcar (lambda (it) (orgstore--undone (car it) (cdr it)))
+                        (cdr step)))
+         (orgstore--keep-history nil))
+    (pcase-dolist (`(,buffer . ,text) texts)
+      (with-current-buffer buffer
+        (undo-boundary)
+        (orgstore--put-text text)
+        (undo-boundary)))
+    (orgstore--bond (mapcar #'car texts))
+    (orgstore--save-together (mapcar #'car texts))
+    (orgstore--mark-command)
+    (setq orgstore--history (cdr orgstore--history))
+    (when (derived-mode-p 'org-agenda-mode) (org-agenda-redo))
+    (message "Taken back, of %s: the change to %s"
+             (format-time-string "%H:%M:%S" (car step))
+             (mapconcat (lambda (it) (buffer-name (car it))) texts ", "))))
 
 (provide 'orgstore-step)
 ;;; orgstore-step.el ends here

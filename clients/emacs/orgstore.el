@@ -1,209 +1,145 @@
-;;; orgstore.el --- Org commands through a crash-safe store  -*- lexical-binding: t; -*-
+;;; orgstore.el --- Org's changes as crash-safe steps  -*- lexical-binding: t; -*-
 
 ;; Author: The orgstore developers
-;; Version: 0.1.0
+;; Version: 0.2.0
 ;; Package-Requires: ((emacs "28.1"))
 ;; Keywords: outlines, files, calendar
 ;; URL: https://zagwolem.example/orgstore
 ;; SPDX-License-Identifier: MIT OR Apache-2.0
 
-;; This file is not part of GNU Emacs.
-
 ;;; Commentary:
 
-;; `orgstore' is a program that captures, refiles, archives, changes TODO
-;; states and clocks in a folder of Org files, each command as one step that
-;; a crash can't tear.  This package makes Org's usual keys go through it.
+;; `orgstore' is a program that changes files of a folder in one step which no
+;; crash can tear.  This package has Emacs save Org files by it.
 ;;
 ;;   (setq orgstore-directory "~/notes" orgstore-program "/path/to/orgstore")
 ;;   (orgstore-global-mode 1)
 ;;
-;; One process is run for each command.  Between commands no store is open, so
-;; that Emacs may edit and save the files as ever.  Before a command the
-;; buffers that it may change are saved; after it they are made to agree with
-;; the files, by edits as small as can be, so that point, markers, folding,
-;; narrowing, indirect buffers and undo are kept.
+;; Org does each of its commands in the buffers, as ever.  What is new is how
+;; the buffers of served files get to the disk:
 ;;
-;; Outside of `orgstore-directory' every command is Org's own.
+;; - A save hands the difference between buffer and file to the program.
+;; - A command on entries, as `org-refile', is a step: the saves within it are put
+;;   off, and at its end all served buffers that it changed are saved together.
+;; - Buffers that belong together, since a step into them failed or text was cut
+;;   in one and pasted into the other, are bound: none is saved without the others.
 ;;
-;; The package has no public address yet: that in the head is of a domain
-;; which is reserved for examples.
+;; In Lisp, `orgstore-as-step' makes a step of any function.
+;;
+;; The URL in the head is of a domain that is reserved for examples.
 
 ;;; Code:
 
-(require 'easymenu)
-(require 'org)
-(require 'orgstore-files)
-(require 'orgstore-process)
-(require 'orgstore-buffers)
-(require 'orgstore-undo)
-(require 'orgstore-clock)
-(require 'orgstore-todo)
-(require 'orgstore-archive)
-(require 'orgstore-refile)
-(require 'orgstore-capture)
-(require 'orgstore-agenda)
-(require 'orgstore-check)
-(require 'orgstore-setup)
+(require 'seq)
+(require 'orgstore-program)
+(require 'orgstore-save)
+(require 'orgstore-step)
 
-(defconst orgstore-version "0.1.0"
-  "The version of this package and of the program that it was made with.")
+(autoload 'orgstore-setup "orgstore-setup" nil t)
+(autoload 'orgstore-status "orgstore-setup" nil t)
+(autoload 'orgstore-archive-done "orgstore-archive" nil t)
 
-;;;###autoload
-(defun orgstore-version ()
-  "Tell the version of this package."
-  (interactive)
-  (when (called-interactively-p 'interactive)
-    (message "orgstore %s" orgstore-version))
-  orgstore-version)
+;;;; Commands that are steps
 
-;;;; Keys
+(defun orgstore--advise-commands (commands on)
+  "With ON make each of COMMANDS a step, else make it what it was."
+  (dolist (it commands)
+    (if on (advice-add it :around #'orgstore-as-step)
+      (advice-remove it #'orgstore-as-step))))
 
-(defconst orgstore--commands
-  '((org-todo . orgstore-todo)
-    (org-shiftright . orgstore-shiftright)
-    (org-shiftleft . orgstore-shiftleft)
-    (org-shiftcontrolright . orgstore-shiftcontrolright)
-    (org-shiftcontrolleft . orgstore-shiftcontrolleft)
-    (org-refile . orgstore-refile)
-    (org-refile-reverse . orgstore-refile-reverse)
-    (org-archive-subtree . orgstore-archive-subtree)
-    (org-advertised-archive-subtree . orgstore-archive-subtree)
-    (org-archive-subtree-default . orgstore-archive-default)
-    (org-archive-subtree-default-with-confirmation
-     . orgstore-archive-default-with-confirmation)
-    (org-archive-all-done . orgstore-archive-all-done)
-    (org-clock-in . orgstore-clock-in)
-    (org-clock-in-last . orgstore-clock-in-last)
-    (org-clock-out . orgstore-clock-out))
-  "Org's commands, and those in their place in a buffer of a store.")
-
-(defconst orgstore--agenda-commands
-  '((org-agenda-todo . orgstore-agenda-todo)
-    (org-agenda-todo-nextset . orgstore-agenda-todo-nextset)
-    (org-agenda-todo-previousset . orgstore-agenda-todo-previousset)
-    (org-agenda-archive . orgstore-agenda-archive)
-    (org-agenda-archive-default . orgstore-agenda-archive-default)
-    (org-agenda-archive-default-with-confirmation
-     . orgstore-agenda-archive-default-with-confirmation)
-    (org-agenda-refile . orgstore-agenda-refile)
-    (org-agenda-clock-in . orgstore-agenda-clock-in)
-    (org-agenda-clock-out . orgstore-agenda-clock-out)
-    (org-agenda-capture . orgstore-agenda-capture)
-    (org-agenda-bulk-action . orgstore-agenda-bulk-action))
-  "The agenda's commands, and those in their place.")
-
-(defun orgstore--remap (commands)
-  "Return a keymap in which the keys of COMMANDS are those in their place."
-  (let ((map (make-sparse-keymap)))
-    (pcase-dolist (`(,from . ,to) commands)
-      (define-key map (vector 'remap from) to))
-    map))
-
-(defvar orgstore-mode-map (orgstore--remap orgstore--commands)
-  "Keys of `orgstore-mode'.")
-
-(defvar orgstore-agenda-mode-map (orgstore--remap orgstore--agenda-commands)
-  "Keys of `orgstore-agenda-mode'.")
-
-(defvar orgstore-global-mode-map
-  (orgstore--remap '((org-capture . orgstore-capture)
-                     (org-clock-in-last . orgstore-clock-in-last)
-                     (org-clock-out . orgstore-clock-out)))
-  "Keys of `orgstore-global-mode'.")
-
-(easy-menu-define orgstore-menu orgstore-mode-map
-  "Menu of `orgstore-mode'."
-  '("Store"
-    ["Change TODO state" orgstore-todo]
-    ["Refile" orgstore-refile]
-    ["Archive subtree" orgstore-archive-subtree]
-    ["Archive what is done..." orgstore-archive-done]
-    ["Clock in" orgstore-clock-in]
-    ["Clock out" orgstore-clock-out]
-    ["Time clocked here" orgstore-time]
-    "--"
-    ["Undo the last command..." orgstore-undo-last]
-    ["Status" orgstore-status]
-    ["Settings that differ from Org" orgstore-check]
-    ["Customize" (customize-group 'orgstore)]))
-
-(defun orgstore--speed (keys)
-  "Return the store's command for the speed key KEYS, or nil.
-Speed keys call commands by name, which no remapping sees."
-  (let ((command (org-speed-command-activate keys)))
-    (and (symbolp command)
-         (cdr (assq command orgstore--commands)))))
-
-;;;; Modes
-
-;;;###autoload
-(define-minor-mode orgstore-mode
-  "Have Org's commands in this buffer go through the store."
-  :lighter " Store"
+(defcustom orgstore-commands
+  '(org-todo org-todo-yesterday org-shiftright org-shiftleft
+    org-shiftcontrolright org-shiftcontrolleft org-priority org-priority-up
+    org-priority-down org-set-tags-command org-toggle-archive-tag
+    org-set-property org-delete-property org-delete-property-globally
+    org-set-effort org-inc-effort org-clock-modify-effort-estimate
+    org-toggle-ordered-property org-schedule org-deadline org-add-note
+    org-store-log-note org-refile org-refile-reverse org-refile-copy
+    org-archive-subtree org-archive-to-archive-sibling org-archive-set-tag
+    org-archive-subtree-default org-archive-subtree-default-with-confirmation
+    org-archive-all-done org-archive-all-old org-clock-in org-clock-in-last
+    org-clock-out org-clock-cancel org-resolve-clocks org-capture-finalize
+    org-capture-kill org-capture-refile org-columns-edit-value
+    org-columns-next-allowed-value org-columns-previous-allowed-value
+    org-agenda-todo org-agenda-todo-nextset org-agenda-todo-previousset
+    org-agenda-todo-yesterday org-agenda-add-note org-agenda-archive
+    org-agenda-archive-default org-agenda-archive-default-with-confirmation
+    org-agenda-archive-to-archive-sibling org-agenda-toggle-archive-tag
+    org-agenda-refile org-agenda-kill org-agenda-clock-in org-agenda-clock-out
+    org-agenda-clock-cancel org-agenda-schedule org-agenda-deadline
+    org-agenda-date-later org-agenda-date-earlier org-agenda-date-prompt
+    org-agenda-do-date-later org-agenda-do-date-earlier org-agenda-set-tags
+    org-agenda-set-property org-agenda-set-effort org-agenda-priority
+    org-agenda-priority-up org-agenda-priority-down org-agenda-diary-entry
+    org-agenda-bulk-action org-agenda-undo)
+  "The commands that are steps: what they change is saved at their end."
+  :type '(repeat function)
   :group 'orgstore
-  (if (not orgstore-mode)
-      (progn
-        (remove-hook 'org-speed-command-hook #'orgstore--speed t)
-        (with-current-buffer (orgstore--base)
-          (kill-local-variable 'file-precious-flag)
-          (remove-hook 'before-save-hook #'orgstore--guard-save t)))
-    (when (orgstore--why-not)
-      (setq orgstore-mode nil)
-      (user-error "%s" (orgstore--why-not)))
-    (add-hook 'org-speed-command-hook #'orgstore--speed -50 t)
-    (with-current-buffer (orgstore--base)
-      (add-hook 'before-save-hook #'orgstore--guard-save -90 t)
-      ;; Emacs's own saves too shall not leave half a file.
-      (unless (file-symlink-p buffer-file-name)
-        (setq-local file-precious-flag t)))
-    (let ((root (car (orgstore--here))))
-      ;; A change that was cut short leaves files half written.
-      (when (and (not (buffer-modified-p)) (orgstore--gate-open-p root))
-        (with-demoted-errors "orgstore: %S" (orgstore-recover root))))
-    (orgstore--warn-once)))
+  :set (lambda (symbol value)
+         (let ((on (bound-and-true-p orgstore-global-mode)))
+           (when (and on (boundp symbol))
+             (orgstore--advise-commands (default-value symbol) nil))
+           (set-default symbol value)
+           (when on (orgstore--advise-commands value t)))))
 
-(defun orgstore--turn-on ()
-  "Turn `orgstore-mode' on where the buffer's file is in a store."
-  (cond ((orgstore--here) (orgstore-mode 1))
-        ;; Encrypted, beside files that are served.
-        ((and buffer-file-name
-              (string-match-p "\\.org\\.[a-z]+\\'" buffer-file-name)
-              (orgstore--place (file-name-sans-extension buffer-file-name)))
-         (message "%s" (orgstore--why-not)))))
+;;;; The mode
 
-(define-minor-mode orgstore-agenda-mode
-  "Have the agenda's commands go through the store."
-  :lighter nil
-  :group 'orgstore)
+(defun orgstore--before-ids (&optional files &rest _)
+  "Have the folders of FILES, and of those with IDs, be whole.
+`org-id-update-id-locations' reads files by itself."
+  (dolist (it (seq-uniq (mapcar #'file-name-directory
+                                (append files
+                                        (bound-and-true-p org-id-files)))))
+    (orgstore--before-read (expand-file-name "a.org" it))))
+
+(defconst orgstore--advice
+  '((basic-save-buffer :around orgstore--save)
+    (save-some-buffers :around orgstore--save-some)
+    (find-file-noselect :before orgstore--before-read)
+    (org-id-update-id-locations :before orgstore--before-ids)
+    (org-capture :around orgstore--as-capture))
+  "The advice of `orgstore-global-mode' beside that of `orgstore-commands'.")
+
+(defconst orgstore--hooks
+  '((write-file-functions orgstore--write 100)
+    (find-file-hook orgstore--note-visit 100)
+    (before-revert-hook orgstore--before-read -100)
+    (after-revert-hook orgstore--note-visit 100)
+    (kill-buffer-query-functions orgstore--kill-query 100)
+    (pre-command-hook orgstore--before-command 0)
+    (post-command-hook orgstore--after-command 0)
+    (org-capture-after-finalize-hook orgstore--captured -100))
+  "The hooks of `orgstore-global-mode'.")
+
+(defun orgstore--turn (on)
+  "With ON have Emacs save served files by the store, else by itself."
+  (pcase-dolist (`(,function ,how ,advice) orgstore--advice)
+    (if on (advice-add function how advice)
+      (advice-remove function advice)))
+  (pcase-dolist (`(,hook ,function ,depth) orgstore--hooks)
+    (if on (add-hook hook function depth)
+      (remove-hook hook function)))
+  (if on (add-function :before command-error-function
+                       #'orgstore--command-error)
+    (remove-function command-error-function #'orgstore--command-error))
+  (orgstore--advise-commands orgstore-commands on))
 
 ;;;###autoload
 (define-minor-mode orgstore-global-mode
-  "Have Org's commands on files in `orgstore-directory' go through the store."
+  "Save the Org files in `orgstore-directory' by crash-safe steps."
   :global t
   :group 'orgstore
-  (when orgstore-global-mode
-    ;; The store writes no mode line into a new archive file.
-    (add-to-list 'auto-mode-alist '("\\.org_archive\\'" . org-mode))
-    (when (orgstore--problem)
-      (display-warning 'orgstore (orgstore--problem))))
-  (let ((act (if orgstore-global-mode #'add-hook #'remove-hook)))
-    (funcall act 'org-mode-hook #'orgstore--turn-on)
-    (funcall act 'org-agenda-mode-hook #'orgstore-agenda-mode)
-    (funcall act 'org-capture-prepare-finalize-hook
-             #'orgstore--capture-prepare)
-    (funcall act 'org-capture-after-finalize-hook #'orgstore--capture-after))
-  ;; Behind the user's own functions.
-  (if orgstore-global-mode
-      (add-hook 'org-capture-before-finalize-hook #'orgstore--capture-finalize
-                100)
-    (remove-hook 'org-capture-before-finalize-hook
-                 #'orgstore--capture-finalize))
-  (dolist (buffer (buffer-list))
-    (with-current-buffer buffer
-      (when (derived-mode-p 'org-mode)
-        (if orgstore-global-mode (orgstore--turn-on)
-          (when orgstore-mode (orgstore-mode -1)))))))
+  (orgstore--turn orgstore-global-mode)
+  (if (not orgstore-global-mode)
+      (mapc #'orgstore--end-watch (buffer-list))
+    (dolist (it (ensure-list orgstore-directory))
+      (orgstore--before-read (expand-file-name "a.org" it)))
+    (dolist (it (buffer-list))
+      (with-current-buffer it
+        (when buffer-file-name (orgstore--note-visit))))
+    (unless (executable-find orgstore-program)
+      (display-warning 'orgstore (format "There is no program %s: set \
+`orgstore-program', or do M-x orgstore-setup" orgstore-program)))))
 
 (provide 'orgstore)
 ;;; orgstore.el ends here

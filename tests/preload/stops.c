@@ -1,6 +1,7 @@
 // Preloaded into a program, it ends or fails one of its calls of the file system: the one whose number, from 1, is in
 // STOPS_AT. What happens there STOPS_HOW says:
 //   kill    the program is killed before the call; of a write the first half goes out first
+//   stop    the program is stopped before the call, as one that hangs
 //   full    this write and each later one fails, as on a full disk; only writes are counted
 // Where STOPS_DENIED names a file, opening it for writing fails, as it does for a user who may only read it.
 #include "open.h"
@@ -19,7 +20,7 @@ static int stops(int writes) {
     return is_how("full") ? writes && ++made >= at : ++made == at;
 }
 
-static void die(void) { kill(getpid(), SIGKILL); }
+static void die(void) { kill(getpid(), is_how("stop") ? SIGSTOP : SIGKILL); }
 
 static int denied(const char *path, int flags) {
     const char *name = getenv("STOPS_DENIED"), *last = strrchr(path, '/');
@@ -46,7 +47,7 @@ ssize_t pwrite(int file, const void *bytes, size_t size, off_t from) {
             errno = ENOSPC;
             return -1;
         }
-        real(file, bytes, size / 2, from);
+        if (!is_how("stop")) real(file, bytes, size / 2, from);
         die();
     }
     return real(file, bytes, size, from);

@@ -6,281 +6,434 @@
 
 ;;; Commentary:
 
-;; A test is done in a new folder of Org files, which is the store's, at a fixed
-;; minute.  Commands are called as users call them, by keys or by name, and files
-;; are read from the disk as bytes.
+;; A scenario is run twice over the same files: by a second Emacs without the mode,
+;; which saves all buffers after each command, and by this one with the mode.  The
+;; files that they leave have to be the same, byte for byte.  Within a scenario
+;; `ost-cmd' is a command: with the mode all served buffers have to be saved after
+;; it, by as many runs of the program as it names.
+;;
+;; `ost-alone' defines a test that is run with the mode alone.  Time and IDs stand
+;; still in all of them.
 ;;
 ;; The runner, tests/emacs, sets what the tests take from the environment:
-;; ORGSTORE_PROGRAM, the program, and ORGSTORE_STOPS, the preload library of
-;; tests/stops.c.  Without the latter the tests of kills and faults are skipped.
+;; ORGSTORE_PROGRAM, the program; ORGSTORE_STOPS, the preload library of
+;; tests/stops.c.  Each run of the program writes a line into a log.  The file
+;; `plan' says that the next run is to be ended at one of its calls: see `ost-plan'.
 
 ;;; Code:
 
 (require 'cl-lib)
 (require 'ert)
 (require 'seq)
-(require 'subr-x)
 (require 'org)
 (require 'org-agenda)
+(require 'org-archive)
+(require 'org-attach)
 (require 'org-capture)
 (require 'org-clock)
+(require 'org-datetree)
+(require 'org-id)
 (require 'org-refile)
-(require 'orgstore)
 
-(defvar orgstore-test-program (or (getenv "ORGSTORE_PROGRAM") "orgstore")
-  "The program that the tests run.")
+(defvar ost-plain (getenv "ORGSTORE_PLAIN")
+  "The file for what plain Org leaves, where this is plain Org, else nil.")
 
-(defvar orgstore-test-stops (getenv "ORGSTORE_STOPS")
-  "The library of tests/stops.c, or nil.")
+(unless ost-plain (require 'orgstore))
+(defvar orgstore-directory)
+(defvar orgstore-program)
+(defvar orgstore-timeout)
+(defvar orgstore--history)
+(defvar orgstore--bonds)
+(declare-function orgstore-global-mode "orgstore")
+(declare-function orgstore--find-program "orgstore-program")
+(declare-function orgstore--before-command "orgstore-step")
+(declare-function orgstore--after-command "orgstore-step")
 
-(defvar orgstore-test-dir nil "The folder of the test's store.")
+(defvar ost-program (getenv "ORGSTORE_PROGRAM") "The program that is tested.")
 
-(defvar orgstore-test-beside nil "A folder of the test's outside of the store.")
+(defvar ost-stops (or (getenv "ORGSTORE_STOPS") "")
+  "The library of tests/stops.c.  It is empty where the program needs none.")
 
-(defvar orgstore-test-now nil "What Org takes for the time.")
+(defconst ost-base
+  (file-name-as-directory
+   (or (getenv "ORGSTORE_TEST_DIR")
+       (file-truename (make-temp-file "orgstore-test-" t))))
+  "The folder for everything that tests make, the same one in both Emacsen.")
 
-(defconst orgstore-test-stamp "\\[[-0-9]+ [A-Z][a-z][a-z] [0-9:]+]"
-  "An inactive timestamp.")
+(defconst ost-dir (expand-file-name "notes/" ost-base) "The served folder.")
+
+(defconst ost-beside (expand-file-name "beside/" ost-base)
+  "A folder that isn't served.")
+
+(defvar ost-scenarios nil "Lists (NAME FILES FUNCTION), the last one first.")
+
+(defvar ost-file nil "The file that defines the scenarios.")
+
+(add-hook 'kill-emacs-hook (lambda () (delete-directory ost-base t)))
+
+;;;; Time and IDs stand still
+
+(defconst ost-now (encode-time '(0 5 10 1 7 2026 nil nil nil)))
+
+(defvar ost-ids 0 "How many IDs were made.")
+
+(advice-add 'current-time :override (lambda () ost-now))
+(advice-add 'format-time-string :around
+            (lambda (f format &optional time &rest more)
+              (apply f format (or time ost-now) more)))
+(advice-add 'float-time :around
+            (lambda (f &optional time) (funcall f (or time ost-now))))
+(advice-add 'org-id-new :override
+            (lambda (&rest _) (format "id-%d" (cl-incf ost-ids))))
+(advice-add 'org-id-locations-save :override #'ignore)
+
+;; Org 9.7 keeps what it knows of a file, and the next test has another one of that name.
+(defvar org-element-cache-persistent)
+(setq org-element-cache-persistent nil)
 
 ;;;; Files
 
-(defun orgstore-test-path (name)
-  "Return the file NAME of the store."
-  (expand-file-name name orgstore-test-dir))
+(defun ost-path (name)
+  "Return the file NAME of the served folder."
+  (expand-file-name name ost-dir))
 
-(defun orgstore-test-bytes (name)
-  "Return the bytes of the file NAME; of none, where it isn't there."
+(defun ost-bytes (file)
+  "Return the bytes of FILE, none where it isn't there."
   (with-temp-buffer
     (set-buffer-multibyte nil)
-    (when (file-exists-p (orgstore-test-path name))
-      (insert-file-contents-literally (orgstore-test-path name)))
+    (when (file-exists-p file) (insert-file-contents-literally file))
     (buffer-string)))
 
-(defun orgstore-test-disk (name)
-  "Return the text of the file NAME, which is UTF-8."
-  (decode-coding-string (orgstore-test-bytes name) 'utf-8-unix))
+(defun ost-disk (name)
+  "Return the bytes of the served file NAME."
+  (ost-bytes (ost-path name)))
 
-(defun orgstore-test-write (name text &optional coding)
-  "Write TEXT to the file NAME by CODING, else UTF-8, behind Emacs's back."
-  (let ((coding-system-for-write (or coding 'utf-8-unix))
-        (file (orgstore-test-path name)))
-    (write-region text nil file nil 'quiet)
-    ;; Two writes within one tick of the clock have one time.
-    (set-file-times file (time-add nil (+ 10 (random 100000))))))
+(defun ost-write (name text)
+  "Write TEXT to the served file NAME, behind Emacs's back."
+  (let ((coding-system-for-write
+         (if (multibyte-string-p text) 'utf-8-unix 'no-conversion))
+        (file (ost-path name)))
+    (make-directory (file-name-directory file) t)
+    (write-region text nil file nil 'quiet)))
 
-(defun orgstore-test-script (name &rest lines)
-  "Write a program NAME of these shell LINES, and return its file name."
-  (let ((file (expand-file-name name orgstore-test-beside)))
-    (write-region (concat "#!/bin/sh\n" (string-join lines "\n") "\n")
-                  nil file nil 'quiet)
-    (set-file-modes file #o755)
+(defun ost-tree (dir)
+  "Return the files of DIR with their bytes, without journals and empty files."
+  (let (found)
+    (dolist (file (directory-files-recursively dir "" nil))
+      (let ((bytes (ost-bytes file)))
+        (unless (or (equal bytes "")
+                    (string-match-p "orgstore\\.journal\\'" file))
+          (push (cons (file-relative-name file dir) bytes) found))))
+    (nreverse found)))
+
+(defun ost-differ (a b)
+  "Return the files that differ in the trees A and B: lists (NAME BYTES BYTES)."
+  (let ((a (apply #'append a)) (b (apply #'append b)))
+    (delq nil (mapcar (lambda (name)
+                        (let ((x (cdr (assoc name a))) (y (cdr (assoc name b))))
+                          (unless (equal x y) (list name x y))))
+                      (seq-uniq (append (mapcar #'car a) (mapcar #'car b)))))))
+
+;;;; The program
+
+(defun ost-program-file ()
+  "Return the script that runs the program, and notes each run."
+  (let ((file (expand-file-name "orgstore" ost-base)))
+    (unless (file-exists-p file)
+      (write-region
+       (format "#!/bin/sh
+echo \"$*\" >> '%slog'
+[ -e '%splan' ] || exec '%s' \"$@\"
+read -r how at < '%splan'
+[ \"${how%%!}\" != \"$how\" ] || rm '%splan'
+LD_PRELOAD='%s' STOPS_HOW=\"${how%%!}\" STOPS_AT=\"$at\" '%s' \"$@\"
+status=$?
+[ $status -ne 137 ] || { echo killed >> '%slog'; kill -9 $$; }
+exit $status
+" ost-base ost-base ost-program ost-base ost-base ost-stops ost-program ost-base)
+       nil file nil 'quiet)
+      (set-file-modes file #o755))
     file))
 
-(defun orgstore-test-stopping (at how &optional then)
-  "Return a program whose first run is stopped at the call AT, by HOW.
-With THEN the second is stopped at that call.  Each later one is the store's
-own.  See tests/stops.c."
-  (let ((stop (lambda (at name)
-                (list (format "if mkdir \"$0.%s\" 2> /dev/null; then" name)
-                      (format "    LD_PRELOAD='%s' STOPS_AT=%d STOPS_HOW=%s exec '%s' \"$@\""
-                              orgstore-test-stops at how orgstore-test-program)
-                      "fi"))))
-    (apply #'orgstore-test-script "stopping"
-           (append (funcall stop at "once")
-                   (and then (funcall stop then "twice"))
-                   (list (format "exec '%s' \"$@\"" orgstore-test-program))))))
+(defun ost-plan (how at)
+  "Have the next run of the program be ended at its call AT, by HOW.
+HOW is kill, stop or full as in tests/stops.c; with an exclamation mark behind
+it that is done at each run."
+  (write-region (format "%s %d\n" how at) nil (expand-file-name "plan" ost-base)
+                nil 'quiet))
 
-(defun orgstore-test-left ()
-  "Return the client's files that are left in the folder of temporary ones."
-  (seq-remove #'file-directory-p
-              (directory-files temporary-file-directory t "\\`orgstore-")))
+(defun ost-planned ()
+  "Return the file of the plan, which is gone when it was carried out."
+  (expand-file-name "plan" ost-base))
 
-(defun orgstore-test-timeless (name)
-  "Return a program that is the store's, and leaves the time of the file NAME.
-So it is where a command writes within one tick of the clock."
-  (orgstore-test-script
-   "timeless"
-   (format "touch -r \"$1/%s\" \"$0.time\"" name)
-   (format "'%s' \"$@\"; status=$?" orgstore-test-program)
-   (format "touch -r \"$0.time\" \"$1/%s\"; exit $status" name)))
+(defun ost-log ()
+  "Return what the runs of the program noted: a line each, and `killed'."
+  (split-string (ost-bytes (expand-file-name "log" ost-base)) "\n" t))
 
-;;;; The store
+(defun ost-runs ()
+  "Return how often the program was run."
+  (length (remove "killed" (ost-log))))
 
-(defun orgstore-test--close (before)
-  "Forget the clock, and kill all buffers but those of the list BEFORE."
-  (when (org-clocking-p)
-    (ignore-errors (org-clock-cancel))
-    (move-marker org-clock-marker nil)
-    (move-marker org-clock-hd-marker nil))
-  (dolist (buffer (seq-difference (buffer-list) before #'eq))
-    (when (buffer-live-p buffer)
-      (with-current-buffer buffer
-        (set-buffer-modified-p nil)
-        (let (kill-buffer-hook kill-buffer-query-functions)
-          (kill-buffer))))))
+(defun ost-killed ()
+  "Return how often it was killed."
+  (- (length (ost-log)) (ost-runs)))
 
-(defmacro orgstore-test-store (files &rest body)
-  "Do BODY with a store of FILES, an alist of names and texts."
+;;;; Commands
+
+(defun ost-served ()
+  "Return the buffers of served files."
+  (seq-filter (lambda (it)
+                (and (buffer-file-name it)
+                     (string-prefix-p ost-dir (buffer-file-name it))
+                     (string-match-p "\\.org\\(_archive\\)?\\'"
+                                     (buffer-file-name it))))
+              (buffer-list)))
+
+(defun ost-modified ()
+  "Return the buffers of served files that aren't saved."
+  (seq-filter #'buffer-modified-p (ost-served)))
+
+(defun ost-names (buffers)
+  "Return the names of BUFFERS."
+  (mapcar #'buffer-name buffers))
+
+(defun ost-logged ()
+  "Do what Org does behind a command: log a note that needs no text."
+  (when (and (memq 'org-add-log-note (default-value 'post-command-hook))
+             (memq org-log-note-how '(time state)))
+    (org-add-log-note)))
+
+(defun ost-captures ()
+  "Whether a capture is open."
+  (seq-some (lambda (it) (buffer-local-value 'org-capture-mode it))
+            (buffer-list)))
+
+(defvar ost-typed nil "The names of buffers into which text was typed.")
+
+(defun ost-command (steps function)
+  "Do FUNCTION as a command, which takes STEPS runs of the program, or any."
+  (let ((runs (ost-runs)) value)
+    (unless ost-plain (orgstore--before-command))
+    (setq value (funcall function))
+    (unless ost-plain (orgstore--after-command))
+    (ost-logged)
+    (if ost-plain (unless (ost-captures) (org-save-all-org-buffers))
+      (should-not (seq-difference (ost-names (ost-modified)) ost-typed))
+      (when steps (should (equal steps (- (ost-runs) runs)))))
+    value))
+
+(defmacro ost-cmd (steps &rest body)
+  "Do BODY as a command, which takes STEPS runs of the program, or any for nil."
   (declare (indent 1) (debug t))
-  (let ((before (gensym)))
-    `(let* ((orgstore-test-beside (file-name-as-directory
-                                   (file-truename (make-temp-file "test-" t))))
-            (orgstore-test-dir (expand-file-name "notes/" orgstore-test-beside))
-            (orgstore-test-now (encode-time 0 0 10 1 7 2026))
-            (orgstore-directory orgstore-test-dir)
-            (orgstore-program orgstore-test-program)
-            (orgstore-check-settings nil)
-            (user-emacs-directory (expand-file-name "emacs.d/" orgstore-test-beside))
-            (orgstore-undo-directory (expand-file-name "undo/" orgstore-test-beside))
-            (temporary-file-directory (expand-file-name "tmp/" orgstore-test-beside))
-            (org-directory orgstore-test-dir)
-            (org-agenda-files (list orgstore-test-dir))
-            (org-refile-targets '((org-agenda-files :maxlevel . 3)))
-            (org-refile-use-outline-path 'file)
-            (org-outline-path-complete-in-steps nil)
-            (org-clock-persist nil)
-            (org-todo-keywords '((sequence "TODO(t)" "WAIT(w)" "|"
-                                           "DONE(d)" "CANCELLED(c)")
-                                 (type "BUG" "|" "FIXED")))
-            (org-use-fast-todo-selection nil)
-            (org-log-done 'time)
-            (org-adapt-indentation nil)
-            (org-capture-templates nil)
-            (org-capture-bookmark nil)
-            (make-backup-files nil)
-            (enable-local-variables :safe)
-            (bookmark-default-file (expand-file-name "bookmarks" orgstore-test-beside))
-            (bookmark-save-flag nil)
-            (transient-mark-mode t)
-            (inhibit-message t)
-            (,before (buffer-list)))
-       (make-directory orgstore-test-dir)
-       (make-directory temporary-file-directory)
-       (unwind-protect
-           (progn
-             (pcase-dolist (`(,name . ,text) ,files)
-               (orgstore-test-write name text))
-             (orgstore-global-mode 1)
-             (cl-letf (((symbol-function 'org-current-time)
-                        (lambda (&rest _) orgstore-test-now)))
-               ,@body))
-         (orgstore-test--close ,before)
-         (orgstore-global-mode -1)
-         (orgstore-forget-fault)
-         (delete-directory orgstore-test-beside t)))))
+  `(ost-command ,steps (lambda () ,@body)))
 
-(defun orgstore-test-at (hour minute)
-  "Have it be HOUR and MINUTE of 1 July 2026."
-  (setq orgstore-test-now (encode-time 0 minute hour 1 7 2026)))
+(defun ost-open (name &optional title)
+  "Show the served file NAME, and go to TITLE in it."
+  (set-buffer (find-file-noselect (ost-path name)))
+  (switch-to-buffer (current-buffer))
+  (widen)
+  (goto-char (point-min))
+  (when title
+    (unless (re-search-forward (concat "^\\*+ .*" (regexp-quote title)) nil t)
+      (error "No %s in %s" title name))
+    (beginning-of-line))
+  (current-buffer))
 
-(defmacro orgstore-test-error (words &rest body)
-  "Check that BODY ends in a `user-error' with WORDS, a regular expression.
-Return its message."
-  (declare (indent 1) (debug t))
-  (let ((message (gensym)))
-    `(let ((,message (error-message-string
-                      (should-error (progn ,@body) :type 'user-error))))
-       (should (string-match-p ,words ,message))
-       ,message)))
+(defun ost-location (name target)
+  "Return the heading TARGET of the file NAME as `org-refile' wants it."
+  (list (or target name) (ost-path name) nil
+        (and target
+             (with-current-buffer (find-file-noselect (ost-path name))
+               (save-excursion
+                 (widen)
+                 (goto-char (point-min))
+                 (re-search-forward (concat "^\\*+ .*" (regexp-quote target)))
+                 (line-beginning-position))))))
 
-;;;; Buffers
-
-(defun orgstore-test-goto (title)
-  "Go to the line of the first heading with TITLE in it."
+(defun ost-refile (title name &optional target)
+  "Refile TITLE of this buffer below TARGET in the file NAME."
   (goto-char (point-min))
   (re-search-forward (concat "^\\*+ .*" (regexp-quote title)))
-  (beginning-of-line))
+  (org-refile nil nil (ost-location name target)))
 
-(defun orgstore-test-visit (name &optional title)
-  "Show the file NAME in the selected window, at the heading TITLE."
-  (switch-to-buffer (find-file-noselect (orgstore-test-path name)))
-  (buffer-enable-undo)
-  (when title (orgstore-test-goto title)))
+(defun ost-note (text)
+  "Answer Org's note buffer with TEXT."
+  (when (memq 'org-add-log-note (default-value 'post-command-hook))
+    (org-add-log-note))
+  (with-current-buffer "*Org Note*"
+    (goto-char (point-max))
+    (insert text)
+    (org-store-log-note)))
 
-(defun orgstore-test-marker (name title)
-  "Return a marker at the heading TITLE of the file NAME."
-  (with-current-buffer (find-file-noselect (orgstore-test-path name))
-    (org-with-wide-buffer
-     (orgstore-test-goto title)
-     (point-marker))))
+(defun ost-capture (key &rest typed)
+  "Capture by the template KEY, insert TYPED, and finish; call functions."
+  (org-capture nil key)
+  (dolist (it typed) (if (functionp it) (funcall it) (insert it)))
+  (when (bound-and-true-p org-capture-mode) (org-capture-finalize)))
 
-(defun orgstore-test-text (&optional buffer)
-  "Return the whole text of BUFFER, or of the current one."
-  (with-current-buffer (or buffer (current-buffer))
-    (org-with-wide-buffer
-     (buffer-substring-no-properties (point-min) (point-max)))))
+(defun ost-keys (keys)
+  "Type KEYS."
+  (execute-kbd-macro (kbd keys)))
 
-(defun orgstore-test-line ()
-  "Return the text of the line at point."
-  (buffer-substring-no-properties (line-beginning-position) (line-end-position)))
+(defun ost-move ()
+  "Move the first line of a.org to b.org."
+  (interactive)
+  (let ((text (with-current-buffer "a.org"
+                (goto-char (point-min))
+                (delete-and-extract-region (point) (line-beginning-position 2)))))
+    (with-current-buffer "b.org"
+      (goto-char (point-max))
+      (insert text))))
 
-(defun orgstore-test-agrees ()
-  "Check that each buffer of the store is unmodified and agrees with its file."
+;;;; Running
+
+(defun ost-close ()
+  "Forget the clock, and kill all buffers of files."
+  (when (org-clocking-p)
+    (ignore-errors (let (org-clock-out-hook) (org-clock-cancel))))
+  (move-marker org-clock-marker nil)
   (dolist (buffer (buffer-list))
-    (let ((file (buffer-file-name buffer)))
-      (when (and file (string-prefix-p orgstore-test-dir file))
-        (with-current-buffer buffer
-          (should-not (buffer-modified-p))
-          (should (verify-visited-file-modtime))
-          (should (equal (encode-coding-string (orgstore-test-text)
-                                               buffer-file-coding-system)
-                         (orgstore-test-bytes (file-name-nondirectory file)))))))))
+    (when (and (buffer-live-p buffer)
+               (or (buffer-file-name buffer) (buffer-base-buffer buffer)
+                   (string-match-p "Agenda\\|Org Note" (buffer-name buffer))))
+      (with-current-buffer buffer
+        (set-buffer-modified-p nil)
+        (let (kill-buffer-hook kill-buffer-query-functions) (kill-buffer))))))
 
-(defun orgstore-test-files (&rest files)
-  "Check that the files are those of FILES, names and texts, and buffers agree."
-  (while files
-    (should (equal (list (car files) (orgstore-test-disk (car files)))
-                   (list (car files) (cadr files))))
-    (setq files (cddr files)))
-  (orgstore-test-agrees))
+(defun ost-start (files)
+  "Make the folders anew, with FILES, and forget what was before."
+  (ost-close)
+  (delete-directory ost-base t)
+  (make-directory ost-dir t)
+  (make-directory ost-beside t)
+  (pcase-dolist (`(,name . ,text) files) (ost-write name text))
+  (remove-hook 'post-command-hook 'org-add-log-note)
+  (setq ost-typed nil
+        ost-ids 0
+        kill-ring nil
+        org-refile-history nil
+        org-capture-templates nil
+        org-agenda-files (list ost-dir)
+        org-log-note-marker (make-marker))
+  (unless ost-plain
+    (setq orgstore-directory ost-dir
+          orgstore-program (ost-program-file)
+          orgstore-timeout 5
+          orgstore--history nil
+          orgstore--bonds nil)
+    ;; It is checked at its first run.
+    (orgstore--find-program)
+    (delete-file (expand-file-name "log" ost-base))))
 
-;;;; Keys
+(defun ost-run (files body)
+  "Run BODY over FILES, and return the trees of both folders."
+  (ost-start files)
+  (let ((org-inhibit-startup t)
+        (make-backup-files nil)
+        (auto-save-default nil)
+        (create-lockfiles nil)
+        (org-id-locations-file (expand-file-name "ids" ost-base))
+        (org-attach-id-dir "data/")
+        (message-log-max nil)
+        (inhibit-message t)
+        (system-time-locale "C"))
+    (unwind-protect
+        (progn
+          (unless ost-plain (orgstore-global-mode 1))
+          (funcall body)
+          (org-save-all-org-buffers)
+          (list (ost-tree ost-dir) (ost-tree ost-beside)))
+      (unless ost-plain (orgstore-global-mode -1))
+      (ost-close))))
 
-(defun orgstore-test-keys (&rest keys)
-  "Type KEYS, each as `kbd' has them, in the selected window."
-  (set-buffer (window-buffer))
-  (execute-kbd-macro (kbd (string-join keys " ")))
-  (set-buffer (window-buffer)))
+(defun ost-run-plain (&rest _)
+  "Run all scenarios by plain Org, and print what files they leave."
+  (let (all print-length print-level)
+    (pcase-dolist (`(,name ,files ,body) (reverse ost-scenarios))
+      (push (cons name (condition-case err (ost-run files body)
+                         (error (list 'error err))))
+            all))
+    (let ((coding-system-for-write 'no-conversion))
+      (with-temp-file ost-plain
+        (set-buffer-multibyte nil)
+        (insert (prin1-to-string all))))))
 
-(defun orgstore-test-bound (keys)
-  "Check that KEYS do a command of the store in the current buffer."
-  (let ((command (key-binding (kbd keys))))
-    (should (symbolp command))
-    (should (string-prefix-p "orgstore-" (symbol-name command)))))
+(defvar ost-wanted 'unread "What plain Org leaves of each scenario.")
 
-(defun orgstore-test-key (keys &rest answers)
-  "Type KEYS, whose last is bound to a command of the store, and ANSWERS.
-Prefix arguments may stand before it, as C-u."
-  (orgstore-test-bound (replace-regexp-in-string
-                        "\\`\\(?:\\(?:C-u\\|C-[0-9]\\|M-[-0-9]\\) \\)*" "" keys))
-  (apply #'orgstore-test-keys keys answers))
+(defun ost-wanted (name)
+  "Return what plain Org leaves of the scenario NAME."
+  (when (eq ost-wanted 'unread)
+    (let* ((file (make-temp-file "orgstore-plain-"))
+           (process-environment (append (list (concat "ORGSTORE_PLAIN=" file)
+                                              (concat "ORGSTORE_TEST_DIR=" ost-base))
+                                        process-environment)))
+      (with-temp-buffer
+        (unless (equal 0 (call-process
+                          (or (getenv "ORGSTORE_EMACS")
+                              (expand-file-name invocation-name
+                                                invocation-directory))
+                          nil t nil "-Q" "--batch"
+                          "-L" (file-name-directory ost-file) "-l" ost-file
+                          "-f" "ost-run-plain"))
+          (princ (buffer-string))))
+      (setq ost-wanted (with-temp-buffer
+                         (set-buffer-multibyte nil)
+                         (insert-file-contents-literally file)
+                         (read (current-buffer))))
+      (delete-file file)))
+  (cdr (assq name ost-wanted)))
+
+(defun ost-compare (name)
+  "Check that the scenario NAME leaves what plain Org leaves."
+  (let ((wanted (ost-wanted name)))
+    (should (consp (car wanted)))
+    (should-not (ost-differ wanted
+                            (apply #'ost-run (cdr (assq name ost-scenarios)))))))
+
+(defun ost-define (name files function)
+  "Define the scenario NAME over FILES, which FUNCTION does."
+  (push (list name files function) ost-scenarios)
+  (ert-set-test (intern (format "plain/%s" name))
+                (make-ert-test :name (intern (format "plain/%s" name))
+                               :body (lambda () (ost-compare name)))))
+
+(defmacro ost-scenario (name files &rest body)
+  "Define the scenario NAME over FILES; BODY runs by plain Org and the store."
+  (declare (indent 2) (debug t))
+  `(ost-define ',name ,files (lambda () ,@body)))
+
+(defmacro ost-alone (name files &rest body)
+  "Define the test NAME over FILES, which is run by the store alone."
+  (declare (indent 2) (debug t))
+  `(unless ost-plain
+     (ert-deftest ,(intern (format "store/%s" name)) ()
+       (ost-run ,files (lambda () ,@body)))))
 
 ;;;; The runner
 
-(defun orgstore-test-run ()
+(defun ost-tell (event &rest args)
+  "Tell of ARGS, if EVENT is the end of a test that failed or was skipped."
+  (when (eq event 'test-ended)
+    (pcase-let* ((`(,_ ,test ,result) args)
+                 (name (ert-test-name test)))
+      (cond
+       ((ert-test-skipped-p result) (princ (format "skipped %s\n" name)))
+       ((not (ert-test-passed-p result))
+        ;; A question may stand in the line.
+        (princ (format "\nFAILED %s\n" name))
+        (when (ert-test-result-with-condition-p result)
+          (let ((print-escape-newlines t) (print-length 40) (print-level 12))
+            (princ (format "    %S\n" (ert-test-result-with-condition-condition
+                                       result))))))))))
+
+(defun ost-run-tests ()
   "Run all tests, tell of those that fail or are skipped, and end Emacs.
 Where ORGSTORE_ONLY is set, run those alone that have it in their name."
-  (let* ((passed 0) (failed 0) (skipped 0)
-         (only (getenv "ORGSTORE_ONLY"))
-         (tell (lambda (event &rest args)
-                 (when (eq event 'test-ended)
-                   (pcase-let* ((`(,_ ,test ,result) args)
-                                (name (ert-test-name test)))
-                     (cond
-                      ((ert-test-passed-p result) (setq passed (1+ passed)))
-                      ((ert-test-skipped-p result)
-                       (setq skipped (1+ skipped))
-                       (princ (format "skipped %s\n" name)))
-                      (t
-                       (setq failed (1+ failed))
-                       ;; A question may stand in the line.
-                       (princ (format "\nFAILED %s\n" name))
-                       (when (ert-test-result-with-condition-p result)
-                         (let ((print-escape-newlines t) (print-length 40) (print-level 12))
-                           (princ (format "    %S\n" (ert-test-result-with-condition-condition
-                                                      result))))))))))))
-    (ert-run-tests (if only (concat (regexp-quote only)) t) tell)
-    (princ (format "tests: %d passed, %d failed, %d skipped\n" passed failed skipped))
+  (let* ((stats (ert-run-tests (or (getenv "ORGSTORE_ONLY") t) #'ost-tell))
+         (failed (ert-stats-completed-unexpected stats)))
+    (princ (format "tests: %d passed, %d failed, %d skipped\n"
+                   (ert-stats-completed-expected stats) failed
+                   (ert-stats-skipped stats)))
     (kill-emacs (if (= failed 0) 0 1))))
 
 (provide 'orgstore-test-support)

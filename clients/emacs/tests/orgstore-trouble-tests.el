@@ -1,355 +1,433 @@
-;;; orgstore-trouble-tests.el --- Tests of kills, faults and broken set-ups  -*- lexical-binding: t; -*-
+;;; orgstore-trouble-tests.el --- What goes wrong  -*- lexical-binding: t; -*-
 
 ;; SPDX-License-Identifier: MIT OR Apache-2.0
 
 ;; This file is not part of GNU Emacs.
 
+;;; Commentary:
+
+;; Errors, kills, hanging programs, other writers: by the store alone.
+
 ;;; Code:
 
 (require 'orgstore-test-support)
+(setq ost-file (or load-file-name buffer-file-name))
 
-(defun orgstore-test-gate ()
-  "Return the first byte of the journal, 1 where a change was cut short."
-  (let ((journal (orgstore-test-bytes "orgstore.journal")))
-    (if (equal journal "") 0 (aref journal 0))))
+(defconst ost-ab '(("a.org" . "#+TITLE: A\n* One\ntext\n** Child\n* Two\n* Run\nfirst\n* Run\nsecond\n")
+                  ("b.org" . "* Target\n** There\n* Last\n")))
 
-;;;; Kills
 
-(defun orgstore-test-at-each-call (before after how command check)
-  "Do COMMAND with the program stopped at each of its calls, by HOW.
-The files BEFORE are an alist; AFTER are those of them that the whole command
-makes.  CHECK is called with the error of a stopped command, and then the files
-have to be those before or those after, and all buffers agree.  Once a stop
-leaves those after, each later one does.  Return how many stops there were, and
-how many of them left the files after."
-  (let ((at 1) (more t) (stopped 0) (done 0))
-    (while more
-      (orgstore-test-store before
-        (let ((orgstore-program (orgstore-test-stopping at how)))
-          (condition-case err
-              (progn (funcall command) (setq more nil))
-            (user-error (setq stopped (1+ stopped))
-                        (funcall check (error-message-string err))))
-          (let ((left (mapcar (lambda (it) (cons (car it) (orgstore-test-disk (car it)))) after))
-                (wanted (mapcar (lambda (it) (cons (car it) (alist-get (car it) before "" nil #'equal)))
-                                after)))
-            (should (= 0 (orgstore-test-gate)))
-            (orgstore-test-agrees)
-            (should (member left (if (or (> done 0) (not more)) (list after) (list wanted after))))
-            (when (and more (equal left after)) (setq done (1+ done)))
-            ;; The next command goes on.
-            (orgstore-test-visit "a.org" "Z")
-            (orgstore-todo "WAIT")
-            (should (looking-at "\\* WAIT Z"))
-            (orgstore-test-agrees))))
-      (setq at (1+ at))
-      (should (< at 200)))
-    (cons stopped done)))
+;;;; By the store alone: trouble
 
-(ert-deftest orgstore-test-a-refile-killed-at-each-of-its-calls ()
-  "The entry is in exactly one file, and the buffers agree."
-  (skip-unless orgstore-test-stops)
-  (pcase-let
-      ((`(,kills . ,done)
-        (orgstore-test-at-each-call
-         '(("a.org" . "* A\n** Entry\ntext\n* Z\n") ("b.org" . "* B\n* C\n"))
-         '(("a.org" . "* A\n* Z\n") ("b.org" . "* B\n** Entry\ntext\n* C\n"))
-         "kill"
-         (lambda ()
-           (let ((target (orgstore-test-marker "b.org" "B")))
-             (orgstore-test-visit "a.org" "Entry")
-             (orgstore-test-key "C-c C-w" "b.org/B RET")
-             (set-marker target nil)))
-         (lambda (told) (should (string-match-p "killed" told))))))
-    (should (> kills 25))
-    (should (> done 5))))
+(ost-alone error-in-the-middle ost-ab
+  (let ((before (ost-tree ost-dir)))
+    (ost-open "a.org")
+    (let ((org-after-refile-insert-hook (list (lambda () (error "Mine")))))
+      (should (equal "Mine" (cadr (should-error (ost-refile "One" "b.org" "There"))))))
+    (should (equal before (ost-tree ost-dir)))
+    (should (equal (ost-names (ost-modified)) '("b.org")))
+    (ost-open "a.org")
+    (let ((org-archive-hook (list (lambda () (signal 'quit nil)))))
+      (ost-open "a.org" "Two")
+      (should (eq 'caught (condition-case nil (org-archive-subtree) (quit 'caught)))))
+    (should-not (file-exists-p (ost-path "a.org_archive")))
+    (should (equal before (ost-tree ost-dir)))
+    ;; They are bound: a save of one saves both.
+    (ost-open "a.org" "Two") (org-cut-subtree)
+    (should (= 3 (length (ost-modified))))))
 
-(ert-deftest orgstore-test-an-archive-killed-at-each-of-its-calls ()
-  "Likewise, where the archive file is made by the command."
-  (skip-unless orgstore-test-stops)
-  (pcase-let
-      ((`(,kills . ,done)
-        (orgstore-test-at-each-call
-         '(("a.org" . "* A\n** DONE Entry\ntext\n* Z\n"))
-         '(("a.org" . "* A\n* Z\n")
-           ("a.org_archive"
-            . "* DONE Entry\n:PROPERTIES:\n:ARCHIVE_TIME: 2026-07-01 Wed 10:00
-:ARCHIVE_FILE: a.org\n:ARCHIVE_OLPATH: A\n:ARCHIVE_CATEGORY: a\n:ARCHIVE_TODO: DONE\n:END:\ntext\n"))
-         "kill"
-         (lambda ()
-           (orgstore-test-visit "a.org_archive")
-           (orgstore-test-visit "a.org" "Entry")
-           (orgstore-test-key "C-c $"))
-         (lambda (told) (should (string-match-p "killed" told))))))
-    (should (> kills 25))
-    (should (> done 5))))
+(ost-alone bound-after-error ost-ab
+  (ost-open "a.org")
+  (cl-letf (((symbol-function 'org-bookmark-jump-unhide) #'ignore))
+    (advice-add 'org-refile :after (lambda (&rest _) (error "Late")) '((name . ost-late)))
+    (unwind-protect (should-error (ost-refile "One" "b.org" "There"))
+      (advice-remove 'org-refile 'ost-late)))
+  (ost-open "a.org")
+  (when (= 2 (length (ost-modified)))
+    (ost-cmd 1 (with-current-buffer "a.org" (save-buffer)))))
 
-(ert-deftest orgstore-test-a-store-killed-again-as-it-is-opened-again ()
-  "The buffers stay as they were until its files are whole."
-  (skip-unless orgstore-test-stops)
-  (let ((at 1) (torn 0) (ended nil))
-    (while (not ended)
-      (orgstore-test-store '(("a.org" . "* A\n** Entry\ntext\n* Z\n") ("b.org" . "* B\n"))
-        (let ((target (orgstore-test-marker "b.org" "B"))
-              (orgstore-program (orgstore-test-stopping at "kill" 3)))
-          (orgstore-test-visit "a.org" "Entry")
-          (condition-case err
-              (progn (orgstore-refile nil target) (setq ended t))
-            (user-error
-             (should (string-match-p "opened again.*orgstore-recover" (error-message-string err)))
-             (when (= 1 (orgstore-test-gate))
-               (setq torn (1+ torn))
-               (should (equal (orgstore-test-text) "* A\n** Entry\ntext\n* Z\n"))
-               (should (equal (orgstore-test-text "b.org") "* B\n")))
-             ;; Any command sees to it.
-             (if (= 0 (% at 2)) (orgstore-recover orgstore-test-dir)
-               (orgstore-test-goto "Z")
-               (orgstore-time))
-             (should (= 0 (orgstore-test-gate))))))
-        (orgstore-test-agrees)
-        (should (member (list (orgstore-test-disk "a.org") (orgstore-test-disk "b.org"))
-                        '(("* A\n** Entry\ntext\n* Z\n" "* B\n") ("* A\n* Z\n" "* B\n** Entry\ntext\n")))))
-      (setq at (1+ at))
-      (should (< at 200)))
-    (should (> torn 3)))
-  ;; Where nothing was to be done but to open it, the second time is enough.
-  (orgstore-test-store '(("a.org" . "* A\n"))
-    (let ((orgstore-program (orgstore-test-stopping 3 "kill")))
-      (orgstore-recover orgstore-test-dir)
-      (orgstore-test-files "a.org" "* A\n"))))
+(ost-alone failed-command ost-ab
+  (ost-open "b.org") (ost-open "a.org")
+  (let ((before (ost-tree ost-dir)))
+    (orgstore--before-command) (ost-move) (orgstore--command-error) (orgstore--after-command)
+    (should (equal before (ost-tree ost-dir)))
+    (should (= 2 (length (ost-modified))))
+    (ost-cmd 1 (with-current-buffer "b.org" (save-buffer)))))
 
-(ert-deftest orgstore-test-a-file-that-a-crash-left-is-made-whole-when-visited ()
-  "Emacs and the program die together; the next Emacs visits the files."
-  (skip-unless orgstore-test-stops)
-  (let ((at 1) (seen 0) (ended nil))
-    (while (not ended)
-      (orgstore-test-store '(("a.org" . "* A\n** Entry\ntext\n* Z\n") ("b.org" . "* B\n"))
-        (with-temp-buffer
-          (insert "refile\ta.org\tA/Entry\tb.org\tB\tlast\n")
-          (setq ended (eq 0 (call-process-region (point-min) (point-max)
-                                                 (orgstore-test-stopping at "kill") nil nil nil
-                                                 (directory-file-name orgstore-test-dir)))))
-        (when (= 1 (orgstore-test-gate))
-          (setq seen (1+ seen))
-          (orgstore-test-visit "b.org")
-          (should (= 0 (orgstore-test-gate)))
-          (should (equal (buffer-string) "* B\n** Entry\ntext\n"))
-          (orgstore-test-visit "a.org")
-          (should (equal (buffer-string) "* A\n* Z\n"))
-          (orgstore-test-agrees)))
-      (setq at (1+ at))
-      (should (< at 200)))
-    (should (> seen 3))))
+(ost-alone killed-program ost-ab
+  (let ((at 0) (going t) kinds)
+    (while going
+      (setq at (1+ at) going nil)
+      (when (> at 200) (error "It doesn't end"))
+      (ost-close) (delete-file (ost-path "orgstore.journal"))
+      (pcase-dolist (`(,name . ,text) ost-ab) (ost-write name text))
+      (setq orgstore--bonds nil)
+      (let ((before (ost-tree ost-dir)) (killed (ost-killed)) err)
+        (ost-open "a.org") (ost-open "b.org")
+        (ost-open "a.org") (ost-plan "kill" at)
+        (condition-case e (ost-refile "One" "b.org" "There") (error (setq err e)))
+        (when (file-exists-p (ost-planned)) (error "No run"))
+        (should-not (orgstore--gate-open-p ost-dir))
+        (if err
+            (progn (push 'before kinds)
+                   (should (equal before (ost-tree ost-dir)))
+                   (should (= 2 (length (ost-modified))))
+                   (should (string-match-p "killed" (cadr err)))
+                   ;; It is tried again by a save.
+                   (ost-cmd nil (with-current-buffer "a.org" (save-buffer))))
+          (push 'after kinds)
+          (should-not (ost-modified)))
+        (should-not (string-search "One" (ost-disk "a.org")))
+        (should (string-search "*** One" (ost-disk "b.org")))
+        (setq going (> (ost-killed) killed))))
+    (should (> at 8))
+    (should (memq 'before kinds))
+    (should (memq 'after kinds))))
 
-(ert-deftest orgstore-test-a-quit-kills-the-program-and-loses-nothing ()
-  "C-g while the program runs: the files are whole, and the buffers agree."
-  (orgstore-test-store '(("a.org" . "* TODO A\n* Z\n"))
-    (orgstore-test-visit "a.org" "A")
-    (let ((orgstore-program
-           (orgstore-test-script
-            ;; That signal does in Emacs what C-g does, though in batch only where something is read.
-            "slow" "if mkdir \"$0.once\" 2> /dev/null; then" "  kill -USR2 $PPID"
-            "  for i in $(seq 300); do echo ok; sleep 0.1; done" "fi"
-            (format "exec '%s' \"$@\"" orgstore-program)))
-          (begin (float-time))
-          ;; Else Emacs, and so ERT, catches no later failure: it takes it for the debugger's.
-          (debugger (lambda (&rest _) (setq num-nonmacro-input-events (1+ num-nonmacro-input-events)))))
-      (should (condition-case nil
-                  (progn (orgstore-todo "WAIT") nil)
-                ((quit user-error) t)))
-      (should (< (- (float-time) begin) 20)))
-    (orgstore-test-files "a.org" "* TODO A\n* Z\n")
-    (orgstore-todo "WAIT")
-    (orgstore-test-files "a.org" "* WAIT A\n* Z\n")
-    (should-not (orgstore-test-left))))
+(ost-alone hanging-program ost-ab
+  (let ((orgstore-timeout 1) (before (ost-tree ost-dir)) (start (time-convert nil 'integer)))
+    (ost-open "a.org") (ost-plan "stop" 4)
+    (should (string-match-p "didn't end within" (cadr (should-error (ost-refile "One" "b.org" "There")))))
+    (should (equal before (ost-tree ost-dir)))
+    (should (= 2 (length (ost-modified))))
+    ;; It hangs each time.
+    (ost-plan "stop!" 4)
+    (should-error (with-current-buffer "a.org" (save-buffer)))
+    (should (< (- (time-convert nil 'integer) start) 12))
+    (delete-file (ost-planned))
+    (ost-cmd 1 (with-current-buffer "a.org" (save-buffer)))))
+
+;; A quit while the program runs: it is killed, and the files looked at.
+(ost-alone quit-in-the-write ost-ab
+  (let ((before (ost-tree ost-dir)) (real (symbol-function 'accept-process-output)) (n 0))
+    (ost-open "a.org")
+    (ost-plan "stop" 4)
+    (cl-letf (((symbol-function 'accept-process-output)
+               (lambda (&rest args) (if (= 8 (cl-incf n)) (signal 'quit nil) (apply real args)))))
+      (should (string-match-p "stopped" (cadr (should-error (ost-refile "One" "b.org" "There"))))))
+    (should (equal before (ost-tree ost-dir)))
+    (should (= 2 (length (ost-modified))))
+    (ost-cmd 1 (with-current-buffer "b.org" (save-buffer)))))
+
+;; Another program writes a file between Emacs's look at it and the program's.
+(ost-alone refused-line ost-ab
+  (ost-open "a.org")
+  (let ((real (symbol-function 'orgstore--write-folder)) (n 0))
+    (cl-letf (((symbol-function 'orgstore--write-folder)
+               (lambda (it) (when (= 1 (cl-incf n)) (ost-write "b.org" "x\n")) (funcall real it))))
+      (should (string-match-p "changed on the disk" (cadr (should-error (ost-refile "One" "b.org" "There")))))))
+  (should (equal (cdr (assoc "a.org" ost-ab)) (ost-disk "a.org")))
+  (should (= 2 (length (ost-modified))))
+  (cl-letf (((symbol-function 'yes-or-no-p) (lambda (_) t)))
+    (ost-cmd 1 (with-current-buffer "a.org" (save-buffer)))))
+
+;; Of independent saves one that the user doesn't want keeps back no other.
+(ost-alone save-some-changed-outside ost-ab
+  (ost-open "b.org" "Last") (insert "x\n") (ost-open "a.org" "Two") (insert "x\n")
+  (ost-write "b.org" "* New\n") (set-file-times (ost-path "b.org") (encode-time '(0 0 0 1 1 2027 nil nil nil)))
+  (cl-letf (((symbol-function 'yes-or-no-p) (lambda (_) nil)))
+    (should-error (save-some-buffers t)))
+  (should (equal '("b.org") (ost-names (ost-modified))))
+  (should-not orgstore--bonds)
+  (should (equal "* New\n" (ost-disk "b.org")))
+  (cl-letf (((symbol-function 'yes-or-no-p) (lambda (_) t))) (ost-cmd 1 (save-some-buffers t))))
+
+;; A hook of the user's that fails behind the write: all is saved, and it is told.
+(ost-alone failing-after-save-hook ost-ab
+  (ost-open "a.org")
+  (let ((after-save-hook (list (lambda () (when (equal (buffer-name) "b.org") (error "Mine"))))))
+    (should (equal "Mine" (cadr (should-error (ost-refile "One" "b.org" "There"))))))
+  (should-not (ost-modified))
+  (should-not (string-search "One" (ost-disk "a.org"))))
+
+(ost-alone no-program ost-ab
+  (ost-open "a.org") (setq orgstore-program "/nowhere/orgstore")
+  (should-error (ost-refile "One" "b.org" "There"))
+  (should (= 2 (length (ost-modified))))
+  (should (equal (cdr (assoc "a.org" ost-ab)) (ost-disk "a.org")))
+  (setq orgstore-program (ost-program-file))
+  (ost-cmd 1 (org-save-all-org-buffers)))
+
+(ost-alone changed-outside ost-ab
+  (ost-open "b.org") (ost-open "a.org")
+  (ost-write "b.org" "* Target\n** There\n* Other\n") (set-file-times (ost-path "b.org") (encode-time '(0 0 0 1 1 2027 nil nil nil)))
+  (let ((before (ost-tree ost-dir)) asked)
+    (cl-letf (((symbol-function 'yes-or-no-p) (lambda (p) (push p asked) nil))
+              ((symbol-function 'userlock--ask-user-about-supersession-threat) #'ignore))
+      (should-error (ost-refile "One" "b.org" "There")))
+    (should (string-match-p "b.org has changed since visited" (car asked)))
+    (should (equal before (ost-tree ost-dir)))
+    (should (= 2 (length (ost-modified))))
+    (cl-letf (((symbol-function 'yes-or-no-p) (lambda (_) t)))
+      (ost-cmd 1 (with-current-buffer "a.org" (save-buffer))))
+    (should-not (string-search "Other" (ost-disk "b.org")))))
+
+(ost-alone undo-last ost-ab
+  (ost-open "a.org") (goto-char (point-min)) (insert "# typed\n")
+  (let ((typed (concat "# typed\n" (cdr (assoc "a.org" ost-ab)))))
+    (ost-cmd 1 (ost-refile "One" "b.org" "There"))
+    (ost-open "a.org" "Run") (ost-cmd 1 (org-archive-subtree))
+    (ost-cmd 1 (orgstore-undo-last))
+    (ost-cmd 1 (orgstore-undo-last))
+    (should (equal (ost-disk "a.org") typed))
+    (should (equal (ost-disk "b.org") (cdr (assoc "b.org" ost-ab))))
+    (should-error (orgstore-undo-last))))
+
+(ost-alone torn-folder ost-ab
+  (let ((at 0))
+    (while (not (orgstore--gate-open-p ost-dir))
+      (when (> (cl-incf at) 200) (error "Never open"))
+      (ost-close)
+      (pcase-dolist (`(,name . ,text) ost-ab) (ost-write name text))
+      (ost-open "a.org") (ost-plan "kill" at)
+      (cl-letf (((symbol-function 'orgstore--finish) #'ignore))
+        (ignore-errors (ost-refile "One" "b.org" "There")))))
+  (ost-close)
+  (with-current-buffer (find-file-noselect (ost-path "b.org"))
+    (should-not (orgstore--gate-open-p ost-dir))
+    (should (string-search "*** One" (buffer-string))))
+  (should-not (string-search "One" (ost-disk "a.org"))))
+
+(ost-alone two-folders-crash '(("a.org" . "* A\n* B\n") ("sub/c.org" . "* C\n"))
+  ;; The second run is killed: the entry stands twice, not nowhere.
+  (let ((real (symbol-function 'orgstore--write-folder)) (n 0))
+    (cl-letf (((symbol-function 'orgstore--write-folder)
+               (lambda (it) (when (= 2 (cl-incf n)) (ost-plan "kill" 2)) (funcall real it))))
+      (ost-open "a.org") (should-error (ost-refile "A" "sub/c.org" "C"))))
+  (should (string-search "* A" (ost-disk "a.org")))
+  (should (string-search "** A" (ost-disk "sub/c.org")))
+  (should (equal '("a.org") (ost-names (ost-modified)))))
+
+(ost-alone locks-and-auto-save ost-ab
+  (let ((create-lockfiles t) (auto-save-default t))
+    (ost-open "a.org" "Two") (auto-save-mode 1) (insert "x\n")
+    (should (file-symlink-p (ost-path ".#a.org")))
+    (do-auto-save t) (should (file-exists-p (ost-path "#a.org#")))
+    (ost-cmd 1 (save-buffer))
+    (should-not (file-symlink-p (ost-path ".#a.org")))
+    (should-not (file-exists-p (ost-path "#a.org#")))
+    (should (verify-visited-file-modtime))))
+
+(ost-alone edits nil
+  (random "seed")
+  (dotimes (_ 300)
+    (let* ((lines (lambda () (mapconcat (lambda (_) (format "%d\\%s\n" (random 40) (make-string (random 30) ?x)))
+                                        (make-list (random 120) 0) "")))
+           (old (funcall lines)) (new (if (= 0 (random 3)) (funcall lines)
+                                        (let ((a (random (1+ (length old)))) (b (random (1+ (length old)))))
+                                          (concat (substring old 0 (min a b)) (funcall lines) (substring old (min a b) (max a b))
+                                                  (and (= 0 (random 2)) "end") (substring old (max a b)))))))
+      (dolist (orgstore--most-edits '(1000 0))
+        (let ((edits (orgstore--edits old new)))
+          (should (equal new (orgstore--patched old edits)))
+          (should (equal old (orgstore--patched new (orgstore--reversed edits))))))))
+  (let* ((old (make-string 3000000 ?\t)) (new (concat "a" (make-string 2600000 ?\n))) (edits (orgstore--edits old new)))
+    (should (equal new (orgstore--patched old edits)))
+    (dolist (it edits) (should (< (length (orgstore--line "a.org" it)) 1048576)))))
+
+(ost-alone big-file (list (cons "a.org" (apply #'concat (make-list 40000 "* A heading of some length\nwith\ta body\\\n"))) (cons "b.org" "* T\n"))
+  (ost-open "a.org") (goto-char (point-max)) (insert "* Last one\n") (goto-char (point-min)) (insert "* First one\n")
+  (ost-cmd 1 (ost-refile "First one" "b.org" "T"))
+  (with-current-buffer "a.org" (erase-buffer) (insert "* B\n") (ost-cmd 1 (save-buffer)))
+  (should (equal "* B\n" (ost-disk "a.org"))))
+
+;;;; What a save takes for changed
+
+(defun ost-scramble ()
+  "Change the current buffer in some way."
+  (let* ((size (buffer-size))
+         (a (1+ (random (1+ size)))) (b (1+ (random (1+ size))))
+         (from (min a b)) (to (min (max a b) (+ from 40)))
+         (word (nth (random 6) '("x" "ü" "\n* H\n" "☃ snow" "\t\\" "𝄞"))))
+    (goto-char from)
+    (pcase (random 12)
+      ((or 0 1 2) (insert word))
+      (3 (delete-region from to))
+      (4 (upcase-region from to))
+      (5 (subst-char-in-region from to ?x ?y))
+      (6 (insert word) (undo-boundary) (primitive-undo 1 buffer-undo-list))
+      (7 (replace-region-contents from to (lambda () (concat word word))))
+      (8 (let ((inhibit-modification-hooks t)) (insert word)))
+      (9 (combine-change-calls from to (delete-region from to)))
+      (10 (with-silent-modifications (put-text-property from to 'face 'bold)))
+      (11 (with-current-buffer (make-indirect-buffer (current-buffer) "ost-indirect" (= 0 (random 2)))
+            (goto-char from) (insert word) (kill-buffer))))))
+
+;; Which part of a text a save hands over is found by hooks: after each change the
+;; file has to get the bytes that an ordinary save would write.
+(ost-alone changed-bytes `(("a.org" . ,(apply #'concat (make-list 30 "* Head ü\ntext ☃ x\n"))))
+  (random "seed")
+  (ost-open "a.org")
+  (buffer-enable-undo)
+  (let ((known 0))
+    (dotimes (_ 400)
+      (dotimes (_ (1+ (random 4))) (ost-scramble))
+      (let ((old (ost-disk "a.org"))
+            (all (nth 1 (orgstore--all-bytes))))
+        (when (< (buffer-size) 200) (insert (make-string 300 ?x)) (setq all (nth 1 (orgstore--all-bytes))))
+        (pcase (orgstore--changed-bytes)
+          (`(,at ,new ,tail ,_)
+           (setq known (1+ known))
+           (should (equal all (concat (substring old 0 at) new
+                                      (substring old (- (length old) tail)))))))
+        (when (= 0 (random 3))
+          (if (= 0 (random 5)) (revert-buffer t t)
+            (write-region all nil (ost-path "a.org") nil 'quiet)
+            (set-visited-file-modtime)
+            (set-buffer-modified-p nil)
+            (orgstore--note-clean (length all) buffer-file-coding-system)))))
+    ;; Most changes are seen.
+    (should (> known 100))))
+
+;; These texts are written as a whole: some of their bytes aren't those in Emacs.
+(ost-alone not-one-to-one
+    '(("crlf.org" . "* A\r\nx\r\n") ("latin.org" . "# -*- coding: latin-1 -*-\n* B\374ro\n")
+      ("bom.org" . "\357\273\277* A\nx\n") ("raw.org" . "* A\n\377 \303\274\nx\n")
+      ("cookie.org" . "* A\nx\n"))
+  (dolist (name '("crlf.org" "latin.org" "bom.org" "raw.org"))
+    (ost-open name)
+    (insert "* New\n")
+    (should-not (orgstore--changed-bytes))
+    (set-buffer-modified-p nil)
+    (kill-buffer))
+  (ost-open "cookie.org")
+  (insert "# -*- coding: latin-1 -*-\n* Bü\n")
+  (should-not (orgstore--changed-bytes))
+  (ost-cmd 1 (save-buffer))
+  (should (string-prefix-p "# -*- coding: latin-1 -*-\n* B\374\n" (ost-disk "cookie.org"))))
+
+;;;; Notes, prompts and captures
+
+(ost-alone note-and-state-are-one '(("a.org" . "#+TODO: TODO | DONE(d!)\n* TODO A\n"))
+  (let ((before (ost-disk "a.org")))
+    (ost-open "a.org" "A")
+    (goto-char (point-max)) (insert "typed\n")
+    (ost-open "a.org" "A")
+    (ost-cmd 1 (org-todo "DONE"))
+    (should (string-search "- State" (ost-disk "a.org")))
+    (orgstore-undo-last)
+    (should (equal (concat before "typed\n") (ost-disk "a.org")))))
+
+;; From Lisp, where no command goes on, nothing waits for the note.
+(ost-alone note-in-lisp '(("a.org" . "#+TODO: TODO | DONE(d!)\n* TODO A\n"))
+  (ost-open "a.org" "A")
+  (org-todo "DONE")
+  (should (string-search "* DONE A" (ost-disk "a.org")))
+  (ost-logged)
+  (should (string-search "- State" (ost-disk "a.org"))))
+
+(defun ost-move-and-ask ()
+  "Move a line, and wait for the user."
+  (interactive)
+  (ost-move)
+  (recursive-edit)
+  (with-current-buffer "b.org" (goto-char (point-max)) (insert "end\n")))
+
+;; What the user saves while a step asks something is on the disk.
+(ost-alone save-at-a-prompt ost-ab
+  (ost-open "b.org")
+  (ost-open "a.org")
+  (let (seen)
+    (cl-letf* (((symbol-function 'ost-ask) (lambda () (interactive) (orgstore-as-step #'ost-move-and-ask)))
+               ((symbol-function 'ost-look)
+                (lambda () (interactive) (push (list (ost-disk "a.org") (ost-disk "b.org")) seen))))
+      (global-set-key (kbd "C-c l") 'ost-look)
+      (global-set-key (kbd "C-c a") 'ost-ask)
+      (ost-keys "C-c a C-c l C-x C-s C-c l C-M-c"))
+    (should (equal (mapcar (lambda (it) (string-search "TITLE" (nth 1 it))) (nreverse seen))
+                   (list nil (string-search "TITLE" (ost-disk "b.org"))))))
+  (should (string-suffix-p "end\n" (ost-disk "b.org")))
+  (should-not (ost-modified)))
+
+;; What is done in an open capture is written with it, or not at all.
+(ost-alone command-in-a-capture ost-ab
+  (setq org-capture-templates `(("c" "" entry (file+headline ,(ost-path "b.org") "Last") "* TODO Call %?")))
+  (ost-open "b.org")
+  (let ((before (ost-disk "b.org")))
+    (org-capture nil "c")
+    (insert "Ann")
+    (orgstore-as-step #'org-todo "DONE")
+    (should (equal before (ost-disk "b.org")))
+    (org-capture-kill)
+    (should (equal before (ost-disk "b.org"))))
+  (org-capture nil "c")
+  (insert "Bob")
+  (org-todo "DONE")
+  (ost-cmd 1 (org-capture-finalize))
+  (should (string-search "** DONE Call Bob" (ost-disk "b.org"))))
+
+;; Both halves of a move that were undone by hand are saved together.
+(ost-alone undone-by-hand ost-ab
+  (let ((before (ost-tree ost-dir)))
+    (ost-open "b.org") (buffer-enable-undo)
+    (ost-open "a.org") (buffer-enable-undo) (undo-boundary)
+    (ost-cmd 1 (ost-refile "One" "b.org" "There"))
+    (dolist (name '("a.org" "b.org"))
+      (ost-open name)
+      (ost-keys "C-_"))
+    (should (= 2 (length (ost-modified))))
+    (ost-cmd 1 (save-buffer))
+    (should (equal before (ost-tree ost-dir)))))
 
 ;;;; The disk
 
-(ert-deftest orgstore-test-a-full-disk-at-each-write ()
-  "The folder is barred until the fault is forgotten; then the files are whole."
-  (skip-unless orgstore-test-stops)
-  (let ((at 1) (more t) (after 0))
-    (while more
-      (orgstore-test-store '(("a.org" . "* A\n** Entry\ntext\n* Z\n") ("b.org" . "* B\n"))
-        (let ((target (orgstore-test-marker "b.org" "B"))
-              (orgstore-program (orgstore-test-stopping at "full")))
-          (orgstore-test-visit "a.org" "Entry")
-          (condition-case err
-              (progn (orgstore-refile nil target) (setq more nil))
-            (user-error
-             (should (string-match-p "disk.*failed" (error-message-string err)))
-             ;; Where the store was open, nobody has seen to the disk yet.
-             (unless (string-match-p "can.t be opened" (error-message-string err))
-               (orgstore-test-error "disk.*failed" (orgstore-todo "WAIT"))
-               (should (equal (buffer-string) "* A\n** Entry\ntext\n* Z\n"))
-               (orgstore-forget-fault))))
-          (orgstore-test-visit "a.org" "Z")
-          (orgstore-todo "WAIT")
-          (let ((left (list (orgstore-test-disk "a.org") (orgstore-test-disk "b.org"))))
-            (when (equal left '("* A\n* WAIT Z\n" "* B\n** Entry\ntext\n"))
-              (setq after (1+ after)))
-            (should (member left '(("* A\n** Entry\ntext\n* WAIT Z\n" "* B\n")
-                                   ("* A\n* WAIT Z\n" "* B\n** Entry\ntext\n")))))
-          (orgstore-test-visit "b.org")
-          (orgstore-todo "TODO")
-          (orgstore-test-agrees)))
-      (setq at (1+ at))
-      (should (< at 20)))
-    (should (> at 5))
-    (should (> after 1))))
+(ost-alone full-disk ost-ab
+  (let ((before (ost-tree ost-dir)))
+    (ost-open "a.org")
+    (ost-plan "full!" 1)
+    (let ((text (error-message-string (should-error (ost-refile "One" "b.org" "There")))))
+      (should (string-match-p "disk" text)))
+    (should (equal before (ost-tree ost-dir)))
+    (should (= 2 (length (ost-modified))))
+    (delete-file (ost-planned))
+    (ost-cmd nil (with-current-buffer "b.org" (save-buffer)))
+    (should (string-search "*** One" (ost-disk "b.org")))
+    (should-not (string-search "One" (ost-disk "a.org")))))
 
-(ert-deftest orgstore-test-emacs-itself-cannot-save ()
-  "Where the save before a command fails, the command isn't done."
-  (orgstore-test-store '(("a.org" . "* TODO A\n"))
-    (orgstore-test-visit "a.org" "A")
-    (insert "* New\n")
-    (let ((write-region-annotate-functions
-           (list (lambda (&rest _) (signal 'file-error '("No space left on device"))))))
-      (should-error (orgstore-todo "WAIT")))
-    (should (equal (buffer-string) "* New\n* TODO A\n"))
-    (should (buffer-modified-p))
-    (should (equal (orgstore-test-disk "a.org") "* TODO A\n"))
-    (orgstore-todo "WAIT")
-    (orgstore-test-files "a.org" "* New\n* WAIT A\n")))
+(ost-alone locked-folder ost-ab
+  (skip-unless (executable-find "flock"))
+  (ost-open "a.org" "One")
+  (let ((lock (lambda (seconds)
+                (prog1 (start-process "lock" nil "flock" ost-dir "sleep" seconds)
+                  (sleep-for 0.3))))
+        process)
+    (funcall lock "0.7")
+    (ost-cmd nil (org-todo "TODO"))
+    (should (string-search "* TODO One" (ost-disk "a.org")))
+    (setq process (funcall lock "60"))
+    (ost-open "a.org" "Two")
+    (let ((text (error-message-string (should-error (org-todo "TODO")))))
+      (should (string-search "another store is open" text)))
+    (should (ost-modified))
+    (should-not (string-search "TODO Two" (ost-disk "a.org")))
+    (kill-process process)
+    (sleep-for 0.3)
+    (ost-cmd nil (save-buffer))
+    (should (string-search "TODO Two" (ost-disk "a.org")))))
 
-(ert-deftest orgstore-test-a-file-that-may-only-be-read ()
-  "It isn't written, and no other file of the command is; others are served."
-  (orgstore-test-store '(("a.org" . "* TODO A\n") ("b.org" . "* TODO B\n"))
-    (set-file-modes (orgstore-test-path "a.org") #o444)
-    (skip-unless (not (file-writable-p (orgstore-test-path "a.org"))))
-    (orgstore-test-visit "a.org" "A")
-    (should (memq (car (should-error (orgstore-todo "WAIT")))
-                  '(user-error buffer-read-only)))
-    (should (memq (car (should-error
-                        (orgstore-refile nil (orgstore-test-marker "b.org" "B"))))
-                  '(user-error buffer-read-only)))
-    (orgstore-test-visit "b.org" "B")
-    (should (memq (car (should-error
-                        (orgstore-refile nil (orgstore-test-marker "a.org" "A"))))
-                  '(user-error buffer-read-only)))
-    (orgstore-test-files "a.org" "* TODO A\n" "b.org" "* TODO B\n")
-    ;; That one file is no fault of the disk.
-    (orgstore-todo "WAIT")
-    (orgstore-test-files "a.org" "* TODO A\n" "b.org" "* WAIT B\n")))
+;; As another user than root.
+(ost-alone read-only-file ost-ab
+  (skip-unless (/= 0 (user-uid)))
+  (set-file-modes (ost-path "b.org") #o444)
+  (let ((before (ost-tree ost-dir)) (inhibit-read-only t))
+    (ost-open "a.org")
+    (cl-letf (((symbol-function 'yes-or-no-p) (lambda (&rest _) nil)))
+      (should-error (ost-refile "One" "b.org" "There")))
+    (should (equal before (ost-tree ost-dir)))
+    (cl-letf (((symbol-function 'yes-or-no-p) (lambda (&rest _) t)))
+      (ost-cmd 1 (with-current-buffer "b.org" (save-buffer))))
+    (should (string-search "*** One" (ost-disk "b.org")))
+    (should (= #o444 (file-modes (ost-path "b.org"))))))
 
-(ert-deftest orgstore-test-a-file-that-the-program-may-only-read ()
-  "Emacs may write it, as root, and the program may not: a fault, told."
-  (skip-unless orgstore-test-stops)
-  (orgstore-test-store '(("a.org" . "* TODO A\n") ("b.org" . "* TODO B\n"))
-    (let ((orgstore-program
-           (orgstore-test-script
-            "denied" (format "LD_PRELOAD='%s' STOPS_DENIED=a.org exec '%s' \"$@\""
-                             orgstore-test-stops orgstore-program))))
-      (orgstore-test-visit "a.org" "A")
-      (orgstore-test-error "disk.*failed\\|can.t be \\(written\\|opened\\)" (orgstore-todo "WAIT"))
-      (should (equal (orgstore-test-disk "a.org") "* TODO A\n")))
-    (orgstore-forget-fault)
-    (orgstore-todo "WAIT")
-    (orgstore-test-files "a.org" "* WAIT A\n" "b.org" "* TODO B\n")))
-
-;;;; Another store
-
-(defun orgstore-test-hold (seconds)
-  "Have a store open on the test's folder for so many SECONDS."
-  (let ((process
-         (make-process :name "holder" :connection-type 'pipe :noquery t
-                       :buffer (generate-new-buffer " *holder*")
-                       :command (list "/bin/sh" "-c"
-                                      "{ printf 'show\\ta.org\\n'; sleep \"$2\"; } | \"$0\" \"$1\""
-                                      orgstore-test-program
-                                      (directory-file-name orgstore-test-dir)
-                                      (format "%s" seconds)))))
-    (with-current-buffer (process-buffer process)
-      (while (= 0 (buffer-size))
-        (accept-process-output process 1)))
-    process))
-
-(ert-deftest orgstore-test-a-folder-that-is-locked-for-a-second ()
-  (orgstore-test-store '(("a.org" . "* TODO A\n"))
-    (orgstore-test-visit "a.org" "A")
-    (orgstore-test-hold 1)
-    (orgstore-todo "WAIT")
-    (orgstore-test-files "a.org" "* WAIT A\n")))
-
-(ert-deftest orgstore-test-a-folder-that-is-locked-for-ever ()
-  (orgstore-test-store '(("a.org" . "* TODO A\n"))
-    (orgstore-test-visit "a.org" "A")
-    (let ((holder (orgstore-test-hold 60)) (begin (float-time)))
-      (orgstore-test-error "Another store is open" (orgstore-todo "WAIT"))
-      (should (< 1 (- (float-time) begin) 20))
-      (orgstore-test-files "a.org" "* TODO A\n")
-      (signal-process (- (process-id holder)) 'SIGKILL)
-      (while (process-live-p holder) (accept-process-output holder 0.05)))
-    (orgstore-todo "WAIT")
-    (orgstore-test-files "a.org" "* WAIT A\n")))
-
-;;;; What is refused, and broken set-ups
-
-(ert-deftest orgstore-test-refusals-say-what-to-mend ()
-  (orgstore-test-store
-      '(("a.org" . "* TODO A\nDEADLINE: soon\n* TODO H\nSCHEDULED: <2026-07-01 Wed +1h>\n")
-        ("c.org" . "* C\nCLOCK: [2026-07-01 Wed 12:00]\n"))
-    (orgstore-test-visit "a.org" "A")
-    (orgstore-test-error "planning line" (orgstore-todo "DONE"))
-    (orgstore-test-goto "H")
-    (orgstore-test-error "hours needs a time" (orgstore-todo "DONE"))
-    (cl-letf (((symbol-function 'y-or-n-p) (lambda (&rest _) t)))
-      (orgstore-test-error "later than now" (orgstore-clock-in)))
-    (orgstore-test-agrees)))
-
-(ert-deftest orgstore-test-what-keeps-a-folder-from-opening-is-told ()
-  (orgstore-test-store '(("a.org" . "* TODO A\n"))
-    (orgstore-test-visit "a.org" "A")
-    ;; Two names of one file.
-    (make-symbolic-link "a.org" (orgstore-test-path "z.org"))
-    (orgstore-test-error "lead to one file.*\\(z\\|a\\)\\.org" (orgstore-todo "WAIT"))
-    (delete-file (orgstore-test-path "z.org"))
-    ;; A journal that isn't one, with its gate open.
-    (orgstore-test-write "orgstore.journal" (concat "\1" (make-string 40 ?x)))
-    (orgstore-test-error "journal is damaged" (orgstore-todo "WAIT"))
-    (delete-file (orgstore-test-path "orgstore.journal"))
-    ;; A name that isn't UTF-8.
-    (let ((file-name-coding-system 'latin-1)
-          (name (concat (directory-file-name orgstore-test-dir) "/caf\351.org")))
-      (let ((coding-system-for-write 'no-conversion))
-        (write-region "x" nil name nil 'quiet))
-      (orgstore-test-error "UTF-8" (orgstore-todo "WAIT"))
-      (delete-file name))
-    ;; More files than the store takes.
-    (dotimes (i 257) (orgstore-test-write (format "n%d.org" i) ""))
-    (orgstore-test-error "256" (orgstore-todo "WAIT"))
-    (dotimes (i 257) (delete-file (orgstore-test-path (format "n%d.org" i))))
-    (orgstore-todo "WAIT")
-    (orgstore-test-files "a.org" "* WAIT A\n")))
-
-(ert-deftest orgstore-test-programs-that-are-none ()
-  "One that isn't there, isn't a program, is another one, or says nonsense."
-  (orgstore-test-store '(("a.org" . "* TODO A\n"))
-    (orgstore-test-visit "a.org" "A")
-    (dolist (program (list "/nowhere/orgstore" "no-such-program-here"
-                           (orgstore-test-path "a.org") orgstore-test-dir
-                           (orgstore-test-script "quiet" "exit 0")
-                           (orgstore-test-script "loud" "echo hello; echo; printf '\\377\\n'")
-                           (orgstore-test-script "ends" "exit 7")
-                           (orgstore-test-script "refuses" "echo 'refused 4 NotFound'")))
-      (let ((orgstore-program program))
-        (orgstore-test-error "." (orgstore-todo "WAIT"))
-        (orgstore-test-files "a.org" "* TODO A\n")))
-    (should-not (orgstore-test-left))
-    (orgstore-todo "WAIT")
-    (orgstore-test-files "a.org" "* WAIT A\n")))
-
-(ert-deftest orgstore-test-states-that-the-store-cannot-have ()
-  (orgstore-test-store
-      '(("a.org" . "#+TODO: À_FAIRE TODO | FINI\n* TODO A\n* B\n")
-        ("b.org" . "#+TODO: ÜBER | ÄH\n* B\n"))
-    (orgstore-test-visit "a.org" "A")
-    (orgstore-test-error "ASCII" (orgstore-todo "À_FAIRE"))
-    (orgstore-todo "FINI")
-    (should (looking-at "\\* FINI A\n"))
-    (orgstore-test-visit "b.org" "B")
-    (orgstore-test-error "state" (orgstore-todo))
-    (orgstore-test-files "b.org" "#+TODO: ÜBER | ÄH\n* B\n")))
+(ost-alone read-only-folder ost-ab
+  (skip-unless (/= 0 (user-uid)))
+  (ost-open "a.org" "One")
+  (set-file-modes ost-dir #o555)
+  (unwind-protect
+      (let ((text (error-message-string (should-error (org-todo "TODO")))))
+        (should (string-search "can't be written" text)))
+    (set-file-modes ost-dir #o755))
+  (ost-cmd nil (save-buffer)))
 
 (provide 'orgstore-trouble-tests)
 ;;; orgstore-trouble-tests.el ends here
