@@ -1,5 +1,4 @@
 ;;; orgstore-archive.el --- Archive all that is done  -*- lexical-binding: t; -*-
-
 ;; SPDX-License-Identifier: MIT OR Apache-2.0
 
 ;;; Commentary:

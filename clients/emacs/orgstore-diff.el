@@ -1,5 +1,4 @@
 ;;; orgstore-diff.el --- What changed between two texts of bytes  -*- lexical-binding: t; -*-
-
 ;; SPDX-License-Identifier: MIT OR Apache-2.0
 
 ;;; Commentary:

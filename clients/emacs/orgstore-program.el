@@ -1,5 +1,4 @@
 ;;; orgstore-program.el --- Served files, and the program over them  -*- lexical-binding: t; -*-
-
 ;; SPDX-License-Identifier: MIT OR Apache-2.0
 
 ;;; Commentary:

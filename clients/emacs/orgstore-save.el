@@ -1,5 +1,4 @@
 ;;; orgstore-save.el --- Save buffers together  -*- lexical-binding: t; -*-
-
 ;; SPDX-License-Identifier: MIT OR Apache-2.0
 
 ;;; Commentary:

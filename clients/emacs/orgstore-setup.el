@@ -1,5 +1,4 @@
 ;;; orgstore-setup.el --- Set up, and show status  -*- lexical-binding: t; -*-
-
 ;; SPDX-License-Identifier: MIT OR Apache-2.0
 
 ;;; Commentary:

@@ -1,5 +1,4 @@
 ;;; orgstore-step.el --- Commands as steps  -*- lexical-binding: t; -*-
-
 ;; SPDX-License-Identifier: MIT OR Apache-2.0
 
 ;;; Commentary:
@@ -70,10 +69,12 @@ They are those of served files with SERVED, else those of others."
     (buffer-substring-no-properties (point-min) (point-max))))
 
 (defun orgstore--begin ()
-  "Return a step that begins."
+  "Return a step that begins.
+What a capture that is open put into a buffer is part of the step."
   (let ((marks (orgstore--marks)) texts)
     (pcase-dolist (`(,it . ,_) marks)
-      (when (and (buffer-modified-p it) (orgstore--place it))
+      (when (and (buffer-modified-p it) (orgstore--place it)
+                 (not (orgstore--capture-open-p (list it))))
         (with-current-buffer it
           (push (cons it (orgstore--text)) texts)
           (setf (orgstore--watch-step (orgstore--start-watch))
@@ -89,9 +90,13 @@ They are those of served files with SERVED, else those of others."
           (orgstore--step-made step) nil)))
 
 (defun orgstore--step-buffers (step)
-  "Return the served buffers that STEP changed or would have saved."
-  (seq-uniq (append (mapcar #'car (orgstore--changed
-                                   (orgstore--step-marks step) t))
+  "Return the served buffers that STEP changed or would have saved.
+The one that gained most is first.  So the functions of `after-save-hook' run
+first where text was lost, and see an entry leave before it arrives."
+  (seq-uniq (append (mapcar #'car (orgstore--sorted
+                                   (orgstore--changed
+                                    (orgstore--step-marks step) t)
+                                   #'cdr))
                     (reverse (orgstore--step-saves step)))
             #'eq))
 

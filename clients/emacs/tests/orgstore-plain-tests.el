@@ -68,7 +68,7 @@
       (unless ost-plain
         (should (= 3 (length (seq-filter (lambda (it) (eq (car it) 'before)) log))))
         (should (equal (seq-filter (lambda (it) (eq (car it) 'after)) (reverse log))
-                       '((after "a.org" nil nil t) (after "b.org" nil nil t) (after "a.org" nil nil t))))
+                       '((after "a.org" nil nil t) (after "a.org" nil nil t) (after "b.org" nil nil t))))
         (should-not (string-search "secret" (ost-disk "orgstore.journal")))))))
 
 (ost-scenario backups ost-ab

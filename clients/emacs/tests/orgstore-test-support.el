@@ -351,7 +351,7 @@ it that is done at each run."
   (let (all print-length print-level)
     (pcase-dolist (`(,name ,files ,body) (reverse ost-scenarios))
       (push (cons name (condition-case err (ost-run files body)
-                         (error (list 'error err))))
+                         ((error quit) (list 'error err))))
             all))
     (let ((coding-system-for-write 'no-conversion))
       (with-temp-file ost-plain
@@ -387,8 +387,9 @@ it that is done at each run."
   "Check that the scenario NAME leaves what plain Org leaves."
   (let ((wanted (ost-wanted name)))
     (should (consp (car wanted)))
-    (should-not (ost-differ wanted
-                            (apply #'ost-run (cdr (assq name ost-scenarios)))))))
+    (let ((differ (ost-differ wanted
+                              (apply #'ost-run (cdr (assq name ost-scenarios))))))
+      (should-not differ))))
 
 (defun ost-define (name files function)
   "Define the scenario NAME over FILES, which FUNCTION does."
@@ -426,11 +427,14 @@ it that is done at each run."
             (princ (format "    %S\n" (ert-test-result-with-condition-condition
                                        result))))))))))
 
+(defvar ost-end-hook nil "What is done when all tests have run.")
+
 (defun ost-run-tests ()
   "Run all tests, tell of those that fail or are skipped, and end Emacs.
 Where ORGSTORE_ONLY is set, run those alone that have it in their name."
   (let* ((stats (ert-run-tests (or (getenv "ORGSTORE_ONLY") t) #'ost-tell))
          (failed (ert-stats-completed-unexpected stats)))
+    (run-hooks 'ost-end-hook)
     (princ (format "tests: %d passed, %d failed, %d skipped\n"
                    (ert-stats-completed-expected stats) failed
                    (ert-stats-skipped stats)))

@@ -356,6 +356,15 @@
   (ost-cmd 1 (org-capture-finalize))
   (should (string-search "** DONE Call Bob" (ost-disk "b.org"))))
 
+;; What was captured is taken back as a whole.
+(ost-alone undo-last-capture ost-ab
+  (setq org-capture-templates `(("c" "" entry (file+headline ,(ost-path "b.org") "Last") "* TODO Call %?")))
+  (let ((before (ost-tree ost-dir)))
+    (ost-cmd 1 (ost-capture "c" "Ann"))
+    (should (string-search "** TODO Call Ann" (ost-disk "b.org")))
+    (ost-cmd 1 (orgstore-undo-last))
+    (should (equal before (ost-tree ost-dir)))))
+
 ;; Both halves of a move that were undone by hand are saved together.
 (ost-alone undone-by-hand ost-ab
   (let ((before (ost-tree ost-dir)))
