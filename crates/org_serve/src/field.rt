@@ -68,8 +68,8 @@ fn unescape(alloc: Global, field: &[u8]) -> Result<Vec<u8>, LineFault>
     read_escapes(alloc, field)
 }
 
-/// The text that a field TEMPLATE, INITIAL, STATE, OLD or NEW is: the field as it stands, which isn't copied,
-/// where it has no escape.
+/// The text that a field TEMPLATE, INITIAL, STATE, OLD or NEW is: the field as it stands, which
+/// isn't copied, where it has no escape.
 ///
 /// # Errors
 ///
