@@ -1,5 +1,5 @@
 -- Archivings: what their planner finds is what the outcome says.
-use Rattle.std.proofs.Common.{◌≡◌, ◌≢◌, ℕ, true, false, List, [], ◌∷◌, Option, Some, None, Result, Ok, Err, refl, sym, ◌∙◌, ap, subst, rules}
+use Rattle.std.proofs.Common.{◌≡◌, ◌≢◌, ◌<◌, ℕ, true, false, List, [], ◌∷◌, Option, Some, None, Result, Ok, Err, refl, sym, ◌∙◌, ap, subst, rules}
 use Rattle.std.specs.Option.{IsSome}
 use Rattle.std.specs.Result.{IsErrAnd}
 use Rattle.std.specs.Str.{bytes_eq}
@@ -12,30 +12,35 @@ use Rattle.org_splice.specs.Edits.{AreEdits}
 use Rattle.org_splice.specs.Texts.{EditedText}
 use Rattle.org_splice.proofs.Lines.{lines_of-terminated}
 use Rattle.org_journal.specs.Recovered.{contents}
+use Rattle.org_outline.specs.declared.paths.PathFault.{PathFault}
+use Rattle.org_outline.specs.declared.paths.PathFault.TheVariants as path_fault
+use Rattle.org_outline.specs.Paths.{find_path}
 use Rattle.org_outline.specs.States.{Keywords}
-use Rattle.org_outline.specs.Tree.{Document, print, tree}
+use Rattle.org_outline.specs.Tree.{Document, node_count, print, tree}
 use Rattle.org_outline.proofs.Trees.{tree-terminated}
 use Rattle.org_stamp.specs.Calendar.{Moment}
 use Rattle.org_texts.specs.declared.plan.FileEdits.{FileEdits}
 use Rattle.org_texts.specs.declared.plan.Plan.{Plan}
-use Rattle.org_texts.specs.Texts.{Holding, bytes_or, text_of}
+use Rattle.org_texts.specs.Texts.{Holding, TextSet, bytes_or, text_of}
 use Rattle.org_texts.proofs.Looking.{not_equal, the_value}
 use Rattle.org_move.specs.declared.fault.MoveFault.{MoveFault}
 use Rattle.org_move.specs.declared.fault.MoveFault.TheVariants as fault
 use Rattle.org_move.specs.Answers.{Gives, GivesPlace}
-use Rattle.org_move.specs.Archive.{archive_across, archive_within}
-use Rattle.org_move.specs.Location.{Destination, location}
-use Rattle.org_move.specs.Refile.{Moved}
+use Rattle.org_move.specs.Archive.{archive_across, archive_across_at, archive_within, archive_within_at}
+use Rattle.org_move.specs.Location.{Destination, location, location_at}
+use Rattle.org_move.specs.Refile.{Moved, fault_of, with_found}
 use Rattle.org_commands.specs.declared.command.Refusal.TheVariants.{NoSuchFile}
 use Rattle.org_commands.specs.declared.command.RunFault.{RunFault}
 use Rattle.org_commands.specs.declared.tally.Tally.{Tally}
-use Rattle.org_commands.specs.Files.{AreReady, IsPlanFor, IsReady, OpenFiles, new_texts}
+use Rattle.org_commands.specs.Files.{AreReady, IsPlanFor, IsReady, KeepsHeld, OpenFiles, new_texts}
+use Rattle.org_commands.specs.Headings.{HasHeading}
 use Rattle.org_commands.specs.InOrder.{is_name, text_at}
-use Rattle.org_commands.specs.Keeping.{Plans, fault_of_move}
-use Rattle.org_commands.specs.Outcome.{Outcome, Refuses, archive, archive_at, archive_to, refusal_of_move, with_moved}
+use Rattle.org_commands.specs.Keeping.{Plans, fault_of_move, fault_of_path}
+use Rattle.org_commands.specs.Outcome.{Outcome, Refuses, archive, archive_at, archive_to, refusal_of_move, refusal_of_path, with_moved}
 use Rattle.org_commands.specs.Refile.{MakesDocument, MakesDocuments, text_within, texts_across}
 use Rattle.org_commands.specs.Session.{BetweenSessions, Session}
 use Rattle.org_commands.specs.Step.{Steps}
+use Rattle.org_commands.proofs.Clocks.{heading_before, still_there}
 use Rattle.org_commands.proofs.MadeReady.{session_in, still_named}
 use Rattle.org_commands.proofs.Plans.{first_name, is_ready, now_held, one_name, one_text, plan_of_one, plan_of_two, ready_text, second_name, text_held, two_texts}
 use Rattle.org_commands.proofs.Refiles.{move_fails, move_planned}
@@ -58,6 +63,17 @@ store_text g states files tally s names file is are there named =
     let old = ready_text names files.held file seen.0 are there seen.1 in
     let at = text_held files.names files.held (contents (g.files files.disk)) file old.0 named old.1 in
     (old.0.bytes, subst (λ (t : Session). text_at t.names t.files file ≡ Some old.0.bytes) is at, seen.2 ∙ old.2)
+
+-- a heading that it has, in these bytes
+pub heading_in : (set : TextSet) (file : List ℕ) (i : ℕ) (bytes : List ℕ) → bytes ≡ bytes_or [] (text_of set file) → HasHeading set file i → i < node_count (tree bytes)
+heading_in set file i bytes is (text, held, within) = subst (λ (b : List ℕ). i < node_count (tree b)) (sym (is ∙ ap (bytes_or []) held)) within
+
+-- .. is there where another file was made ready
+pub heading_stays : (old new : Holding) (names more : List (List ℕ)) (file : List ℕ) (i : ℕ) → AreReady names old → is_name names file ≡ true → AreReady more new → is_name more file ≡ true → KeepsHeld old new → HasHeading old.now file i
+    → HasHeading new.now file i
+heading_stays old new names more file i was among are there keeps (text, held, within) =
+    let seen = the_text (text_of new.now file) (now_held more new file are there) in
+    (seen.0, seen.1, still_there old new more file i seen.0 (heading_before old names file i text was among held within) keeps are there seen.1)
 
 -- a text that is found twice is one
 same_terminated : (text other seen : List ℕ) → Some text ≡ Some other → seen ≡ terminated other → seen ≡ terminated text
@@ -104,6 +120,15 @@ module _ (plan : Plan) (held : Holding) (file to_file : List ℕ) (new : Moved) 
 location_terminated : (states : Keywords) (name : List ℕ) (path : List Step) (text : List ℕ) → location states name path (terminated text) ≡ location states name path text
 location_terminated states name path text = rw (lines_of-terminated text) refl
 
+-- where a heading goes that is found
+pub place_is : (states : Keywords) (name : List ℕ) (path : List Step) (text : List ℕ) (i : ℕ) → find_path states (tree text) path ≡ Ok i → location states name path text ≡ location_at states name text i
+place_is states name path text i found = ap (λ (f : Result ℕ PathFault). with_found f (λ i. location_at states name text i)) found
+
+-- one that isn't
+one_refusal : (why : PathFault) → Refuses (refusal_of_move (fault_of why)) ≡ Refuses (refusal_of_path why)
+one_refusal path_fault.NotFound = refl
+one_refusal path_fault.NotUnique = refl
+
 module _ (s : Session) (file : List ℕ) (path : List Step) (moment : Moment) where
   -- what an archiving is to do with the store's text of the file
   abbrev pub told : Outcome
@@ -117,6 +142,11 @@ module _ (s : Session) (file : List ℕ) (path : List Step) (moment : Moment) wh
   told_at text seen at stays_terminated =
       ap (archive s file path moment) at
       ∙ ap (archive_at s file path moment text) (sym (ap (location s.states file path) stays_terminated ∙ location_terminated s.states file path text))
+
+  -- there is no heading at the path
+  pub path_refused : (text seen : List ℕ) (why : PathFault) → s.broken ≡ false → text_at s.names s.files file ≡ Some text → seen ≡ terminated text → find_path s.states (tree seen) path ≡ Err why → Steps s told (Err (fault_of_path why)) s
+  path_refused text seen why unbroken at stays_terminated none =
+      (unbroken, told_at text seen at stays_terminated ∙ ap (λ (f : Result ℕ PathFault). archive_at s file path moment text (with_found f (λ i. location_at s.states file seen i))) none ∙ one_refusal why, refl)
 
   -- an archiving without a location
   pub place_refused : (text seen : List ℕ) (result : Result Destination MoveFault) (why : MoveFault) → s.broken ≡ false → text_at s.names s.files file ≡ Some text → seen ≡ terminated text → result ≡ Err why
@@ -142,30 +172,32 @@ module _ (s : Session) (file : List ℕ) (path : List Step) (moment : Moment) wh
   no_place text to none = ap (archive_to s file path moment text to) none
 
   -- it is the file itself
-  within_is : (text seen : List ℕ) (to : Destination) → text_at s.names s.files file ≡ Some text → seen ≡ terminated text → file ≡ to.file
-      → told_to text to ≡ with_moved s (text_within file) (archive_within s.states file path moment to (tree seen))
-  within_is text seen to at stays_terminated own =
+  within_is : (text seen : List ℕ) (to : Destination) (i : ℕ) → text_at s.names s.files file ≡ Some text → seen ≡ terminated text → file ≡ to.file → find_path s.states (tree text) path ≡ Ok i
+      → told_to text to ≡ with_moved s (text_within file) (archive_within_at s.states file moment to (tree seen) i)
+  within_is text seen to i at stays_terminated own found =
       let there : text_at s.names s.files to.file ≡ Some text = subst (λ (n : List ℕ). text_at s.names s.files n ≡ Some text) own at in
       let t : bytes_eq file to.file ≡ true = (bytes_eq-Decides file to.file).1 own in
       let here : archive_to s file path moment text to (Some text) ≡ with_moved s (text_within file) (archive_within s.states file path moment to (tree text)) = rw t refl in
       ap (archive_to s file path moment text to) there ∙ here
-      ∙ ap (λ (d : Document). with_moved s (text_within file) (archive_within s.states file path moment to d)) (sym (ap tree stays_terminated ∙ tree-terminated text))
+      ∙ ap (λ (f : Result ℕ PathFault). with_moved s (text_within file) (with_found f (λ i. archive_within_at s.states file moment to (tree text) i))) found
+      ∙ ap (λ (d : Document). with_moved s (text_within file) (archive_within_at s.states file moment to d i)) (sym (ap tree stays_terminated ∙ tree-terminated text))
 
   -- it is another one
-  across_is : (text seen target found : List ℕ) (to : Destination) → text_at s.names s.files to.file ≡ Some target → seen ≡ terminated text → found ≡ terminated target → file ≢ to.file
-      → told_to text to ≡ with_moved s (texts_across file to.file) (archive_across s.states file path moment (tree seen) s.states to (tree found))
-  across_is text seen target found to there stays_terminated closes apart =
+  across_is : (text seen target into : List ℕ) (to : Destination) (i : ℕ) → text_at s.names s.files to.file ≡ Some target → seen ≡ terminated text → into ≡ terminated target → file ≢ to.file → find_path s.states (tree text) path ≡ Ok i
+      → told_to text to ≡ with_moved s (texts_across file to.file) (archive_across_at s.states file moment (tree seen) s.states to (tree into) i)
+  across_is text seen target into to i there stays_terminated closes apart found =
       let f : bytes_eq file to.file ≡ false = not_equal file to.file apart in
       let other : archive_to s file path moment text to (Some target) ≡ with_moved s (texts_across file to.file) (archive_across s.states file path moment (tree text) s.states to (tree target)) = rw f refl in
       ap (archive_to s file path moment text to) there ∙ other
-      ∙ ap (λ (d : Document). with_moved s (texts_across file to.file) (archive_across s.states file path moment d s.states to (tree target))) (sym (ap tree stays_terminated ∙ tree-terminated text))
-      ∙ ap (λ (d : Document). with_moved s (texts_across file to.file) (archive_across s.states file path moment (tree seen) s.states to d)) (sym (ap tree closes ∙ tree-terminated target))
+      ∙ ap (λ (f : Result ℕ PathFault). with_moved s (texts_across file to.file) (with_found f (λ i. archive_across_at s.states file moment (tree text) s.states to (tree target) i))) found
+      ∙ ap (λ (d : Document). with_moved s (texts_across file to.file) (archive_across_at s.states file moment d s.states to (tree target) i)) (sym (ap tree stays_terminated ∙ tree-terminated text))
+      ∙ ap (λ (d : Document). with_moved s (texts_across file to.file) (archive_across_at s.states file moment (tree seen) s.states to d i)) (sym (ap tree closes ∙ tree-terminated target))
 
 -- ---- what is planned
 
 -- within a file that is ready
 module _ {D : Type 0} (g : Ghosts D) (states : Keywords) (files : OpenFiles D) (file : List ℕ) (path : List Step) (moment : Moment) (to : Destination) (own : file ≡ to.file) (unbroken : files.broken ≡ false)
-    (ready : AreReady (file ∷ []) files.held) (there : is_name files.names file ≡ true) (tally : Tally) (text : List ℕ) where
+    (ready : AreReady (file ∷ []) files.held) (there : is_name files.names file ≡ true) (tally : Tally) (text : List ℕ) (i : ℕ) where
   abbrev s : Session
   s = session_in g states files tally
 
@@ -173,22 +205,22 @@ module _ {D : Type 0} (g : Ghosts D) (states : Keywords) (files : OpenFiles D) (
   seen = held_bytes files.held file
 
   abbrev said : Result Document MoveFault
-  said = archive_within states file path moment to (tree seen)
+  said = archive_within_at states file moment to (tree seen) i
 
   abbrev told_within : Outcome
   told_within = told_to s file path moment text to
 
-  told_within_is : text_at s.names s.files file ≡ Some text → told_within ≡ with_moved s (text_within file) said
-  told_within_is at =
+  told_within_is : text_at s.names s.files file ≡ Some text → find_path states (tree text) path ≡ Ok i → told_within ≡ with_moved s (text_within file) said
+  told_within_is at found =
       let store = store_text g states files tally s (file ∷ []) file refl ready (one_name file) there in
-      within_is s file path moment text seen to at (same_terminated text store.0 seen (sym at ∙ store.1) store.2) own
+      within_is s file path moment text seen to i at (same_terminated text store.0 seen (sym at ∙ store.1) store.2) own found
 
-  pub within_fails : text_at s.names s.files file ≡ Some text → (result : Result Plan MoveFault) {why : MoveFault} (answer : Result Plan RunFault) → result ≡ Err why → Gives said (MakesDocument file seen) result → IsErrAnd answer (λ y. y ≡ fault_of_move why)
+  pub within_fails : text_at s.names s.files file ≡ Some text → find_path states (tree text) path ≡ Ok i → (result : Result Plan MoveFault) {why : MoveFault} (answer : Result Plan RunFault) → result ≡ Err why → Gives said (MakesDocument file seen) result → IsErrAnd answer (λ y. y ≡ fault_of_move why)
       → Plans s told_within answer files.held s
-  within_fails at result answer was gives handed = move_fails files.held (text_within file) said (MakesDocument file seen) result answer unbroken refl (told_within_is at) was gives handed
+  within_fails at found result answer was gives handed = move_fails files.held (text_within file) said (MakesDocument file seen) result answer unbroken refl (told_within_is at found) was gives handed
 
-  pub within_planned : text_at s.names s.files file ≡ Some text → (plan : Plan) → Gives said (MakesDocument file seen) (Ok plan) → Plans s told_within (Ok plan) files.held s
-  within_planned at plan (new, is, makes) = move_planned files.held (text_within file) said new plan refl (told_within_is at) is (within_texts plan files.held file new makes ready)
+  pub within_planned : text_at s.names s.files file ≡ Some text → find_path states (tree text) path ≡ Ok i → (plan : Plan) → Gives said (MakesDocument file seen) (Ok plan) → Plans s told_within (Ok plan) files.held s
+  within_planned at found plan (new, is, makes) = move_planned files.held (text_within file) said new plan refl (told_within_is at found) is (within_texts plan files.held file new makes ready)
 
 -- Two files are ready, of which the second one is the location's: they were `old` before that one
 -- was made ready, and are `new`.
@@ -214,9 +246,9 @@ both_ready g states old new file to_file copy is differ has there was ready name
   reads = reads states;
 }
 
-module _ {D : Type 0} {g : Ghosts D} {states : Keywords} {old new : OpenFiles D} (file : List ℕ) (path : List Step) (moment : Moment) (to : Destination) (both : AreBothReady g states old new file to.file) where
+module _ {D : Type 0} {g : Ghosts D} {states : Keywords} {old new : OpenFiles D} (file : List ℕ) (path : List Step) (moment : Moment) (to : Destination) (i : ℕ) (both : AreBothReady g states old new file to.file) where
   abbrev made : Result Moved MoveFault
-  made = archive_across states file path moment (tree (held_bytes new.held file)) states to (tree (held_bytes new.held to.file))
+  made = archive_across_at states file moment (tree (held_bytes new.held file)) states to (tree (held_bytes new.held to.file)) i
 
   abbrev Makes : Moved → Plan → Type 0
   Makes = MakesDocuments file to.file (held_bytes new.held file) (held_bytes new.held to.file)
@@ -227,7 +259,7 @@ module _ {D : Type 0} {g : Ghosts D} {states : Keywords} {old new : OpenFiles D}
   pub across_fits : (plan : Plan) → Gives made Makes (Ok plan) → IsPlanFor new.names new.held plan
   across_fits plan (d, is, makes) = documents_planned plan new.held file to.file d both.apart makes both.ready new.names both.named both.also
 
-  module _ (tally : Tally) (honest : g.honest new.disk) (text : List ℕ) (at : text_at (session_in g states old tally).names (session_in g states old tally).files file ≡ Some text) where
+  module _ (tally : Tally) (honest : g.honest new.disk) (text : List ℕ) (at : text_at (session_in g states old tally).names (session_in g states old tally).files file ≡ Some text) (found : find_path states (tree text) path ≡ Ok i) where
     abbrev before : Session
     before = session_in g states old tally
 
@@ -236,7 +268,7 @@ module _ {D : Type 0} {g : Ghosts D} {states : Keywords} {old new : OpenFiles D}
         let read = both.reads tally honest in
         let own = store_text g states new tally before (to.file ∷ file ∷ []) file read both.ready (second_name to.file file) both.named in
         let other = store_text g states new tally before (to.file ∷ file ∷ []) to.file read both.ready (first_name to.file (file ∷ [])) both.also in
-        across_is before file path moment text (held_bytes new.held file) other.0 (held_bytes new.held to.file) to other.1 (same_terminated text own.0 (held_bytes new.held file) (sym at ∙ own.1) own.2) other.2 both.apart
+        across_is before file path moment text (held_bytes new.held file) other.0 (held_bytes new.held to.file) to i other.1 (same_terminated text own.0 (held_bytes new.held file) (sym at ∙ own.1) own.2) other.2 both.apart found
 
     pub across_fails : (result : Result Plan MoveFault) {why : MoveFault} (answer : Result Plan RunFault) → old.broken ≡ false → result ≡ Err why → Gives made Makes result → IsErrAnd answer (λ y. y ≡ fault_of_move why)
         → Plans before (told_to before file path moment text to) answer new.held (session_in g states new tally)

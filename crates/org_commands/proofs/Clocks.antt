@@ -1,5 +1,5 @@
 -- Clocking in and out: what the planners find is what the outcomes say.
-use Rattle.std.proofs.Common.{◌≡◌, ◌≢◌, inl, inr, ℕ, true, false, List, [], ◌∷◌, Option, Some, None, Result, Ok, Err, Vec, refl, sym, ◌∙◌, ap, subst}
+use Rattle.std.proofs.Common.{◌≡◌, ◌≢◌, ◌<◌, inl, inr, ℕ, true, false, List, [], ◌∷◌, Option, Some, None, Result, Ok, Err, Vec, refl, sym, ◌∙◌, ap, subst}
 use Rattle.std.specs.Global.{Global}
 use Rattle.std.specs.Option.{is_some, unwrap_or}
 use Rattle.std.specs.Result.{result_map_both}
@@ -14,7 +14,7 @@ use Rattle.org_outline.specs.declared.paths.PathFault.{PathFault}
 use Rattle.org_outline.specs.declared.paths.PathFault.TheVariants as path
 use Rattle.org_outline.specs.States.{Keywords}
 use Rattle.org_outline.specs.Paths.{find_path}
-use Rattle.org_outline.specs.Tree.{Document, print, tree}
+use Rattle.org_outline.specs.Tree.{Document, node_count, print, tree}
 use Rattle.org_outline.proofs.Trees.{tree-terminated}
 use Rattle.org_stamp.specs.Calendar.{Moment}
 use Rattle.org_texts.specs.declared.plan.Plan.{Plan}
@@ -24,7 +24,7 @@ use Rattle.org_state.specs.declared.run.Running.{Running}
 use Rattle.org_state.specs.declared.fault.StateFault.{StateFault}
 use Rattle.org_state.specs.declared.fault.StateFault.TheVariants as fault
 use Rattle.org_state.specs.Answers.{Makes}
-use Rattle.org_state.specs.Clock.{AnswersClosing, AnswersOpening, AnswersSwitch, running_in, switched_at, with_closed, with_opened}
+use Rattle.org_state.specs.Clock.{AnswersClosing, AnswersSwitch, running_in, switched, with_closed, with_opened}
 use Rattle.org_state.specs.Todo.{fault_of_path}
 use Rattle.org_commands.specs.declared.command.RunFault.{RunFault}
 use Rattle.org_commands.specs.declared.command.RunFault.TheVariants.{Refused, OutOfMemory, Device, Broken}
@@ -32,6 +32,7 @@ use Rattle.org_commands.specs.declared.tally.Tally.{Tally}
 use Rattle.org_commands.specs.Clocking.{PlansClocks, clock_moved, clocked_in, clocked_out}
 use Rattle.org_commands.specs.Clocks.{RunsHeld, running_over}
 use Rattle.org_commands.specs.Files.{AreReady, KeepsHeld, OpenFiles}
+use Rattle.org_commands.specs.Headings.{HasHeading}
 use Rattle.org_commands.specs.InOrder.{is_name, text_at, texts_of}
 use Rattle.org_commands.specs.Keeping.{LooksUp, Reads, fault_of_state}
 use Rattle.org_commands.specs.Outcome.{Outcome, Refuses, clock_in, clock_in_beside, refusal_of_path, refusal_of_state, with_clock_moved, with_state}
@@ -73,70 +74,40 @@ not_moved other file text target said result why is told = subst (PlansClocks ot
 
 -- ---- a clock opened
 
--- an answer, told of what the outline and the slice are
-pub opening_told : (states given : Keywords) (path titles : List Step) (now : Moment) (text seen : List ℕ) (answer : Result Edit StateFault) → given ≡ states → titles ≡ path → seen ≡ text
-    → AnswersOpening given titles now seen answer → AnswersOpening states path now text answer
-opening_told states given path titles now text seen answer s p t answers =
-    subst (λ (k : Keywords). AnswersOpening k path now text answer) s
-    (subst (λ (ts : List Step). AnswersOpening given ts now text answer) p
-    (subst (λ (b : List ℕ). AnswersOpening given titles now b answer) t answers))
-
-pub opening_fault : (states : Keywords) (path : List Step) (now : Moment) (text : List ℕ) (why : StateFault) → why ≢ fault.OutOfMemory → AnswersOpening states path now text (Err why)
-    → (none : PathFault) × (find_path states (tree text) path ≡ Err none) × (why ≡ fault_of_path none)
-opening_fault states path now text fault.OutOfMemory some answers = absurd (some refl)
-opening_fault states path now text fault.NotFound some answers = answers
-opening_fault states path now text fault.NotUnique some answers = answers
-opening_fault states path now text fault.UnknownState some answers = answers
-opening_fault states path now text fault.OddPlanning some answers = answers
-opening_fault states path now text fault.BadRepeat some answers = answers
-opening_fault states path now text fault.DateRange some answers = answers
-opening_fault states path now text fault.ClockBackwards some answers = answers
-
-pub start_refused : (states : Keywords) (path : List Step) (now : Moment) (text : List ℕ) (why : StateFault) → AnswersOpening states path now text (Err why) → why ≢ fault.OutOfMemory
-    → clocked_in now None (tree text) (find_path states (tree text) path) ≡ Err why
-start_refused states path now text why answers some =
-    let none = opening_fault states path now text why some answers in
-    ap (λ (f : Result ℕ PathFault). clocked_in now None (tree text) f) none.1 ∙ ap (λ (f : StateFault). Err f) (sym none.2)
-
-pub start_made : (states : Keywords) (path : List Step) (now : Moment) (text : List ℕ) (edit : Edit) (edits : List Edit) → edits ≡ edit ∷ [] → AnswersOpening states path now text (Ok edit)
-    → (new : Document) × (clocked_in now None (tree text) (find_path states (tree text) path) ≡ Ok (Some new)) × AreEdits edits text (print new)
-start_made states path now text edit edits are (i, found, makes) = (
-  with_opened now i (tree text),
-  ap (λ (f : Result ℕ PathFault). clocked_in now None (tree text) f) found,
-  subst (λ (es : List Edit). AreEdits es text (print (with_opened now i (tree text)))) (sym are) makes,
-)
+-- the plan of the edit that opens it, told of what the outline is
+pub start_made : (now : Moment) (text seen : List ℕ) (i : ℕ) (edit : Edit) (edits : List Edit) → seen ≡ text → edits ≡ edit ∷ [] → AreEdits (edit ∷ []) seen (print (with_opened now i (tree seen)))
+    → (new : Document) × (clocked_in now None (tree text) (Ok i) ≡ Ok (Some new)) × AreEdits edits text (print new)
+start_made now text seen i edit edits same are makes =
+    let opens = subst (λ (b : List ℕ). AreEdits (edit ∷ []) b (print (with_opened now i (tree b)))) same makes in
+    (with_opened now i (tree text), refl, subst (λ (es : List Edit). AreEdits es text (print (with_opened now i (tree text)))) (sym are) opens)
 
 -- ---- a clock moved within a text
 
-pub switch_told : (states given : Keywords) (path titles : List Step) (now : Moment) (from : ℕ) (text seen : List ℕ) (answer : Result (Vec Edit Global) StateFault) → given ≡ states → titles ≡ path → seen ≡ text
-    → AnswersSwitch now seen from (find_path given (tree seen) titles) answer → AnswersSwitch now text from (find_path states (tree text) path) answer
-switch_told states given path titles now from text seen answer s p t answers =
-    subst (λ (k : Keywords). AnswersSwitch now text from (find_path k (tree text) path) answer) s
-    (subst (λ (ts : List Step). AnswersSwitch now text from (find_path given (tree text) ts) answer) p
-    (subst (λ (b : List ℕ). AnswersSwitch now b from (find_path given (tree b) titles) answer) t answers))
+pub switch_told : (now : Moment) (from i : ℕ) (text seen : List ℕ) (answer : Result (Vec Edit Global) StateFault) → seen ≡ text → AnswersSwitch now seen from i answer → AnswersSwitch now text from i answer
+switch_told now from i text seen answer same answers = subst (λ (b : List ℕ). AnswersSwitch now b from i answer) same answers
 
-pub switch_refused : (now : Moment) (text : List ℕ) (from : ℕ) (found : Result ℕ PathFault) (why : StateFault) → AnswersSwitch now text from found (Err why) → why ≢ fault.OutOfMemory → switched_at now from (tree text) found ≡ Err why
-switch_refused now text from found fault.OutOfMemory answers some = absurd (some refl)
-switch_refused now text from found fault.NotFound answers some = answers
-switch_refused now text from found fault.NotUnique answers some = answers
-switch_refused now text from found fault.UnknownState answers some = answers
-switch_refused now text from found fault.OddPlanning answers some = answers
-switch_refused now text from found fault.BadRepeat answers some = answers
-switch_refused now text from found fault.DateRange answers some = answers
-switch_refused now text from found fault.ClockBackwards answers some = answers
+pub switch_refused : (now : Moment) (text : List ℕ) (from i : ℕ) (why : StateFault) → AnswersSwitch now text from i (Err why) → why ≢ fault.OutOfMemory → switched now from (tree text) i ≡ Err why
+switch_refused now text from i fault.OutOfMemory answers some = absurd (some refl)
+switch_refused now text from i fault.NotFound answers some = answers
+switch_refused now text from i fault.NotUnique answers some = answers
+switch_refused now text from i fault.UnknownState answers some = answers
+switch_refused now text from i fault.OddPlanning answers some = answers
+switch_refused now text from i fault.BadRepeat answers some = answers
+switch_refused now text from i fault.DateRange answers some = answers
+switch_refused now text from i fault.ClockBackwards answers some = answers
 
-pub switch_stays : (now : Moment) (text : List ℕ) (from : ℕ) (found : Result ℕ PathFault) (edits : Vec Edit Global) → edits.items ≡ [] → AnswersSwitch now text from found (Ok edits) → switched_at now from (tree text) found ≡ Ok None
-switch_stays now text from found edits none (new, is, makes) = go new is makes
+pub switch_stays : (now : Moment) (text : List ℕ) (from i : ℕ) (edits : Vec Edit Global) → edits.items ≡ [] → AnswersSwitch now text from i (Ok edits) → switched now from (tree text) i ≡ Ok None
+switch_stays now text from i edits none (new, is, makes) = go new is makes
   where
-    go : (o : Option Document) → switched_at now from (tree text) found ≡ Ok o → Makes o text edits.items → switched_at now from (tree text) found ≡ Ok None
+    go : (o : Option Document) → switched now from (tree text) i ≡ Ok o → Makes o text edits.items → switched now from (tree text) i ≡ Ok None
     go None is makes = is
     go (Some d) is makes = absurd (makes.0 none)
 
-pub switch_made : (now : Moment) (text : List ℕ) (from : ℕ) (found : Result ℕ PathFault) (edits : Vec Edit Global) → edits.items ≢ [] → AnswersSwitch now text from found (Ok edits)
-    → (new : Document) × (switched_at now from (tree text) found ≡ Ok (Some new)) × AreEdits edits.items text (print new)
-switch_made now text from found edits some (new, is, makes) = go new is makes
+pub switch_made : (now : Moment) (text : List ℕ) (from i : ℕ) (edits : Vec Edit Global) → edits.items ≢ [] → AnswersSwitch now text from i (Ok edits)
+    → (new : Document) × (switched now from (tree text) i ≡ Ok (Some new)) × AreEdits edits.items text (print new)
+switch_made now text from i edits some (new, is, makes) = go new is makes
   where
-    go : (o : Option Document) → switched_at now from (tree text) found ≡ Ok o → Makes o text edits.items → (d : Document) × (switched_at now from (tree text) found ≡ Ok (Some d)) × AreEdits edits.items text (print d)
+    go : (o : Option Document) → switched now from (tree text) i ≡ Ok o → Makes o text edits.items → (d : Document) × (switched now from (tree text) i ≡ Ok (Some d)) × AreEdits edits.items text (print d)
     go None is makes = absurd (some makes)
     go (Some d) is makes = (d, is, makes.1)
 
@@ -167,37 +138,24 @@ stop_made now text seen running edit edits same are answers =
 
 -- ---- a clock moved to another text
 
-module _ (states : Keywords) (path : List Step) (now : Moment) (other text : List ℕ) (running : Running) where
+module _ (now : Moment) (other text : List ℕ) (running : Running) (i : ℕ) where
   abbrev pub said : Result Moved StateFault
-  said = clock_moved now running (tree other) (tree text) (find_path states (tree text) path)
+  said = clock_moved now running (tree other) (tree text) (Ok i)
 
-  pub move_not_started : (why : StateFault) → AnswersOpening states path now text (Err why) → why ≢ fault.OutOfMemory → said ≡ Err why
-  move_not_started why answers some =
-      let none = opening_fault states path now text why some answers in
-      ap (λ (f : Result ℕ PathFault). clock_moved now running (tree other) (tree text) f) none.1 ∙ ap (λ (f : StateFault). Err f) (sym none.2)
+  abbrev moved : Document → Moved
+  moved new = record { source = new; target = with_opened now i (tree text) }
 
-  pub move_not_stopped : (edit : Edit) (why : StateFault) (seen : List ℕ) → seen ≡ other → AnswersOpening states path now text (Ok edit) → AnswersClosing now seen running.heading (Err why) → why ≢ fault.OutOfMemory → said ≡ Err why
-  move_not_stopped edit why seen same (i, found, makes) answers some =
-      ap (λ (f : Result ℕ PathFault). clock_moved now running (tree other) (tree text) f) found
-      ∙ ap (result_map_both (λ (new : Document). moved i new) (λ (f : StateFault). f)) (closing_fault now other running.heading why (subst (λ (b : List ℕ). AnswersClosing now b running.heading (Err why)) same answers) some)
-    where
-      moved : ℕ → Document → Moved
-      moved i new = record { source = new; target = with_opened now i (tree text) }
+  pub move_not_stopped : (why : StateFault) (seen : List ℕ) → seen ≡ other → AnswersClosing now seen running.heading (Err why) → why ≢ fault.OutOfMemory → said ≡ Err why
+  move_not_stopped why seen same answers some =
+      ap (result_map_both moved (λ (f : StateFault). f)) (closing_fault now other running.heading why (subst (λ (b : List ℕ). AnswersClosing now b running.heading (Err why)) same answers) some)
 
-  pub move_made : (file to_file : List ℕ) (start stop : Edit) (plan : Plan) (seen : List ℕ) → seen ≡ other → AnswersOpening states path now text (Ok start) → AnswersClosing now seen running.heading (Ok stop)
+  pub move_made : (file to_file : List ℕ) (start stop : Edit) (plan : Plan) (seen found : List ℕ) → seen ≡ other → found ≡ text → AreEdits (start ∷ []) found (print (with_opened now i (tree found))) → AnswersClosing now seen running.heading (Ok stop)
       → ((new : Moved) → AreEdits (stop ∷ []) other (print new.source) → AreEdits (start ∷ []) text (print new.target) → MakesDocuments file to_file other text new plan)
       → (new : Moved) × (said ≡ Ok new) × MakesDocuments file to_file other text new plan
-  move_made file to_file start stop plan seen same (i, found, opens) closing makes =
+  move_made file to_file start stop plan seen found same is starts closing makes =
       let closes = subst (λ (b : List ℕ). AnswersClosing now b running.heading (Ok stop)) same closing in
-      let new : Moved = record { source = closes.0; target = with_opened now i (tree text) } in (
-        new,
-        ap (λ (f : Result ℕ PathFault). clock_moved now running (tree other) (tree text) f) found
-            ∙ ap (result_map_both moved (λ (f : StateFault). f)) closes.1,
-        makes new closes.2 opens,
-      )
-    where
-      moved : Document → Moved
-      moved new = record { source = new; target = with_opened now i (tree text) }
+      let opens = subst (λ (b : List ℕ). AreEdits (start ∷ []) b (print (with_opened now i (tree b)))) is starts in
+      (moved closes.0, ap (result_map_both moved (λ (f : StateFault). f)) closes.1, makes (moved closes.0) closes.2 opens)
 
 -- ---- what the planners see of the files
 
@@ -210,29 +168,38 @@ ready_document texts states opened tally s names file seen same ready there name
     let found : text_at s.names s.files file ≡ Some old.0.bytes = subst (λ (t : Session). text_at t.names t.files file ≡ Some old.0.bytes) same before in
     ap (λ (o : Option (List ℕ)). tree (unwrap_or o [])) found ∙ sym (ap tree old.2 ∙ tree-terminated old.0.bytes)
 
--- a clock that runs in a text that is held runs where the text is ready
-pub still_runs : (old new : Holding) (names : List (List ℕ)) (file : List ℕ) (running : Running) (seen : EditedText) → RunsHeld old file running → KeepsHeld old new → AreReady names new → is_name names file ≡ true
-    → text_of new.now file ≡ Some seen → running_in (tree seen.bytes) ≡ Some running
-still_runs old new names file running seen (text, held, runs) keeps ready there at =
+-- .. and as it was held
+pub same_document : (old new : Holding) (names : List (List ℕ)) (file : List ℕ) (text seen : EditedText) → text_of old.before file ≡ Some text → KeepsHeld old new → AreReady names new → is_name names file ≡ true → text_of new.now file ≡ Some seen
+    → tree seen.bytes ≡ tree text.bytes
+same_document old new names file text seen held keeps ready there at =
     let was = ready_text names new file seen ready there at in
     let both : Some was.0 ≡ Some text = sym was.1 ∙ keeps file (ap is_some held) ∙ held in
     let one : was.0 ≡ text = cc in
-    ap running_in (ap tree was.2 ∙ tree-terminated was.0.bytes) ∙ ap (λ (t : EditedText). running_in (tree t.bytes)) one ∙ runs
+    ap tree was.2 ∙ tree-terminated was.0.bytes ∙ ap (λ (t : EditedText). tree t.bytes) one
+
+-- a clock that runs in a text that is held runs where the text is ready
+pub still_runs : (old new : Holding) (names : List (List ℕ)) (file : List ℕ) (running : Running) (seen : EditedText) → RunsHeld old file running → KeepsHeld old new → AreReady names new → is_name names file ≡ true
+    → text_of new.now file ≡ Some seen → running_in (tree seen.bytes) ≡ Some running
+still_runs old new names file running seen (text, held, runs) keeps ready there at = ap running_in (same_document old new names file text seen held keeps ready there at) ∙ runs
+
+-- .. and a heading that it has is there
+pub still_there : (old new : Holding) (names : List (List ℕ)) (file : List ℕ) (i : ℕ) (seen : EditedText) → HasHeading old.before file i → KeepsHeld old new → AreReady names new → is_name names file ≡ true
+    → text_of new.now file ≡ Some seen → i < node_count (tree seen.bytes)
+still_there old new names file i seen (text, held, within) keeps ready there at = subst (λ (d : Document). i < node_count d) (sym (same_document old new names file text seen held keeps ready there at)) within
+
+pub still_held : (old new : Holding) (file : List ℕ) (i : ℕ) → HasHeading old.before file i → KeepsHeld old new → HasHeading new.before file i
+still_held old new file i (text, held, within) keeps = (text, keeps file (ap is_some held) ∙ held, within)
+
+-- a heading of a text that is ready was there before the command
+pub heading_before : (held : Holding) (names : List (List ℕ)) (file : List ℕ) (i : ℕ) (seen : EditedText) → AreReady names held → is_name names file ≡ true → text_of held.now file ≡ Some seen → i < node_count (tree seen.bytes)
+    → HasHeading held.before file i
+heading_before held names file i seen ready there at within =
+    let was = ready_text names held file seen ready there at in
+    (was.0, was.1, subst (λ (d : Document). i < node_count d) (ap tree was.2 ∙ tree-terminated was.0.bytes) within)
 
 -- ---- a heading looked up
 
-pub not_looked_up : (s new : Session) (found : Result ℕ PathFault) (why : StateFault) → result_map_both {U = Unit {0}} (λ _. tt) fault_of_path found ≡ Err why → new ≡ s → LooksUp {A = Unit {0}} s found (Err (fault_of_state why)) new
-not_looked_up s new (Ok i) why is same = absurd (cc)
-not_looked_up s new (Err path.NotFound) why is same =
-    let one : fault.NotFound ≡ why = cc in subst (λ (w : StateFault). LooksUp {A = Unit {0}} s (Err path.NotFound) (Err (fault_of_state w)) new) one ((path.NotFound, refl, refl), same)
-not_looked_up s new (Err path.NotUnique) why is same =
-    let one : fault.NotUnique ≡ why = cc in subst (λ (w : StateFault). LooksUp {A = Unit {0}} s (Err path.NotUnique) (Err (fault_of_state w)) new) one ((path.NotUnique, refl, refl), same)
-
-pub looked_up : (found : Result ℕ PathFault) → result_map_both {U = Unit {0}} (λ _. tt) fault_of_path found ≡ Ok tt → (i : ℕ) × (found ≡ Ok i)
-looked_up (Ok i) is = (i, refl)
-looked_up (Err why) is = absurd (cc)
-
-pub reads_look_up : (s new : Session) (found : Result ℕ PathFault) (why : RunFault) → Reads {A = Unit {0}} s (Err why) new → LooksUp {A = Unit {0}} s found (Err why) new
+pub reads_look_up : (s new : Session) (found : Result ℕ PathFault) (why : RunFault) → Reads {A = Unit {0}} s (Err why) new → LooksUp s found (Err why) new
 reads_look_up s new found OutOfMemory same = same
 reads_look_up s new found Device same = same
 reads_look_up s new found Broken same = absurd same
@@ -254,7 +221,7 @@ path_fails s file moment d found (Some clock) why is = elim (name_cases clock.0 
 ]
 
 pub look_up_fails : (s new : Session) (found : Result ℕ PathFault) (told : Outcome) (why : RunFault) → s.broken ≡ false → ((none : PathFault) → found ≡ Err none → told ≡ Refuses (refusal_of_path none))
-    → LooksUp {A = Unit {0}} s found (Err why) new → Steps s told (Err why) new
+    → LooksUp s found (Err why) new → Steps s told (Err why) new
 look_up_fails s new found told (Refused why) unbroken is ((none, failed, named), same) = (unbroken, is none failed ∙ ap (λ r. Refuses r) (sym named), same)
 look_up_fails s new found told OutOfMemory unbroken is same = (unbroken, same)
 look_up_fails s new found told Device unbroken is same = (unbroken, inl same)

@@ -3,9 +3,7 @@ use Rattle.std.proofs.Common.{◌≡◌, ◌≢◌, ◌∷◌, [], ℕ, List, Op
 use Rattle.std.specs.Option.{ForSome, unwrap_or}
 use Rattle.std.specs.Result.{IsErrAnd}
 use Rattle.org_disk.specs.declared.disk.Disk.{Ghosts}
-use Rattle.org_outline.specs.declared.steps.Step.{Step}
 use Rattle.org_splice.specs.Texts.{EditedText}
-use Rattle.org_outline.specs.Paths.{find_path}
 use Rattle.org_outline.specs.States.{Keywords}
 use Rattle.org_outline.specs.Tree.{Document, tree}
 use Rattle.org_stamp.specs.Calendar.{Moment}
@@ -25,10 +23,10 @@ use Rattle.org_commands.proofs.Clocks.{move_not_made}
 use Rattle.org_commands.proofs.MadeReady.{Sees, document_seen, documents_fit, documents_texts, session_in, stays_not_fit}
 
 module _ {D : Type 0} {g : Ghosts D} {states : Keywords} {old new : OpenFiles D} {file to_file : List ℕ} {seen found : EditedText}
-    (both : Sees g states old new (to_file ∷ file ∷ []) file seen × Sees g states old new (to_file ∷ file ∷ []) to_file found) (path : List Step) (moment : Moment) (running : Running) where
+    (both : Sees g states old new (to_file ∷ file ∷ []) file seen × Sees g states old new (to_file ∷ file ∷ []) to_file found) (i : ℕ) (moment : Moment) (running : Running) where
   -- what is made of two documents
   abbrev said : Document → Document → Result Moved StateFault
-  said other d = clock_moved moment running other d (find_path states d path)
+  said other d = clock_moved moment running other d (Ok i)
 
   abbrev made : Result Moved StateFault
   made = said (tree seen.bytes) (tree found.bytes)

@@ -45,11 +45,10 @@ Reads old (Err OutOfMemory) new = new ≡ old
 Reads old (Err Device) new = new ≡ failed_in_read old
 Reads old (Err fault) new = ⊥
 
--- A heading was looked for, and it is there; or it isn't, for this reason; or its file couldn't be
--- read.
-abbrev pub LooksUp : {A : Type 0} → Session → Result ℕ PathFault → Result A RunFault → Session
-    → Type 0
-LooksUp old found (Ok _) new = ((i : ℕ) × (found ≡ Ok i)) × (new ≡ old)
+-- A heading was looked for, and it is this one; or it isn't there, for this reason; or its file
+-- couldn't be read.
+abbrev pub LooksUp : Session → Result ℕ PathFault → Result ℕ RunFault → Session → Type 0
+LooksUp old found (Ok i) new = (found ≡ Ok i) × (new ≡ old)
 LooksUp old found (Err (Refused why)) new =
     ((fault : PathFault) × (found ≡ Err fault) × (why ≡ refusal_of_path fault)) × (new ≡ old)
 LooksUp old found (Err OutOfMemory) new = new ≡ old

@@ -2,6 +2,7 @@ pub mod Refusals
 pub mod InOrder
 pub mod Files
 pub mod Groups
+pub mod Headings
 pub mod Session
 pub mod Capture
 pub mod Refile

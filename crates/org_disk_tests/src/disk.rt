@@ -9,8 +9,9 @@ mod fuses;
 mod memory;
 mod names;
 
-use org_disk::{Disk, FileName, MemoryDisk};
+use org_disk::{Disk, FileName};
 use org_fixtures::bytes_of;
+use org_test_disks::MemoryDisk;
 use std::alloc::Global;
 use std::process::Abort;
 use std::test::Fail;

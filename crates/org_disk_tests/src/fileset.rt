@@ -4,9 +4,9 @@ mod edited;
 mod openings;
 
 use crate::disk::{are_texts, must};
-use org_disk::MemoryDisk;
 use org_fileset::{FileSet, OpenFault, OpenRefused};
 use org_fixtures::{NEW, disk_with as disk_of, file_name, org_names};
+use org_test_disks::MemoryDisk;
 use std::alloc::Global;
 use std::process::Abort;
 

@@ -1,6 +1,7 @@
 //! Real folders, each made for its test where the test runs.
-ghost use Rattle.std.specs.Prelude.{◌≡◌, []};
-ghost use Rattle.org_folder.specs.FolderDisk.{record_of};
+ghost use Rattle.std.specs.Prelude.{◌≡◌, [], ◌∷◌};
+ghost use Rattle.org_folder.specs.Calls.{IsHeld};
+ghost use Rattle.org_folder.specs.Calls.Event.{Locked};
 
 mod failures;
 mod files;
@@ -8,8 +9,9 @@ mod listing;
 mod refusals;
 
 use crate::disk::name_of;
+use indexmap::IndexSet;
 use org_disk::{Disk, DiskFault, FileName};
-use org_folder::{AbsentNames, Calls, CallsDisk, FolderDisk, Start, Unknown, lock_folder};
+use org_folder::{CallsDisk, FolderDisk, HostSystem, Locks, Start, System, Unknown};
 use std::fs::{Files, Permissions};
 use std::os::unix::fs::{FileExt, PermissionsExt, symlink};
 use std::process::Abort;
@@ -71,25 +73,35 @@ fn holds(rt: &impl Abort, system: &HostRuntime, path: &str, bytes: &[u8]) -> boo
     fs::read(system, path).expect(rt, "not read").as_slice() == bytes
 }
 
-// The disk of a folder over the calls of this system; this is supposed of the folder's files.
-fn disk<R: Files + AllocGlobal + Drop, S: Start>(
+// The system over these files, with this folder locked; this is supposed of the folder's files.
+fn locked<R: Files + AllocGlobal + Clone + Drop, S: Start>(
+    rt: &impl Abort,
+    files: R,
+    folder: &str,
+) -> HostSystem<R, S>
+where
+    R::File: FileExt + Locks,
+    ensures calls { result.log.events ≡ Locked folder.now ∷ [] }
+    ensures held { IsHeld result.log.events }
+{
+    let mut system: HostSystem<R, S> = HostSystem::new(files);
+    system.lock(folder).expect(rt, "not locked");
+    system
+}
+
+// The disk of that folder.
+fn disk<R: Files + AllocGlobal + Clone + Drop, S: Start>(
     rt: &impl Abort,
     host: &HostRuntime,
     folder: &str,
-    system: R,
+    files: R,
 ) -> FolderDisk<R, S>
 where
-    R::File: FileExt,
-    ensures { record_of result ≡ [] }
+    R::File: FileExt + Locks,
+    ensures { result.folder.system.log.events ≡ Locked folder.now ∷ [] }
 {
-    let folder = lock_folder(host, folder).expect(rt, "not locked");
-    FolderDisk::new(
-        system,
-        host.alloc(),
-        &folder,
-        AbsentNames::none(host.alloc()),
-    )
-    .expect(rt, "memory")
+    let system = locked(rt, files, folder);
+    CallsDisk::over(host.alloc(), system, IndexSet::new(host.alloc()))
 }
 
 // A call of a disk on a file.
@@ -198,31 +210,31 @@ fn answer(
 }
 
 // Whether a call on a file answers this, and so many have failed then.
-fn answers<C: Calls + Drop>(
+fn answers<S: System + Drop>(
     rt: &impl Abort,
     system: &HostRuntime,
-    disk: &mut CallsDisk<C>,
+    disk: &mut CallsDisk<S>,
     file: &str,
     call: &Call,
     expected: &Result<u64, DiskFault>,
     failures: u64,
 ) -> bool
 where
-    C::File: Drop,
+    S::File: Drop,
 {
     let name = name_of(rt, system.alloc(), file);
     answer(system, disk, &name, call) == *expected && disk.failures() == failures
 }
 
 // Whether a step goes as it says.
-fn goes<C: Calls + Drop>(
+fn goes<S: System + Drop>(
     rt: &impl Abort,
     system: &HostRuntime,
-    disk: &mut CallsDisk<C>,
+    disk: &mut CallsDisk<S>,
     step: &Step,
 ) -> bool
 where
-    C::File: Drop,
+    S::File: Drop,
 {
     match step {
         Step::Other(path, entry) => make(system, path, entry).is_ok(),
@@ -235,14 +247,14 @@ where
 }
 
 // The first step, counted from 0, that doesn't go as it says, if any.
-fn first_wrong_on<C: Calls + Drop>(
+fn first_wrong<S: System + Drop>(
     rt: &impl Abort,
     host: &HostRuntime,
-    mut disk: CallsDisk<C>,
+    mut disk: CallsDisk<S>,
     steps: &[Step],
 ) -> Option<usize>
 where
-    C::File: Drop,
+    S::File: Drop,
 {
     let mut wrong = None;
     for (i, step) in steps.iter().enumerate() {
@@ -255,25 +267,11 @@ where
     wrong
 }
 
-// The same of the disk of a folder over the calls of this system.
-fn first_wrong<R: Files + AllocGlobal + Drop>(
-    rt: &impl Abort,
-    host: &HostRuntime,
-    folder: &str,
-    system: R,
-    steps: &[Step],
-) -> Option<usize>
-where
-    R::File: FileExt,
-{
-    let disk: FolderDisk<R, Unknown> = disk(rt, host, folder, system);
-    first_wrong_on(rt, host, disk, steps)
-}
-
 // The steps on the disk of a folder.
 fn go_on(rt: &impl Abort, host: &HostRuntime, folder: &str, steps: &[Step]) {
     let own = host.clone().expect(rt, "memory");
-    if let Some(step) = first_wrong(rt, host, folder, own, steps) {
+    let disk: FolderDisk<HostRuntime, Unknown> = disk(rt, host, folder, own);
+    if let Some(step) = first_wrong(rt, host, disk, steps) {
         panic!(rt; "{folder}, step {step}");
     }
 }

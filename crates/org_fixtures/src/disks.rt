@@ -1,6 +1,7 @@
 //! Disks in memory.
 use crate::names::file_name;
-use org_disk::{Disk, FileName, MemoryDisk, Outcome};
+use org_disk::{Disk, FileName};
+use org_test_disks::{MemoryDisk, Outcome};
 use std::alloc::Global;
 use std::test::Fail;
 

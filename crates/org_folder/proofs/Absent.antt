@@ -2,11 +2,19 @@
 use Rattle.std.proofs.Common.{◌≡◌, ℕ, List, [], ◌∷◌, true, false, refl, sym, ◌∙◌}
 use Rattle.org_disk.specs.Disk.{stable, write, cut, sync}
 use Rattle.org_folder.specs.Calls.{Event, World, files, reading, IsLeftAlone, IsRight}
-use Rattle.org_folder.specs.Calls.Event.{Absent, Length, Read, Write, Cut, Sync}
+use Rattle.org_folder.specs.Calls.Event.{Filled, Locked, Entry, Listed, There, Unseen, Absent, Length, Read, Write, Cut, Sync, Made, Entered}
 use Rattle.org_folder.specs.CallsLaws.{changed_other}
 
 still_as_first : (world : World) (calls : List Event) (name : List ℕ) → IsLeftAlone name calls → files world calls name ≡ world.start name
 still_as_first world [] name alone = refl
+still_as_first world (Filled path ∷ earlier) name alone = still_as_first world earlier name alone
+still_as_first world (Locked path ∷ earlier) name alone = still_as_first world earlier name alone
+still_as_first world (Entry other ∷ earlier) name alone = still_as_first world earlier name alone
+still_as_first world (Listed ∷ earlier) name alone = still_as_first world earlier name alone
+still_as_first world (There other device number plain ∷ earlier) name alone = still_as_first world earlier name alone
+still_as_first world (Unseen other ∷ earlier) name alone = still_as_first world earlier name alone
+still_as_first world (Made other ok ∷ earlier) name alone = still_as_first world earlier name alone
+still_as_first world (Entered other ok ∷ earlier) name alone = still_as_first world earlier name alone
 still_as_first world (Absent other ∷ earlier) name alone = still_as_first world earlier name alone
 still_as_first world (Length other n ∷ earlier) name alone = still_as_first world earlier name alone
 still_as_first world (Read other from bytes ∷ earlier) name alone = still_as_first world earlier name alone

@@ -2,3 +2,7 @@ mod Names
 mod Recorded
 mod Absent
 mod Places
+mod Entries
+pub mod Looked
+mod Entered
+mod Listed

@@ -1,10 +1,10 @@
 -- What a call that is in the record did to the files and to their past.
-use Rattle.std.proofs.Common.{◌≡◌, ◌≢◌, ℕ, ◌≤◌, List, ◌∷◌, length, true, false, is_ok, IsErr, ◌⊎◌, Result, Ok, Err, IfOk, OnOk, OnErr, refl, sym, ◌∙◌, ap, subst, inl, inr, ⊎_elim, arith}
-use Rattle.org_disk.specs.Disk.{FileState, IsImage, AreImages, AreLeftBy, IsLeftBy, Passes, write, cut, sync}
+use Rattle.std.proofs.Common.{◌≡◌, ◌≢◌, ℕ, ◌≤◌, List, ◌∷◌, length, true, false, is_ok, IsErr, Result, Ok, Err, IfOk, OnOk, OnErr, refl, sym, ◌∙◌, ap, subst, inl, inr, ⊎_elim, arith}
+use Rattle.org_disk.specs.Disk.{FileState, IsImage, AreImages, AreLeftBy, IsLeftBy, Changes, Passes, write, cut, sync}
 use Rattle.org_disk.specs.declared.disk.DiskFault.{DiskFault}
-use Rattle.org_disk.proofs.Moments.{Image, passes_none, passes_as}
+use Rattle.org_disk.proofs.Moments.{Image, passes_none, passes_as, passes_then}
 use Rattle.org_folder.specs.Calls.{Event, World, files, changed, reading, AreRight, LeftSince, Looks, Does}
-use Rattle.org_folder.specs.Calls.Event.{Absent, Length, Read, Write, Cut, Sync}
+use Rattle.org_folder.specs.Calls.Event.{Absent, Length, Read, Write, Cut, Sync, Entered}
 use Rattle.org_folder.specs.CallsLaws.{changed_here, changed_other, own_image}
 
 abbrev Answer : Type 0
@@ -61,6 +61,24 @@ looks_length world called old mid new (Ok n) before recorded kept right = (
   looks_recorded world (Length called n) old new (recorded ∙ ap (λ calls. Length called n ∷ calls) before) refl,
 )
 looks_length world called old mid new (Err fault) before recorded kept right = (right_same world old mid new right before kept, looks_same world old new (kept ∙ before))
+
+-- a call that leaves the files as they were
+pub looks_event : (world : World) (event : Event) (old new : List Event) → new ≡ event ∷ old → files world (event ∷ old) ≡ files world old → AreRight world new → AreRight world old × Looks world old new
+looks_event world event old new is same right = (right_before world event old old new right refl is, looks_recorded world event old new is same)
+
+-- looks, and what came after them
+pub looks_then : (world : World) (old mid new : List Event) → Looks world old mid → Looks world mid new → Looks world old new
+looks_then world old mid new first second = record {
+  same = second.same ∙ first.same;
+  time = passes_then first.time second.time (λ image now. subst (λ (fs : List ℕ → FileState). AreImages fs image) first.same now);
+}
+
+pub right_then : (world : World) (old mid new : List Event) → (AreRight world mid → AreRight world old × Looks world old mid) → (AreRight world new → AreRight world mid × Looks world mid new)
+    → AreRight world new → AreRight world old × Looks world old new
+right_then world old mid new first second right =
+    let later = second right in
+    let before = first later.0 in
+    (before.0, looks_then world old mid new before.1 later.1)
 
 -- What looks answer, of a file that was opened under the name
 
@@ -146,7 +164,7 @@ does_cut world called name to old mid new result right same before is = (
       (subst (λ calls. Does world (cut to) called mid calls result) (sym is) (cut_recorded world called to mid result (subst (AreRight world) is right)))),
 )
 
-does_sync : (world : World) (called name : List ℕ) (old mid new : List Event) (result : Answer) → AreRight world new → called ≡ name → mid ≡ old
+pub does_sync : (world : World) (called name : List ℕ) (old mid new : List Event) (result : Answer) → AreRight world new → called ≡ name → mid ≡ old
     → new ≡ Sync called (is_ok result) ∷ mid → AreRight world old × Does world sync name old new result
 does_sync world called name old mid new result right same before is = (
   right_before world (Sync called (is_ok result)) old mid new right before is,
@@ -159,6 +177,20 @@ does_sync world called name old mid new result right same before is = (
 looks_left : (world : World) (effect : FileState → FileState) (name : List ℕ) (old new : List Event) → Looks world old new
     → Passes (length old) (length new) (LeftSince world old) (LeftSince world new) (AreLeftBy effect name (files world old))
 looks_left world effect name old new looks = passes_as looks.time (λ image now. record { here = inl (now name); others = λ other apart. now other })
+
+does_after : (world : World) (effect : FileState → FileState) (name : List ℕ) (old mid new : List Event) (result : Answer) → Looks world old mid → Does world effect name mid new result
+    → Does world effect name old new result
+does_after world effect name old mid new result looks does = record {
+  changes = subst (λ (fs : List ℕ → FileState). Changes effect name fs (files world new) result) looks.same does.changes;
+  time = passes_then (looks_left world effect name old mid looks) does.time (λ image left. subst (λ (fs : List ℕ → FileState). AreLeftBy effect name fs image) looks.same left);
+}
+
+pub does_right_after : (world : World) (effect : FileState → FileState) (name : List ℕ) (old mid new : List Event) (result : Answer) → (AreRight world mid → AreRight world old × Looks world old mid)
+    → (AreRight world new → AreRight world mid × Does world effect name mid new result) → AreRight world new → AreRight world old × Does world effect name old new result
+does_right_after world effect name old mid new result first second right =
+    let later = second right in
+    let before = first later.0 in
+    (before.0, does_after world effect name old mid new result before.1 later.1)
 
 -- a fault before the call
 does_nothing : (world : World) (effect : FileState → FileState) (name : List ℕ) (old new : List Event) (result : Answer) → IsErr result → AreRight world old
@@ -185,9 +217,20 @@ pub within_called : (world : World) (called name : List ℕ) (n : ℕ) (old mid 
 within_called world called name n old mid same before le =
     subst (λ c. n ≤ length (files world mid c).content) (sym same) (subst (λ calls. n ≤ length (files world calls name).content) (sym before) le)
 
--- a sync that came to it, or a fault before it
-pub does_sync_opened : (world : World) (called name : List ℕ) (old mid new : List Event) (result : Answer) → AreRight world new → called ≡ name → mid ≡ old
-    → (new ≡ Sync called (is_ok result) ∷ mid) ⊎ (IsErr result × (new ≡ mid)) → AreRight world old × Does world sync name old new result
-does_sync_opened world called name old mid new result right same before (inl is) = does_sync world called name old mid new result right same before is
-does_sync_opened world called name old mid new result right same before (inr failed) =
-    does_not_come world sync name old new result failed.0 (looks_at_nothing world old new (failed.1 ∙ before) right)
+-- .. where only looks came before
+pub within_looked : (world : World) (called name : List ℕ) (n : ℕ) (old mid : List Event) → called ≡ name → Looks world old mid → n ≤ length (files world old name).content
+    → n ≤ length (files world mid called).content
+within_looked world called name n old mid same looks le =
+    subst (λ c. n ≤ length (files world mid c).content) (sym same) (subst (λ (fs : List ℕ → FileState). n ≤ length (fs name).content) (sym looks.same) le)
+
+-- a call on a file that was opened under the name, where the record before is known by an equation
+pub does_called : (world : World) (effect : FileState → FileState) (called name : List ℕ) (old mid new : List Event) (result : Answer) → called ≡ name → mid ≡ old
+    → (AreRight world new → AreRight world mid × Does world effect called mid new result) → AreRight world new → AreRight world old × Does world effect name old new result
+does_called world effect called name old mid new result same before does right =
+    subst (λ n. AreRight world old × Does world effect n old new result) same (subst (λ calls. AreRight world calls × Does world effect called calls new result) before (does right))
+
+-- a first sync, once the entry is on the device
+pub does_sync_entered : (world : World) (called : List ℕ) (old mid new : List Event) (result : Answer) → mid ≡ Entered called true ∷ old → new ≡ Sync called (is_ok result) ∷ mid
+    → AreRight world new → AreRight world old × Does world sync called old new result
+does_sync_entered world called old mid new result entered is = does_right_after world sync called old mid new result
+    (looks_event world (Entered called true) old mid entered refl) (λ right. does_sync world called called mid mid new result right refl refl is)

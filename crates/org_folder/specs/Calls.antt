@@ -1,14 +1,27 @@
 -- The calls on the files of a folder: a record of what was asked and answered, and the files that
 -- it stands for.
-use Rattle.std.specs.Prelude.{◌≡◌, ◌≢◌, ◌⊎◌, ◌≤◌, ℕ, Bool, true, false, List, [], ◌∷◌, length, take, drop, if◌then◌else◌, Result, ⊤, IsTrue}
-use Rattle.std.specs.List.{list_any}
+use Rattle.std.specs.Prelude.{◌≡◌, ◌≢◌, ◌⊎◌, ◌≤◌, ℕ, Bool, true, false, List, [], ◌∷◌, ◌++◌, length, take, drop, if◌then◌else◌, ◌||◌, Result, ⊤, IsTrue, IsFalse}
+use Rattle.std.specs.List.{list_any, All}
 use Rattle.std.specs.Str.{bytes_eq}
 use Rattle.org_disk.specs.Disk.{FileState, IsImage, AreImages, AreLeftBy, Changes, Passes, stable, write, cut, sync}
 use Rattle.org_disk.specs.declared.disk.DiskFault.{DiskFault}
 
--- A call on the file of a name, with its answer; a write, a cut and a sync also say whether they
--- succeeded.
+-- A call of the system, with its answer; a write, a cut, a sync and the sync of an entry also say
+-- whether they succeeded. Up to `Unseen` it is a call on the folder, and then one on the file of a
+-- name.
 pub data Event : Type 0 where
+  -- streams that are closed are the folder at this path
+  Filled : List ℕ → Event
+  -- the folder at this path is locked, as far as the system locks it
+  Locked : List ℕ → Event
+  -- the folder that was locked has an entry of this name
+  Entry : List ℕ → Event
+  -- .. and no entry but those since the last call of another kind
+  Listed : Event
+  -- a name leads to the file of this device and number, which is a plain one or isn't
+  There : List ℕ → ℕ → ℕ → Bool → Event
+  -- a name can't be looked at
+  Unseen : List ℕ → Event
   -- there is no such file
   Absent : List ℕ → Event
   Length : List ℕ → ℕ → Event
@@ -17,6 +30,33 @@ pub data Event : Type 0 where
   Write : List ℕ → ℕ → List ℕ → Bool → Event
   Cut : List ℕ → ℕ → Bool → Event
   Sync : List ℕ → Bool → Event
+  -- the file of a name was opened, and made where there was none
+  Made : List ℕ → Bool → Event
+  -- the entry of the file of a name was put on the device
+  Entered : List ℕ → Bool → Event
+
+-- the names of the entries that were just listed, the last first
+abbrev pub entries_in : List Event → List (List ℕ)
+entries_in [] = []
+entries_in (Entry name ∷ earlier) = name ∷ entries_in earlier
+entries_in (Filled path ∷ earlier) = []
+entries_in (Locked path ∷ earlier) = []
+entries_in (Listed ∷ earlier) = []
+entries_in (There name device number plain ∷ earlier) = []
+entries_in (Unseen name ∷ earlier) = []
+entries_in (Absent name ∷ earlier) = []
+entries_in (Length name n ∷ earlier) = []
+entries_in (Read name from bytes ∷ earlier) = []
+entries_in (Write name from bytes ok ∷ earlier) = []
+entries_in (Cut name n ok ∷ earlier) = []
+entries_in (Sync name ok ∷ earlier) = []
+entries_in (Made name ok ∷ earlier) = []
+entries_in (Entered name ok ∷ earlier) = []
+
+-- a record after entries of these names
+abbrev pub with_entries : List (List ℕ) → List Event → List Event
+with_entries [] earlier = earlier
+with_entries (name ∷ names) earlier = with_entries names (Entry name ∷ earlier)
 
 -- What no call shows: each file as it was at first, and, after a call that failed, what its file
 -- reads as. A record has its newest call first.
@@ -36,6 +76,14 @@ reading content file = record file { content = content }
 -- the files after these calls
 abbrev pub files : World → List Event → List ℕ → FileState
 files world [] = world.start
+files world (Filled path ∷ earlier) = files world earlier
+files world (Locked path ∷ earlier) = files world earlier
+files world (Entry name ∷ earlier) = files world earlier
+files world (Listed ∷ earlier) = files world earlier
+files world (There name device number plain ∷ earlier) = files world earlier
+files world (Unseen name ∷ earlier) = files world earlier
+files world (Made name ok ∷ earlier) = files world earlier
+files world (Entered name ok ∷ earlier) = files world earlier
 files world (Absent name ∷ earlier) = files world earlier
 files world (Length name n ∷ earlier) = files world earlier
 files world (Read name from bytes ∷ earlier) = files world earlier
@@ -58,6 +106,14 @@ files world (Sync name false ∷ earlier) =
 -- call that failed left what a crash within it may leave. A name without a file stands for the
 -- empty file, after a crash too.
 abbrev pub IsRight : World → Event → List Event → Type 0
+IsRight world (Filled path) earlier = ⊤
+IsRight world (Locked path) earlier = ⊤
+IsRight world (Entry name) earlier = ⊤
+IsRight world (There name device number plain) earlier = ⊤
+IsRight world (Unseen name) earlier = ⊤
+IsRight world (Made name ok) earlier = ⊤
+IsRight world (Entered name ok) earlier = ⊤
+IsRight world Listed earlier = ⊤
 IsRight world (Absent name) earlier = files world earlier name ≡ stable []
 IsRight world (Length name n) earlier = n ≡ length (files world earlier name).content
 IsRight world (Read name from bytes) earlier =
@@ -72,6 +128,13 @@ IsRight world (Cut name n false) earlier =
 IsRight world (Sync name true) earlier = ⊤
 IsRight world (Sync name false) earlier =
     IsImage (files world earlier name) (world.left (Sync name false ∷ earlier))
+
+-- The list that ends these calls is right: a name that isn't among its entries has no file, after a
+-- crash either. It is no part of `IsRight`, since no answer about a file depends on it.
+abbrev pub IsRightList : World → List Event → Type 0
+IsRightList world calls =
+    (name : List ℕ) → IsFalse (list_any (bytes_eq name) (entries_in calls))
+    → files world calls name ≡ stable []
 
 -- each answer was right, and each file reads at first as a crash may leave it
 abbrev pub AreRight : World → List Event → Type 0
@@ -92,6 +155,14 @@ AreAbsent world calls names =
 -- no write, cut or sync among these calls is on the file of this name
 abbrev pub IsLeftAlone : List ℕ → List Event → Type 0
 IsLeftAlone name [] = ⊤
+IsLeftAlone name (Filled path ∷ earlier) = IsLeftAlone name earlier
+IsLeftAlone name (Locked path ∷ earlier) = IsLeftAlone name earlier
+IsLeftAlone name (Entry other ∷ earlier) = IsLeftAlone name earlier
+IsLeftAlone name (Listed ∷ earlier) = IsLeftAlone name earlier
+IsLeftAlone name (There other device number plain ∷ earlier) = IsLeftAlone name earlier
+IsLeftAlone name (Unseen other ∷ earlier) = IsLeftAlone name earlier
+IsLeftAlone name (Made other ok ∷ earlier) = IsLeftAlone name earlier
+IsLeftAlone name (Entered other ok ∷ earlier) = IsLeftAlone name earlier
 IsLeftAlone name (Absent other ∷ earlier) = IsLeftAlone name earlier
 IsLeftAlone name (Length other n ∷ earlier) = IsLeftAlone name earlier
 IsLeftAlone name (Read other from bytes ∷ earlier) = IsLeftAlone name earlier
@@ -99,6 +170,72 @@ IsLeftAlone name (Write other from bytes ok ∷ earlier) =
     (other ≢ name) × IsLeftAlone name earlier
 IsLeftAlone name (Cut other n ok ∷ earlier) = (other ≢ name) × IsLeftAlone name earlier
 IsLeftAlone name (Sync other ok ∷ earlier) = (other ≢ name) × IsLeftAlone name earlier
+
+-- whether the entry of the file of this name was put on the device
+abbrev pub has_entered : List ℕ → List Event → Bool
+has_entered name [] = false
+has_entered name (Filled path ∷ earlier) = has_entered name earlier
+has_entered name (Locked path ∷ earlier) = has_entered name earlier
+has_entered name (Entry other ∷ earlier) = has_entered name earlier
+has_entered name (Listed ∷ earlier) = has_entered name earlier
+has_entered name (There other device number plain ∷ earlier) = has_entered name earlier
+has_entered name (Unseen other ∷ earlier) = has_entered name earlier
+has_entered name (Made other ok ∷ earlier) = has_entered name earlier
+has_entered name (Entered other true ∷ earlier) = bytes_eq other name || has_entered name earlier
+has_entered name (Entered other false ∷ earlier) = has_entered name earlier
+has_entered name (Absent other ∷ earlier) = has_entered name earlier
+has_entered name (Length other n ∷ earlier) = has_entered name earlier
+has_entered name (Read other from bytes ∷ earlier) = has_entered name earlier
+has_entered name (Write other from bytes ok ∷ earlier) = has_entered name earlier
+has_entered name (Cut other n ok ∷ earlier) = has_entered name earlier
+has_entered name (Sync other ok ∷ earlier) = has_entered name earlier
+
+abbrev pub HasEntered : List ℕ → List Event → Type 0
+HasEntered name calls = IsTrue (has_entered name calls)
+
+-- Whether the folder was locked, as far as the system locks it. No call lets the lock go.
+abbrev pub is_held : List Event → Bool
+is_held [] = false
+is_held (Filled path ∷ earlier) = is_held earlier
+is_held (Locked path ∷ earlier) = true
+is_held (Entry name ∷ earlier) = is_held earlier
+is_held (Listed ∷ earlier) = is_held earlier
+is_held (There name device number plain ∷ earlier) = is_held earlier
+is_held (Unseen name ∷ earlier) = is_held earlier
+is_held (Made name ok ∷ earlier) = is_held earlier
+is_held (Entered name ok ∷ earlier) = is_held earlier
+is_held (Absent name ∷ earlier) = is_held earlier
+is_held (Length name n ∷ earlier) = is_held earlier
+is_held (Read name from bytes ∷ earlier) = is_held earlier
+is_held (Write name from bytes ok ∷ earlier) = is_held earlier
+is_held (Cut name n ok ∷ earlier) = is_held earlier
+is_held (Sync name ok ∷ earlier) = is_held earlier
+
+abbrev pub IsHeld : List Event → Type 0
+IsHeld calls = IsTrue (is_held calls)
+
+-- a call that changes nothing
+abbrev pub IsLook : Event → Type 0
+IsLook (Filled path) = ⊤
+IsLook (Locked path) = ⊤
+IsLook (Entry name) = ⊤
+IsLook Listed = ⊤
+IsLook (There name device number plain) = ⊤
+IsLook (Unseen name) = ⊤
+IsLook (Absent name) = ⊤
+IsLook (Length name n) = ⊤
+IsLook (Read name from bytes) = ⊤
+IsLook (Write name from bytes ok) = ⊥
+IsLook (Cut name n ok) = ⊥
+IsLook (Sync name ok) = ⊥
+IsLook (Made name ok) = ⊥
+IsLook (Entered name ok) = ⊥
+
+-- no call was made since but such ones
+pub record OnlyLooks (old new : List Event) : Type 0 where
+  pub calls : List Event
+  pub look : All IsLook calls
+  pub after : new ≡ calls ++ old
 
 -- what a crash since the call of this number might have left
 abbrev pub LeftSince : World → List Event → ℕ → (List ℕ → List ℕ) → Type 0

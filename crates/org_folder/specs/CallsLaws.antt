@@ -7,7 +7,7 @@ use Rattle.std.specs.Str.{bytes_eq}
 use Rattle.org_disk.specs.Disk.{FileState, IsImage, AreImages, write, cut, sync}
 use Rattle.org_disk.specs.OwnImages.{IsOwnImage, write_own, cut_own, sync_own}
 use Rattle.org_folder.specs.Calls.{Event, World, files, changed, reading, AreRight, LeftSince}
-use Rattle.org_folder.specs.Calls.Event.{Absent, Length, Read, Write, Cut, Sync}
+use Rattle.org_folder.specs.Calls.Event.{Filled, Locked, Entry, Listed, There, Unseen, Absent, Length, Read, Write, Cut, Sync, Made, Entered}
 
 -- a file that reads as one of its images
 reading_keeps : (content : List ℕ) (file : FileState) → IsImage file content
@@ -46,6 +46,14 @@ changed_keeps name effect old here own other = ⊎_elim
 pub own_image : (world : World) (calls : List Event) → AreRight world calls → (name : List ℕ)
     → IsImage (files world calls name) (files world calls name).content
 own_image world [] right name = right name
+own_image world (Filled path ∷ earlier) right name = own_image world earlier right.1 name
+own_image world (Locked path ∷ earlier) right name = own_image world earlier right.1 name
+own_image world (Entry n ∷ earlier) right name = own_image world earlier right.1 name
+own_image world (Listed ∷ earlier) right name = own_image world earlier right.1 name
+own_image world (There n device number plain ∷ earlier) right name = own_image world earlier right.1 name
+own_image world (Unseen n ∷ earlier) right name = own_image world earlier right.1 name
+own_image world (Made n ok ∷ earlier) right name = own_image world earlier right.1 name
+own_image world (Entered n ok ∷ earlier) right name = own_image world earlier right.1 name
 own_image world (Absent n ∷ earlier) right name = own_image world earlier right.1 name
 own_image world (Length n length ∷ earlier) right name = own_image world earlier right.1 name
 own_image world (Read n from bytes ∷ earlier) right name = own_image world earlier right.1 name

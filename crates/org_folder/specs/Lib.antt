@@ -3,6 +3,7 @@ pub mod Calls
 pub mod CallsLaws
 pub mod Faults
 pub mod FolderDisk
+pub mod Listing
 pub mod Locks
 pub mod Note
 pub mod OrgFiles

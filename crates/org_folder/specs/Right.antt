@@ -1,13 +1,13 @@
 -- What is said of the calls on a folder's files where each answer so far was right. A clause hands
--- these words all that is seen of calls of the type C, as `C.Calls`, and the calls before and
+-- these words all that is seen of calls of the type S, as `S.System`, and the calls before and
 -- after.
-use Rattle.std.specs.Prelude.{◌≡◌, ◌<◌, ℕ, List, length, Result}
+use Rattle.std.specs.Prelude.{◌≡◌, ◌<◌, ℕ, List, length, Result, All, IsTrue}
 use Rattle.std.specs.List.{HoldsAt}
 use Rattle.org_disk.specs.Disk.{FileState}
 use Rattle.org_disk.specs.declared.disk.DiskFault.{DiskFault}
-use Rattle.org_folder.specs.Calls.{AreRight, AreAbsent, Does, IsWithin, Looks, files}
-use Rattle.org_folder.specs.declared.calls.Calls.{Ghosts}
-use Rattle.org_folder.specs.declared.calls.Opened.{Opened}
+use Rattle.org_folder.specs.Calls.{Event, AreRight, AreAbsent, Does, HasEntered, IsWithin, Looks, files}
+use Rattle.org_folder.specs.declared.system.System.{Ghosts}
+use Rattle.org_folder.specs.declared.system.Opened.{Opened}
 
 module _ {C F : Type 0} (g : Ghosts C F) where
   -- each answer so far was right
@@ -42,6 +42,10 @@ module _ {C F : Type 0} (g : Ghosts C F) where
   DoesRight effect name old new result =
       HasBeenRight new
       → HasBeenRight old × Does g.world effect name (g.history old) (g.history new) result
+
+-- each of these files that is said to have its entry on the device has it there
+abbrev pub AreEntered : {F : Type 0} → List Event → List (Opened F) → Type 0
+AreEntered calls = All (λ opened. IsTrue opened.is_entered → HasEntered opened.name calls)
 
 -- at this place stands the file that was opened under a name
 abbrev pub StandsAt : {F : Type 0} → List ℕ → List (Opened F) → ℕ → Type 0

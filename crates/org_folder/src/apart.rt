@@ -1,22 +1,18 @@
 //! That each two of a store's names lead to two files.
 //!
-//! Two names of one file (links) would be written as two. It looks and changes nothing; that the
-//! system answers rightly is no clause.
-ghost use Rattle.std.specs.Prelude.{◌≡◌, ◌<◌, ℕ, [], length, IfOk, IfErr, IfSome, IfNone, IsTrue, IsFalse};
+//! Two names of one file (links) would be written as two. It looks and changes nothing.
+ghost use Rattle.std.specs.Prelude.{◌≡◌, ◌⊎◌, ◌<◌, ℕ, [], length, IfOk, IfErr, IfSome, IfNone, IsTrue, IsFalse};
 ghost use Rattle.std.specs.List.{list_any};
-ghost use Rattle.std.specs.IoError.{error_kind};
 ghost use Rattle.org_folder.specs.Apart.{is_again, is_same, MayReport};
-ghost use Rattle.org_folder.specs.Faults.{IsReportedAs};
+ghost use Rattle.org_folder.specs.Right.{HaveNoFiles};
+ghost use Rattle.org_folder.specs.Calls.{IsHeld, OnlyLooks};
 ghost use Rattle.org_folder.specs.declared.apart.AliasFault.TheVariants.{Device, OutOfMemory};
 
-use crate::absent_names::AbsentNames;
-use crate::lock::LockedFolder;
+use crate::list::ListFault;
+use crate::system::System;
+use indexmap::IndexSet;
 use org_disk::FileName;
-use std::alloc::{AllocError, Global};
-use std::fs::{self, Files, Metadata};
-use std::io::{self, ErrorKind};
-use std::os::unix::fs::MetadataExt;
-use std::path::Path;
+use std::alloc::{AllocError, AllocFailed, Global};
 use thiserror::Error;
 
 /// Why names can't be those of a store.
@@ -41,6 +37,25 @@ impl From<AllocError> for AliasFault {
     }
 }
 
+impl<T: Drop> From<AllocFailed<T>> for AliasFault {
+    ghost from_gives = { λ _ fault. fault ≡ OutOfMemory };
+
+    fn from(_: AllocFailed<T>) -> AliasFault {
+        AliasFault::OutOfMemory
+    }
+}
+
+impl From<ListFault> for AliasFault {
+    ghost from_gives = { λ _ fault. (fault ≡ Device) ⊎ (fault ≡ OutOfMemory) };
+
+    fn from(fault: ListFault) -> AliasFault {
+        match fault {
+            ListFault::Device => AliasFault::Device,
+            ListFault::OutOfMemory => AliasFault::OutOfMemory,
+        }
+    }
+}
+
 /// What the system distinguishes a file by: its device, and its number there.
 #[derive(Clone, Copy)]
 pub struct Node {
@@ -48,91 +63,93 @@ pub struct Node {
     number: u64,
 }
 
-/// Looks where names of a locked folder lead, and answers those that lead nowhere: no file is
-/// there. Links are followed. It changes nothing.
-///
-/// What the system answers of a name is no clause, so whether two names lead to one file isn't
-/// either.
+impl Node {
+    pub(crate) fn new(device: u64, number: u64) -> Node
+        ensures { result ≡ record { device = device; number = number } }
+    {
+        Node { device, number }
+    }
+
+    pub(crate) fn device(&self) -> u64
+        ensures { result ≡ self.now.device }
+    {
+        self.device
+    }
+
+    pub(crate) fn number(&self) -> u64
+        ensures { result ≡ self.now.number }
+    {
+        self.number
+    }
+}
+
+/// Looks where names of a folder lead, and answers those that lead nowhere: no file is there. Links
+/// are followed. It changes nothing.
 ///
 /// # Errors
 ///
 /// - `SameFile`: the first name that leads to the file of one before it.
 /// - `Device`: a name can't be looked at.
 /// - `OutOfMemory`.
-pub fn check_aliases<R: Files + AllocGlobal>(
-    rt: &R,
-    folder: &LockedFolder<'_>,
+#[tactic(auto, using(crate::proofs::Looked::held_on))]
+pub fn check_aliases<S: System>(
+    alloc: Global,
+    system: &mut S,
     names: &[FileName],
-) -> Result<AbsentNames, AliasFault>
-    ensures { IfErr result (MayReport names.now) }
+) -> Result<IndexSet<FileName>, AliasFault>
+    ensures fault { IfErr result (MayReport names.now) }
+    ensures absent { IfOk result (λ absent. HaveNoFiles S.System system.new absent.keys) }
+    ensures held { IsHeld (S.history system.old) → IsHeld (S.history system.new) }
+    ensures looks { OnlyLooks (S.history system.old) (S.history system.new) }
 {
-    let nodes = nodes_of(rt, folder.path(), names)?;
+    let mut absent = IndexSet::new(alloc);
+    let nodes = nodes_of(alloc, system, names, &mut absent)?;
     match first_again(nodes.as_slice()) {
         Some(at) => Err(AliasFault::SameFile(names[at].clone()?)),
-        None => Ok(absent_of(rt.alloc(), names, nodes.as_slice())?),
+        None => Ok(absent),
     }
 }
 
-// The names that lead nowhere.
-fn absent_of(
+// The files that these names lead to, one by one. Those that lead nowhere are put with the others
+// that do.
+fn nodes_of<S: System>(
     alloc: Global,
+    system: &mut S,
     names: &[FileName],
-    nodes: &[Option<Node>],
-) -> Result<AbsentNames, AllocError> {
-    let mut absent = AbsentNames::none(alloc);
-    for (name, node) in names.iter().zip(nodes.iter()) {
-        if node.is_none() {
-            absent.insert(name.clone()?)?;
-        }
-    }
-    Ok(absent)
-}
-
-// The files that these names lead to, one by one.
-fn nodes_of<R: Files + AllocGlobal>(
-    rt: &R,
-    path: &str,
-    names: &[FileName],
+    absent: &mut IndexSet<FileName>,
 ) -> Result<Vec<Option<Node>>, AliasFault>
+    requires { HaveNoFiles S.System system.old absent.old.keys }
+    ensures absent { HaveNoFiles S.System system.new absent.new.keys }
+    ensures looks { OnlyLooks (S.history system.old) (S.history system.new) }
     ensures size { IfOk result (λ nodes. length nodes.items ≡ length names.now) }
     ensures fault { IfErr result (MayReport []) }
 {
-    let mut nodes = Vec::new(rt.alloc());
+    let mut nodes = Vec::new(alloc);
     for name in names {
-        if nodes.push(node_of(rt, path, name)?).is_err() {
+        let node = node_of(system, name, absent)?;
+        if nodes.push(node).is_err() {
             return Err(AliasFault::OutOfMemory);
         }
     }
     Ok(nodes)
 }
 
-fn node_of<R: Files + AllocGlobal>(
-    rt: &R,
-    path: &str,
+fn node_of<S: System>(
+    system: &mut S,
     name: &FileName,
+    absent: &mut IndexSet<FileName>,
 ) -> Result<Option<Node>, AliasFault>
-    ensures { IfErr result (MayReport []) }
-{
-    let path = Path::new(path).join(rt.alloc(), name.as_str())?;
-    node_in(fs::metadata(rt, path.as_path()))
-}
-
-// The file that the system answered, none where there is no such file.
-fn node_in(answer: io::Result<Metadata>) -> Result<Option<Node>, AliasFault>
+    requires { HaveNoFiles S.System system.old absent.old.keys }
+    ensures absent { HaveNoFiles S.System system.new absent.new.keys }
+    ensures looks { OnlyLooks (S.history system.old) (S.history system.new) }
     ensures fault { IfErr result (MayReport []) }
-    ensures reported { IfErr answer (λ error. IfErr result
-        (IsReportedAs (error_kind error) OutOfMemory Device)) }
 {
-    match answer {
-        Ok(metadata) => Ok(Some(Node {
-            device: metadata.dev(),
-            number: metadata.ino(),
-        })),
-        Err(error) => match error.kind() {
-            ErrorKind::NotFound => Ok(None),
-            ErrorKind::OutOfMemory => Err(AliasFault::OutOfMemory),
-            _ => Err(AliasFault::Device),
-        },
+    match system.look(name)? {
+        Some(found) => Ok(Some(found.node)),
+        None => {
+            absent.insert(name.clone()?)?;
+            Ok(None)
+        }
     }
 }
 

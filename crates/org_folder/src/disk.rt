@@ -2,21 +2,16 @@
 //!
 //! It counts failures and keeps what `folder` opened. Nothing is cached of what files hold, but
 //! that they aren't there.
-ghost use Rattle.std.specs.Prelude.{◌≡◌, [], IfOk, OnOk, OnErr, length};
+ghost use Rattle.std.specs.Prelude.{◌≡◌, OnOk, OnErr, length};
 ghost use Rattle.org_disk.specs.Disk.{IsCounted};
-ghost use Rattle.org_folder.specs.Calls.{LeftSince};
-ghost use Rattle.org_folder.specs.FolderDisk.{path_of, record_of};
-ghost use Rattle.org_folder.specs.Right.{file_of, HasBeenRight};
+ghost use Rattle.org_folder.specs.Calls.{IsHeld, LeftSince};
+ghost use Rattle.org_folder.specs.Right.{file_of, HasBeenRight, HaveNoFiles};
 
-use crate::absent_names::AbsentNames;
-use crate::calls::{Calls, SystemCalls};
 use crate::folder::Folder;
-use crate::lock::LockedFolder;
-use crate::start::Start;
+use crate::system::{HostSystem, System};
+use indexmap::IndexSet;
 use org_disk::{Disk, DiskFault, FileName};
-use std::alloc::{AllocError, Global};
-use std::fs::Files;
-use std::os::unix::fs::FileExt;
+use std::alloc::Global;
 
 /// The files of a folder, as a disk over the calls of a system. An absent file and an empty one are
 /// the same: a file is made by its first write, and none is ever removed or renamed. A write of no
@@ -29,8 +24,8 @@ use std::os::unix::fs::FileExt;
 /// each answer in that record was right, and a wrong one ends it for good; no contract says that a
 /// system's answers are right.
 #[derive(Drop)]
-pub struct CallsDisk<C: Calls> {
-    folder: Folder<C>,
+pub struct CallsDisk<S: System> {
+    folder: Folder<S>,
     failures: u64,
 }
 
@@ -45,19 +40,22 @@ pub struct CallsDisk<C: Calls> {
 /// That each answer in its record was right is a premise: no contract says what a real file gives.
 /// The record stands in proofs alone and takes no memory. `S` says what the files held at first,
 /// which no code can read.
-pub type FolderDisk<R, S> = CallsDisk<SystemCalls<R, S>>;
+pub type FolderDisk<R, S> = CallsDisk<HostSystem<R, S>>;
 
-impl<C: Calls + Drop> CallsDisk<C>
+impl<S: System + Drop> CallsDisk<S>
 where
-    C::File: Drop,
+    S::File: Drop,
 {
-    /// The disk over these calls. It makes none.
-    pub fn over(alloc: Global, calls: C) -> CallsDisk<C>
-        ensures calls { result.folder.calls ≡ calls }
+    /// The disk over these calls, of a folder that is locked. It makes none. Of names that were found absent the first call on
+    /// each doesn't look again.
+    pub fn over(alloc: Global, system: S, absent: IndexSet<FileName>) -> CallsDisk<S>
+        requires held { IsHeld (S.history system) }
+        requires absent { HaveNoFiles S.System system absent.keys }
+        ensures system { result.folder.system ≡ system }
         ensures failures { result.failures ≡ 0 }
     {
         CallsDisk {
-            folder: Folder::new(alloc, calls),
+            folder: Folder::new(alloc, system, absent),
             failures: 0,
         }
     }
@@ -67,32 +65,6 @@ where
         ensures { result ≡ self.now.failures }
     {
         self.failures
-    }
-}
-
-impl<R: Files + AllocGlobal + Drop, S: Start> CallsDisk<SystemCalls<R, S>>
-where
-    R::File: FileExt,
-{
-    /// The disk of a locked folder, by the folder's path. It makes no call of the system, and its
-    /// record is empty. The folder is to be kept as long as the disk. Of names that were found
-    /// absent since the folder was locked, the first call on each doesn't look again.
-    ///
-    /// # Errors
-    ///
-    /// `AllocError`: there was no memory for the path.
-    pub fn new(
-        rt: R,
-        alloc: Global,
-        folder: &LockedFolder<'_>,
-        absent: AbsentNames,
-    ) -> Result<FolderDisk<R, S>, AllocError>
-        ensures failures { IfOk result (λ disk. disk.failures ≡ 0) }
-        ensures empty { IfOk result (λ disk. record_of disk ≡ []) }
-        ensures path { IfOk result (λ disk. path_of disk ≡ folder.now.path.now) }
-    {
-        let calls = SystemCalls::new(rt, alloc, folder.path(), absent)?;
-        Ok(CallsDisk::over(alloc, calls))
     }
 }
 
@@ -108,32 +80,32 @@ fn counted<T: Drop>(answer: Result<T, DiskFault>, failures: &mut u64) -> Result<
     answer
 }
 
-impl<C: Calls + Drop> Disk for CallsDisk<C>
+impl<S: System + Drop> Disk for CallsDisk<S>
 where
-    C::File: Drop,
+    S::File: Drop,
 {
     ghost use Rattle.org_folder.specs.CallsLaws.{own_image, counts_now, only_now};
 
-    ghost honest = { λ disk. HasBeenRight C.Calls disk.folder.calls };
+    ghost honest = { λ disk. HasBeenRight S.System disk.folder.system };
 
     ghost truthful = { ⊥ };
 
-    ghost files = { λ disk. file_of C.Calls disk.folder.calls };
+    ghost files = { λ disk. file_of S.System disk.folder.system };
 
-    ghost instant = { λ disk. length (C.history disk.folder.calls) };
+    ghost instant = { λ disk. length (S.history disk.folder.system) };
 
-    ghost left_since = { λ disk. LeftSince C.world (C.history disk.folder.calls) };
+    ghost left_since = { λ disk. LeftSince S.world (S.history disk.folder.system) };
 
     ghost failures = { λ disk. disk.failures };
 
     ghost content_is_image = { λ disk name honest.
-        own_image C.world (C.history disk.folder.calls) honest name };
+        own_image S.world (S.history disk.folder.system) honest name };
 
     ghost counts_now = { λ disk t image _ le now.
-        counts_now C.world (C.history disk.folder.calls) t image le now };
+        counts_now S.world (S.history disk.folder.system) t image le now };
 
     ghost only_now = { λ disk image _ left.
-        only_now C.world (C.history disk.folder.calls) image left };
+        only_now S.world (S.history disk.folder.system) image left };
 
     fn length(&mut self, name: &FileName) -> Result<u64, DiskFault> {
         counted(self.folder.length(name), &mut self.failures)

@@ -1,60 +1,69 @@
 //! The files of a folder, each opened once and kept open.
 //!
 //! The opened files stand in byte order of their names, each name once. That a file isn't there is
-//! kept for the next call on it, which doesn't look again. Files are made by their first write,
-//! and never removed or renamed. No fault is counted here.
-ghost use Rattle.std.specs.Prelude.{◌≡◌, ◌⊎◌, ◌≤◌, [], ◌∷◌, length, take, drop, is_ok, IfOk, IfSome, IfNone, IfErr, IsErr, IsFalse, OnOk};
+//! kept for the next call on it, which doesn't look again. A name that was found absent before the
+//! first call is believed twice so. Files are made by their first write, and never removed or
+//! renamed. No fault is counted here.
+ghost use Rattle.std.specs.Prelude.{◌≡◌, ◌⊎◌, ◌≤◌, [], ◌∷◌, length, take, drop, is_ok, IfOk, IfSome, IfNone, IfErr, IsErr, IsFalse, IsTrue, List, ℕ, OnOk};
 ghost use Rattle.std.specs.List.{list_any};
 ghost use Rattle.std.specs.Str.{bytes_eq};
 ghost use Rattle.org_disk.specs.Disk.{cut, stable, sync, write};
-ghost use Rattle.org_folder.specs.Calls.Event.{Sync};
-ghost use Rattle.org_folder.specs.Right.{content_of, file_of, DoesRight, HasBeenRight, HaveNoFiles, LiesWithin, LooksRight, StandsAt};
+ghost use Rattle.org_folder.specs.Calls.{HasEntered, IsHeld};
+ghost use Rattle.org_folder.specs.Right.{content_of, file_of, AreEntered, DoesRight, HasBeenRight, HaveNoFiles, LiesWithin, LooksRight, StandsAt};
 
-use crate::calls::{Calls, Opened};
+use crate::system::{Opened, System};
 use indexmap::IndexSet;
 use org_disk::{DiskFault, FileName};
 use std::alloc::Global;
 
 #[derive(Drop)]
-pub struct Folder<C: Calls> {
-    calls: C,
-    files: Vec<Opened<C::File>>,
+pub struct Folder<S: System> {
+    system: S,
+    files: Vec<Opened<S::File>>,
     absent: IndexSet<FileName>,
-    ghost known: { HaveNoFiles C.Calls calls absent.keys },
+    // absent before the first call on each
+    absent_at_first: IndexSet<FileName>,
+    ghost held: { IsHeld (S.history system) },
+    ghost known: { HaveNoFiles S.System system absent.keys },
+    ghost known_at_first: { HaveNoFiles S.System system absent_at_first.keys },
+    ghost entered: { AreEntered (S.history system) files.items },
 }
 
-impl<C: Calls + Drop> Folder<C>
+impl<S: System + Drop> Folder<S>
 where
-    C::File: Drop,
+    S::File: Drop,
 {
-    pub fn new(alloc: Global, calls: C) -> Folder<C>
-        ensures { result.calls ≡ calls }
+    pub fn new(alloc: Global, system: S, absent: IndexSet<FileName>) -> Folder<S>
+        requires held { IsHeld (S.history system) }
+        requires absent { HaveNoFiles S.System system absent.keys }
+        ensures { result.system ≡ system }
     {
         Folder {
-            calls,
+            system,
             files: Vec::new(alloc),
             absent: IndexSet::new(alloc),
+            absent_at_first: absent,
         }
     }
 
     pub fn length(&mut self, name: &FileName) -> Result<u64, DiskFault>
-        ensures value { HasBeenRight C.Calls self.new.calls →
-            IfOk result (λ n. n ≡ length (content_of C.Calls self.old.calls name.now)) }
-        ensures looks { LooksRight C.Calls self.old.calls self.new.calls }
+        ensures value { HasBeenRight S.System self.new.system →
+            IfOk result (λ n. n ≡ length (content_of S.System self.old.system name.now)) }
+        ensures looks { LooksRight S.System self.old.system self.new.system }
     {
         match self.find(name)? {
-            Some(at) => self.calls.length(&self.files[at]),
+            Some(at) => self.system.length(&self.files[at]),
             None => Ok(0),
         }
     }
 
     pub fn read(&mut self, name: &FileName, from: u64, into: &mut [u8]) -> Result<(), DiskFault>
-        ensures bytes { HasBeenRight C.Calls self.new.calls → OnOk result (into.new
-            ≡ take (length into.old) (drop from (content_of C.Calls self.old.calls name.now))) }
-        ensures looks { LooksRight C.Calls self.old.calls self.new.calls }
+        ensures bytes { HasBeenRight S.System self.new.system → OnOk result (into.new
+            ≡ take (length into.old) (drop from (content_of S.System self.old.system name.now))) }
+        ensures looks { LooksRight S.System self.old.system self.new.system }
     {
         match self.find(name)? {
-            Some(at) => self.calls.read_at(&self.files[at], from, into),
+            Some(at) => self.system.read_at(&self.files[at], from, into),
             None if into.is_empty() => Ok(()),
             None => Err(DiskFault),
         }
@@ -62,20 +71,20 @@ where
 
     // A write of no bytes tries the file, and makes it where there is none.
     pub fn write(&mut self, name: &FileName, from: u64, bytes: &[u8]) -> Result<(), DiskFault>
-        requires { LiesWithin C.Calls self.old.calls name.now from }
-        ensures { DoesRight C.Calls (write from bytes.now) name.now
-            self.old.calls self.new.calls result }
+        requires { LiesWithin S.System self.old.system name.now from }
+        ensures { DoesRight S.System (write from bytes.now) name.now
+            self.old.system self.new.system result }
     {
         let at = self.find_or_make(name)?;
-        self.calls.write_at(&self.files[at], from, bytes)
+        self.system.write_at(&self.files[at], from, bytes)
     }
 
     pub fn cut(&mut self, name: &FileName, to: u64) -> Result<(), DiskFault>
-        requires { LiesWithin C.Calls self.old.calls name.now to }
-        ensures { DoesRight C.Calls (cut to) name.now self.old.calls self.new.calls result }
+        requires { LiesWithin S.System self.old.system name.now to }
+        ensures { DoesRight S.System (cut to) name.now self.old.system self.new.system result }
     {
         match self.find(name)? {
-            Some(at) => self.calls.cut(&self.files[at], to),
+            Some(at) => self.system.cut(&self.files[at], to),
             None if to == 0 => Ok(()),
             None => Err(DiskFault),
         }
@@ -83,10 +92,10 @@ where
 
     // The first sync of a file takes its entry in the folder along.
     pub fn sync(&mut self, name: &FileName) -> Result<(), DiskFault>
-        ensures { DoesRight C.Calls sync name.now self.old.calls self.new.calls result }
+        ensures { DoesRight S.System sync name.now self.old.system self.new.system result }
     {
         match self.find(name)? {
-            Some(at) => sync_opened(&mut self.calls, &mut self.files[at]),
+            Some(at) => sync_opened(&mut self.system, &mut self.files[at]),
             None => Ok(()),
         }
     }
@@ -95,23 +104,28 @@ where
     fn find(&mut self, name: &FileName) -> Result<Option<usize>, DiskFault>
         ensures place { IfOk result (λ found. IfSome found
             (StandsAt name.now self.new.files.items)) }
-        ensures absent { HasBeenRight C.Calls self.new.calls → IfOk result (λ found.
-            IfNone found (file_of C.Calls self.old.calls name.now ≡ stable [])) }
+        ensures absent { HasBeenRight S.System self.new.system → IfOk result (λ found.
+            IfNone found (file_of S.System self.old.system name.now ≡ stable [])) }
         ensures there { IfOk result (λ found. IfSome found (λ _.
-            IsFalse (list_any (bytes_eq name.now) self.new.absent.keys))) }
+            IsFalse (list_any (bytes_eq name.now) self.new.absent.keys)
+            × IsFalse (list_any (bytes_eq name.now) self.new.absent_at_first.keys))) }
         ensures found { IfOk result (λ found. IfSome found (λ _.
-            C.history self.new.calls ≡ C.history self.old.calls)) }
-        ensures looks { LooksRight C.Calls self.old.calls self.new.calls }
+            S.history self.new.system ≡ S.history self.old.system)) }
+        ensures looks { LooksRight S.System self.old.system self.new.system }
     {
         // It is believed once: another program may make the file meanwhile.
         if self.absent.swap_remove(name) {
+            return Ok(None);
+        }
+        if self.absent_at_first.swap_remove(name) {
+            self.keep_absent(name);
             return Ok(None);
         }
         let place = match self.place(name) {
             Ok(at) => return Ok(Some(at)),
             Err(place) => place,
         };
-        match self.calls.open(name)? {
+        match self.system.open(name)? {
             Some(opened) => Ok(Some(self.keep(place, opened)?)),
             None => {
                 self.keep_absent(name);
@@ -123,14 +137,16 @@ where
     // What is made is no longer absent, and a make that fails may have made it.
     fn find_or_make(&mut self, name: &FileName) -> Result<usize, DiskFault>
         ensures place { IfOk result (StandsAt name.now self.new.files.items) }
-        ensures there { IsFalse (list_any (bytes_eq name.now) self.new.absent.keys) }
-        ensures same { C.history self.new.calls ≡ C.history self.old.calls }
+        ensures there { IsFalse (list_any (bytes_eq name.now) self.new.absent.keys)
+            × IsFalse (list_any (bytes_eq name.now) self.new.absent_at_first.keys) }
+        ensures looks { LooksRight S.System self.old.system self.new.system }
     {
         self.absent.swap_remove(name);
+        self.absent_at_first.swap_remove(name);
         match self.place(name) {
             Ok(at) => Ok(at),
             Err(place) => {
-                let opened = self.calls.make(name)?;
+                let opened = self.system.make(name)?;
                 self.keep(place, opened)
             }
         }
@@ -150,11 +166,13 @@ where
         }
     }
 
-    fn keep(&mut self, place: usize, opened: Opened<C::File>) -> Result<usize, DiskFault>
-        requires { place ≤ length self.old.files.items }
+    fn keep(&mut self, place: usize, opened: Opened<S::File>) -> Result<usize, DiskFault>
+        requires place { place ≤ length self.old.files.items }
+        requires entered { IsFalse opened.is_entered }
         ensures place { IfOk result (StandsAt opened.name self.new.files.items) }
         ensures absent { self.new.absent ≡ self.old.absent }
-        ensures calls { self.new.calls ≡ self.old.calls }
+        ensures at_first { self.new.absent_at_first ≡ self.old.absent_at_first }
+        ensures system { self.new.system ≡ self.old.system }
     {
         match self.files.insert(place, opened) {
             Ok(()) => Ok(place),
@@ -165,9 +183,9 @@ where
     // Keeps the name of a file that isn't there for the next call on it. Without memory for it,
     // that call looks again.
     fn keep_absent(&mut self, name: &FileName)
-        requires { HasBeenRight C.Calls self.old.calls
-            → file_of C.Calls self.old.calls name.now ≡ stable [] }
-        ensures { self.new.calls ≡ self.old.calls }
+        requires { HasBeenRight S.System self.old.system
+            → file_of S.System self.old.system name.now ≡ stable [] }
+        ensures { self.new.system ≡ self.old.system }
     {
         if let Ok(name) = name.clone() {
             let _ = self.absent.insert(name);
@@ -176,14 +194,20 @@ where
 }
 
 // Syncs a file, whose entry in the folder goes along the first time.
-fn sync_opened<C: Calls>(calls: &mut C, opened: &mut Opened<C::File>) -> Result<(), DiskFault>
+fn sync_opened<S: System>(system: &mut S, opened: &mut Opened<S::File>) -> Result<(), DiskFault>
 where
-    C::File: Drop,
-    ensures { (C.history calls.new ≡ Sync opened.old.name (is_ok result) ∷ C.history calls.old)
-        ⊎ (IsErr result × (C.history calls.new ≡ C.history calls.old)) }
+    S::File: Drop,
+    requires { IsTrue opened.old.is_entered
+        → HasEntered opened.old.name (S.history system.old) }
+    ensures synced { DoesRight S.System sync opened.old.name system.old system.new result }
+    ensures entered { IsTrue opened.new.is_entered
+        → HasEntered opened.new.name (S.history system.new) }
+    ensures others { (name : List ℕ) → HasEntered name (S.history system.old)
+        → HasEntered name (S.history system.new) }
+    ensures held { IsHeld (S.history system.old) → IsHeld (S.history system.new) }
 {
     if !opened.is_entered() {
-        calls.sync_entry(opened)?;
+        system.sync_entry(opened)?;
     }
-    calls.sync(opened)
+    system.sync(opened)
 }

@@ -1,10 +1,12 @@
 //! The laws of the record of calls, for all values.
 //!
 //! Each is the contract of a function with nothing to do.
-ghost use Rattle.std.specs.Prelude.{◌≡◌, List, ℕ, []};
+ghost use Rattle.std.specs.Prelude.{◌≡◌, List, ℕ, [], ◌∷◌, IsFalse};
+ghost use Rattle.std.specs.List.{list_any};
+ghost use Rattle.std.specs.Str.{bytes_eq};
 ghost use Rattle.org_disk.specs.Disk.{stable};
-ghost use Rattle.org_folder.specs.Calls.{Event, IsLeftAlone, IsRight, World};
-ghost use Rattle.org_folder.specs.Calls.Event.{Absent};
+ghost use Rattle.org_folder.specs.Calls.{Event, IsLeftAlone, IsRight, IsRightList, World, files, with_entries};
+ghost use Rattle.org_folder.specs.Calls.Event.{Absent, Listed, Locked};
 
 /// That there is no file of a name is a right answer, as often as it is given, where the file was
 /// empty and on the device at first, and no write, cut or sync was made on it. A `CallsDisk` makes
@@ -14,4 +16,13 @@ pub fn absent_is_right()
     ensures { (world : World) (calls : List Event) (name : List ℕ)
         → world.start name ≡ stable [] → IsLeftAlone name calls
         → IsRight world (Absent name) calls }
+{}
+
+/// Where the folder's list is right, a name that isn't listed has no file: it stands for the empty
+/// one, after a crash too. The list was made next to the folder's lock.
+pub fn unlisted_is_absent()
+    ensures { (world : World) (path : List ℕ) (names : List (List ℕ)) (earlier : List Event)
+        (name : List ℕ) → IsFalse (list_any (bytes_eq name) names)
+        → IsRightList world (with_entries names (Locked path ∷ earlier))
+        → files world (Listed ∷ with_entries names (Locked path ∷ earlier)) name ≡ stable [] }
 {}

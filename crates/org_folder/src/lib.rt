@@ -1,17 +1,15 @@
 //! A folder of files as a disk, over the calls of a system.
 //!
-//! `CallsDisk` meets org_disk's `Disk` over any `Calls`, and is honest where each answer in their
+//! `CallsDisk` meets org_disk's `Disk` over any `System`, and is honest where each answer in their
 //! record was right. `FolderDisk` is the one over the operating system's.
 //!
 //! For a real folder that is a premise, since no contract says what a real file gives. The record
 //! stands in proofs alone and takes no memory. Its two functions are proved by hand, as no code can
-//! set it; so what each method of `SystemCalls` notes has to be read against the call that it
+//! set it; so what each method of `HostSystem` notes has to be read against the call that it
 //! makes, and no other proof by hand may set a record.
 #![tactic(auto)]
 
-mod absent_names;
 mod apart;
-mod calls;
 mod disk;
 mod folder;
 pub mod laws;
@@ -19,11 +17,11 @@ mod list;
 mod lock;
 mod record;
 mod start;
+mod system;
 
-pub use absent_names::AbsentNames;
 pub use apart::{AliasFault, Node, check_aliases};
-pub use calls::{Calls, Opened, SystemCalls};
 pub use disk::{CallsDisk, FolderDisk};
 pub use list::{ListFault, org_file, org_files};
-pub use lock::{LockFault, LockedFolder, fill_streams, lock_folder};
+pub use lock::LockFault;
 pub use start::{Start, Unknown};
+pub use system::{Found, HostSystem, Locks, Opened, System};

@@ -2,17 +2,18 @@
 //!
 //! Links are followed. Other entries are left alone; one whose name isn't UTF-8 refuses the
 //! listing.
-ghost use Rattle.std.specs.Prelude.{◌≡◌, ◌↔◌, IsTrue, IsFalse, IfOk, IfSome, IsErrOf, All};
+ghost use Rattle.std.specs.Prelude.{◌≡◌, ◌↔◌, [], ◌∷◌, filter, map, string_bytes, IsTrue, IsFalse, IfOk, IfSome, IsErrOf, All};
 ghost use Rattle.std.specs.IoError.{error_kind};
 ghost use Rattle.org_disk.specs.Names.{IsOrgFile};
 ghost use Rattle.org_folder.specs.Faults.{IsReportedAs};
+ghost use Rattle.org_folder.specs.Listing.{as_list, Lists, LooksAt};
 ghost use Rattle.org_folder.specs.OrgFiles.{is_org_file};
+ghost use Rattle.org_folder.specs.Calls.{OnlyLooks};
 ghost use Rattle.org_folder.specs.declared.list.ListFault.TheVariants.{Device, OutOfMemory};
 
-use crate::lock::LockedFolder;
+use crate::system::System;
 use org_disk::{FileName, NameFault};
-use std::alloc::{AllocFailed, Global};
-use std::fs::{self, DirEntry, Files};
+use std::alloc::{AllocError, AllocFailed, Global};
 use std::io::{self, ErrorKind};
 use thiserror::Error;
 
@@ -35,6 +36,14 @@ impl From<io::Error> for ListFault {
             ErrorKind::OutOfMemory => ListFault::OutOfMemory,
             _ => ListFault::Device,
         }
+    }
+}
+
+impl From<AllocError> for ListFault {
+    ghost from_gives = { λ _ fault. fault ≡ OutOfMemory };
+
+    fn from(_: AllocError) -> ListFault {
+        ListFault::OutOfMemory
     }
 }
 
@@ -70,24 +79,34 @@ fn is_org_file(text: &str) -> bool
     FileName::accepts(text) && !text.as_bytes().ends_with(b"_archive")
 }
 
-/// The names of the Org files of a locked folder, in the order in which the system lists them.
-/// Entries with other names are left out, and so is what is no plain file: folders, pipes, sockets
-/// and devices, those that a link leads to as well. A link that leads nowhere is a file that is
-/// absent.
+/// The names of the Org files of a folder, in the order in which the system lists them. Entries
+/// with other names are left out, and so is what is no plain file: folders, pipes, sockets and
+/// devices, those that a link leads to as well. A link that leads nowhere is a file that is absent.
 ///
 /// # Errors
 ///
 /// - `Device`: the folder can't be listed, or the name of one of its entries isn't UTF-8.
 /// - `OutOfMemory`.
-pub fn org_files<R: Files + AllocGlobal + Clone + Drop>(
-    rt: &R,
-    folder: &LockedFolder<'_>,
-) -> Result<Vec<FileName>, ListFault>
-    ensures { IfOk result (λ names. All IsOrgFile names.items) }
+pub fn org_files<S: System>(alloc: Global, system: &mut S) -> Result<Vec<FileName>, ListFault>
+    ensures org { IfOk result (λ names. All IsOrgFile names.items) }
+    ensures lists { IfOk result (λ names. Lists names.items
+        (S.history system.old) (S.history system.new)) }
+    ensures looks { OnlyLooks (S.history system.old) (S.history system.new) }
 {
-    let mut names = Vec::new(rt.alloc());
-    for entry in fs::read_dir(rt, folder.path())? {
-        let Some(name) = name_of(rt, entry)? else {
+    let entries = system.list()?;
+    let names = named(alloc, &entries)?;
+    plain_files(alloc, system, &names)
+}
+
+// Those of these texts that name Org files.
+fn named(alloc: Global, entries: &[String]) -> Result<Vec<FileName>, ListFault>
+    ensures org { IfOk result (λ names. All IsOrgFile names.items) }
+    ensures all { IfOk result (λ names. names.items
+        ≡ filter is_org_file (map string_bytes entries.now)) }
+{
+    let mut names = Vec::new(alloc);
+    for entry in entries {
+        let Some(name) = name_of(alloc, entry)? else {
             continue;
         };
         names.push(name)?;
@@ -96,24 +115,49 @@ pub fn org_files<R: Files + AllocGlobal + Clone + Drop>(
 }
 
 // The name of an entry that is an Org file.
-fn name_of<R: Files + AllocGlobal + Drop>(
-    rt: &R,
-    entry: io::Result<DirEntry<R>>,
-) -> Result<Option<FileName>, ListFault>
-    ensures { IfOk result (λ found. IfSome found IsOrgFile) }
+fn name_of(alloc: Global, entry: &str) -> Result<Option<FileName>, ListFault>
+    ensures org { IfOk result (λ found. IfSome found IsOrgFile) }
+    ensures all { IfOk result (λ found. as_list found ≡ filter is_org_file (entry.now ∷ [])) }
 {
-    let entry = entry?;
-    match org_file(rt.alloc(), entry.file_name()) {
-        Ok(name) if is_file(rt, &entry) => Ok(Some(name)),
-        Ok(_) | Err(NameFault::BadName) => Ok(None),
+    match org_file(alloc, entry) {
+        Ok(name) => Ok(Some(name)),
+        Err(NameFault::BadName) => Ok(None),
         Err(NameFault::OutOfMemory) => Err(ListFault::OutOfMemory),
     }
 }
 
-// Links are followed. What can't be looked at is a file: its first use then fails.
-fn is_file<R: Files>(rt: &R, entry: &DirEntry<R>) -> bool {
-    match fs::metadata(rt, entry.path()) {
-        Ok(metadata) => metadata.is_file(),
-        Err(_) => true,
+// Those of these names that lead to a plain file or nowhere.
+fn plain_files<S: System>(
+    alloc: Global,
+    system: &mut S,
+    names: &[FileName],
+) -> Result<Vec<FileName>, ListFault>
+    requires { All IsOrgFile names.now }
+    ensures org { IfOk result (λ names. All IsOrgFile names.items) }
+    ensures kept { IfOk result (λ files. LooksAt names.now files.items
+        (S.history system.old) (S.history system.new)) }
+    ensures looks { OnlyLooks (S.history system.old) (S.history system.new) }
+{
+    let mut files = Vec::new(alloc);
+    for name in names {
+        let Some(file) = plain_file(system, name)? else {
+            continue;
+        };
+        files.push(file)?;
+    }
+    Ok(files)
+}
+
+// A name that leads to a plain file or nowhere. What can't be looked at is a file: its first use
+// then fails.
+fn plain_file<S: System>(system: &mut S, name: &FileName) -> Result<Option<FileName>, ListFault>
+    ensures same { IfOk result (λ found. IfSome found (λ file. file ≡ name.now)) }
+    ensures kept { IfOk result (λ found. LooksAt (name.now ∷ []) (as_list found)
+        (S.history system.old) (S.history system.new)) }
+    ensures looks { OnlyLooks (S.history system.old) (S.history system.new) }
+{
+    match system.look(name) {
+        Ok(Some(found)) if !found.is_plain => Ok(None),
+        _ => Ok(Some(name.clone()?)),
     }
 }

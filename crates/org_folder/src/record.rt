@@ -13,12 +13,20 @@ use std::marker::{Model, PhantomData};
 /// whether they succeeded.
 #[derive(Clone, Copy)]
 pub enum Call {
+    Filled,
+    Locked,
+    Entry,
+    Listed,
+    There(u64, u64, bool),
+    Unseen,
     Absent,
     Length(u64),
     Read(u64),
     Write(u64, bool),
     Cut(u64, bool),
     Sync(bool),
+    Made(bool),
+    Entered(bool),
 }
 
 /// The calls so far, the newest first. It has no bytes; the marker makes it a type that a proof can
@@ -42,7 +50,7 @@ impl Record {
         }
     }
 
-    // Notes a call on the file of this name, which read or wrote these bytes.
+    // Notes a call on this name or path, which read or wrote these bytes.
     pub(crate) fn note(&mut self, _call: Call, _name: &[u8], _bytes: &[u8])
         ensures { self.new.events ≡ event_of _call _name.now _bytes.now ∷ self.old.events }
     {}

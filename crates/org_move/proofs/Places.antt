@@ -4,29 +4,24 @@ use Rattle.std.specs.Prelude.{Result, IfErr, if◌then◌else◌}
 use Rattle.std.specs.Option.{option_map}
 use Rattle.std.specs.Str.{is_utf8}
 use Rattle.org_disk.specs.Names.{is_archive_name, is_file_name}
-use Rattle.org_outline.specs.declared.steps.Step.{Step}
 use Rattle.org_outline.specs.States.{Keywords}
-use Rattle.org_outline.specs.declared.paths.PathFault.{PathFault}
-use Rattle.org_outline.specs.Tree.{tree}
-use Rattle.org_outline.specs.Paths.{find_path}
 use Rattle.org_move.specs.declared.fault.MoveFault.{MoveFault}
 use Rattle.org_move.specs.declared.fault.MoveFault.TheVariants.{NotFound, NotUnique, InsideItself, AlreadyArchive, BadLocation, NoSuchFile, OutOfMemory}
 use Rattle.org_move.specs.Answers.{GivesName, GivesPlace}
-use Rattle.org_move.specs.Location.{Destination, Halves, Heading, file_named, halves_of, heading_of, location, value_for, with_file}
+use Rattle.org_move.specs.Location.{Destination, Halves, Heading, file_named, halves_of, heading_of, location_at, value_for, with_file}
 
 -- what was read
 pub read_is : {A B : Type 0} (view : A → B) (o : Option A) (x : A) (defined : Option B) → option_map view o ≡ defined → o ≡ Some x → defined ≡ Some (view x)
 read_is view o x defined is some = sym is ∙ ap (option_map view) some
 
-pub located : (states s : Keywords) (name : List ℕ) (path : List Step) (t value : List ℕ) (r : Result ℕ PathFault) (i : ℕ) (halves : Halves) (heading : Heading) (b : Bool)
-    → r ≡ find_path states (tree t) path → r ≡ Ok i → b ≡ is_archive_name name → b ≡ false → value ≡ value_for t i → halves_of value ≡ Some halves → s ≡ states → heading_of s halves.heading ≡ Some heading
-    → location states name path t ≡ with_file (record { file = file_named name halves.file; level = heading.level; title = heading.title })
-located states s name path t value r i halves heading b r_is found b_is own value_is cut same read =
-    let first : find_path states (tree t) path ≡ Ok i = sym r_is ∙ found in
-    let second : is_archive_name name ≡ false = sym b_is ∙ own in
-    let third : halves_of (value_for t i) ≡ Some halves = ap halves_of (sym value_is) ∙ cut in
-    let fourth : heading_of states halves.heading ≡ Some heading = ap (λ s. heading_of s halves.heading) (sym same) ∙ read in
-    rw (first, second, third, fourth) refl
+pub located : (states s : Keywords) (name t value : List ℕ) (i : ℕ) (halves : Halves) (heading : Heading) (b : Bool)
+    → b ≡ is_archive_name name → b ≡ false → value ≡ value_for t i → halves_of value ≡ Some halves → s ≡ states → heading_of s halves.heading ≡ Some heading
+    → location_at states name t i ≡ with_file (record { file = file_named name halves.file; level = heading.level; title = heading.title })
+located states s name t value i halves heading b b_is own value_is cut same read =
+    let first : is_archive_name name ≡ false = sym b_is ∙ own in
+    let second : halves_of (value_for t i) ≡ Some halves = ap halves_of (sym value_is) ∙ cut in
+    let third : heading_of states halves.heading ≡ Some heading = ap (λ s. heading_of s halves.heading) (sym same) ∙ read in
+    rw (first, second, third) refl
 
 -- only the file's name may be wrong after the value was read
 late : (to : Destination) (b : Bool) → IfErr (if b then Ok to else Err NoSuchFile) (λ fault. fault ≡ NoSuchFile)

@@ -118,24 +118,34 @@ if_apart d i (Some p) new =
     if is_inside d i p then Err InsideItself
     else (if is_inside d p i then Err AlreadyArchive else Ok new)
 
--- archiving within a document, the text of the file of this name: the heading at `path` goes to the
--- destination
-abbrev pub archive_within : Keywords → List ℕ → List Step → Moment → Destination → Document
+-- archiving within a document, the text of the file of this name: heading i goes to the destination
+abbrev pub archive_within_at : Keywords → List ℕ → Moment → Destination → Document → ℕ
     → Result Document MoveFault
-archive_within states name path now to d =
-    with_found (find_path states d path) (λ i.
+archive_within_at states name now to d i =
     with_heading (target_heading states to d) (λ up.
     if_apart d i up
     (put_last to (parent_without i (size_of d i) up) (archived states name now d i)
-    (take_out i d))))
+    (take_out i d)))
 
--- archiving into another document, the text of the destination's file
-abbrev pub archive_across : Keywords → List ℕ → List Step → Moment → Document → Keywords
-    → Destination → Document → Result Moved MoveFault
-archive_across states name path now source there to target =
-    with_found (find_path states source path) (λ i.
+-- .. and so does the heading at `path`
+abbrev pub archive_within : Keywords → List ℕ → List Step → Moment → Destination → Document
+    → Result Document MoveFault
+archive_within states name path now to d =
+    with_found (find_path states d path) (λ i. archive_within_at states name now to d i)
+
+-- archiving into another document, the text of the destination's file: heading i of the source
+abbrev pub archive_across_at : Keywords → List ℕ → Moment → Document → Keywords → Destination
+    → Document → ℕ → Result Moved MoveFault
+archive_across_at states name now source there to target i =
     with_heading (target_heading there to target) (λ up.
     Ok (record {
       source = take_out i source;
       target = put_last to up (archived states name now source i) target;
-    })))
+    }))
+
+-- .. and the heading at `path`
+abbrev pub archive_across : Keywords → List ℕ → List Step → Moment → Document → Keywords
+    → Destination → Document → Result Moved MoveFault
+archive_across states name path now source there to target =
+    with_found (find_path states source path) (λ i.
+    archive_across_at states name now source there to target i)

@@ -155,9 +155,13 @@ abbrev pub and_file : Option Destination → Result Destination MoveFault
 and_file None = Err BadLocation
 and_file (Some to) = with_file to
 
--- where the heading at a path goes that is archived from the file of this name
+-- where heading i goes that is archived from the file of this name
+abbrev pub location_at : Keywords → List ℕ → List ℕ → ℕ → Result Destination MoveFault
+location_at states name text i =
+    if is_archive_name name then Err AlreadyArchive
+    else and_file (location_of states name (value_for text i))
+
+-- .. and the heading at a path
 abbrev pub location : Keywords → List ℕ → List Step → List ℕ → Result Destination MoveFault
 location states name path text =
-    with_found (find_path states (tree text) path) (λ i.
-    if is_archive_name name then Err AlreadyArchive
-    else and_file (location_of states name (value_for text i)))
+    with_found (find_path states (tree text) path) (λ i. location_at states name text i)

@@ -9,7 +9,7 @@ ghost use Rattle.org_outline.specs.Moves.{InsertsAt, take};
 ghost use Rattle.org_outline.specs.Numbers.{LiesIn, parent_without, size_of};
 ghost use Rattle.org_outline.specs.Tree.{Node as NodeOf, node_at, node_count, print, tree};
 ghost use Rattle.org_move.specs.Answers.{Gives};
-ghost use Rattle.org_move.specs.Archive.{archive_across, archive_within, filled, put_last};
+ghost use Rattle.org_move.specs.Archive.{archive_across_at, archive_within_at, filled, put_last};
 ghost use Rattle.org_move.specs.Location.{Destination};
 
 use crate::MoveFault;
@@ -19,7 +19,7 @@ use crate::refile::{level_of, without};
 use crate::subtree::archived_lines;
 use crate::target::target_heading;
 use org_disk::FileName;
-use org_outline::{Node, Outline, Place, Step};
+use org_outline::{Node, Outline, Place};
 use org_splice::{Bytes, Edit};
 use org_stamp::Moment;
 use std::alloc::Global;
@@ -88,37 +88,33 @@ fn insertion(at: usize, bytes: Vec<u8>) -> Edit
     }
 }
 
-/// The edits of two texts by which the subtree at `path` of the source, the text of the file with
-/// this name, is archived in the target, the text of the location's file (Org manual, "Moving a
-/// tree to an archive file"): the first one takes it out of the source, and the second one puts it
-/// into the target, last below the location's heading, which is made at the end where it isn't
-/// there, or last at the top level. Its root gets the properties ARCHIVE_TIME, ARCHIVE_FILE,
-/// ARCHIVE_OLPATH, ARCHIVE_CATEGORY, ARCHIVE_TODO and ARCHIVE_ITAGS.
+/// The edits of two texts by which a subtree of the source, the text of the file with this name, is
+/// archived in the target, the text of the location's file (Org manual, "Moving a tree to an
+/// archive file"): the first one takes it out of the source, and the second one puts it into the
+/// target, last below the location's heading, which is made at the end where it isn't there, or
+/// last at the top level. Its root gets the properties ARCHIVE_TIME, ARCHIVE_FILE, ARCHIVE_OLPATH,
+/// ARCHIVE_CATEGORY, ARCHIVE_TODO and ARCHIVE_ITAGS.
 ///
 /// # Errors
 ///
-/// In this order:
-///
-/// - `NotFound` or `NotUnique` of `path`;
-/// - `NotUnique` of the location's heading;
-/// - `OutOfMemory`.
+/// In this order: `NotUnique` of the location's heading, and `OutOfMemory`.
 pub fn archive(
     alloc: Global,
     source: &Outline<'_>,
     target: &Outline<'_>,
     name: &FileName,
-    path: &[Step],
+    node: Node,
     now: Moment,
     to: &Location,
 ) -> Result<(Edit, Edit), MoveFault>
+    requires { node < node_count (tree source.now.text) }
     ensures { let from = tree source.now.text in
         let into = tree target.now.text in
-        Gives (archive_across source.now.states name.now path.now now from
-        target.now.states to.now into)
+        Gives (archive_across_at source.now.states name.now now from
+        target.now.states to.now into node)
         (λ new edits. AreEdits (edits.0 ∷ []) source.now.text (print new.source)
         × AreEdits (edits.1 ∷ []) target.now.text (print new.target)) result }
 {
-    let node = source.find(path)?;
     let up = target_heading(target, to)?;
     let (at, above) = last_below(target, up);
     let lines = archived_lines(alloc, source, node, name, now, to, above)?;
@@ -126,17 +122,16 @@ pub fn archive(
     Ok((without(alloc, source, node), goes_in))
 }
 
-/// The edits, to be made in this order, by which the subtree at `path` of the text of the file with
-/// this name is archived in the same text (Org manual, "Moving a tree to an archive file"): the
-/// first one takes it out, and the second one puts it in, at a byte of the text that the first one
-/// leaves, last below the location's heading, which is made at the end where it isn't there, or
-/// last at the top level. Its root gets the properties of an archived entry, as by `archive`.
+/// The edits, to be made in this order, by which a subtree of the text of the file with this name
+/// is archived in the same text (Org manual, "Moving a tree to an archive file"): the first one
+/// takes it out, and the second one puts it in, at a byte of the text that the first one leaves,
+/// last below the location's heading, which is made at the end where it isn't there, or last at the
+/// top level. Its root gets the properties of an archived entry, as by `archive`.
 ///
 /// # Errors
 ///
 /// In this order:
 ///
-/// - `NotFound` or `NotUnique` of `path`;
 /// - `NotUnique` of the location's heading;
 /// - `InsideItself`: that heading lies in the subtree;
 /// - `AlreadyArchive`: the subtree lies below it;
@@ -145,16 +140,16 @@ pub fn archive_within(
     alloc: Global,
     outline: &Outline<'_>,
     name: &FileName,
-    path: &[Step],
+    node: Node,
     now: Moment,
     to: &Location,
 ) -> Result<[Edit; 2], MoveFault>
+    requires { node < node_count (tree outline.now.text) }
     ensures { let states = outline.now.states in
         let document = tree outline.now.text in
-        Gives (archive_within states name.now path.now now to.now document)
+        Gives (archive_within_at states name.now now to.now document node)
         (λ new edits. AreEdits edits outline.now.text (print new)) result }
 {
-    let node = outline.find(path)?;
     let up = apart(outline, node, target_heading(outline, to)?)?;
     let (at, above) = last_below_without(outline, node, up);
     let lines = archived_lines(alloc, outline, node, name, now, to, above)?;

@@ -10,7 +10,7 @@ ghost use Rattle.org_splice.specs.Searched.{IsSearched};
 ghost use Rattle.org_outline.specs.Parts.{AreParts, Parts};
 ghost use Rattle.org_outline.specs.Tree.{node_count, tree};
 ghost use Rattle.org_move.specs.Answers.{GivesName, GivesPlace};
-ghost use Rattle.org_move.specs.Location.{ComesTo, LeavesLines, location, file_named, halves_made, halves_of, has_archive_line, heading_made, heading_of, is_archive_line, is_title_alone, value_for, value_of_lines, with_file, with_name};
+ghost use Rattle.org_move.specs.Location.{ComesTo, LeavesLines, location_at, file_named, halves_made, halves_of, has_archive_line, heading_made, heading_of, is_archive_line, is_title_alone, value_for, value_of_lines, with_file, with_name};
 ghost use Rattle.org_splice.specs.Blanks.{is_blank, behind};
 
 use crate::MoveFault;
@@ -20,7 +20,7 @@ use memchr::memmem::Finder;
 use memchr::memrchr;
 use org_disk::{FileName, NameFault};
 use org_meta::first_line;
-use org_outline::{HeadParts, Node, Outline, States, Step, heading_level};
+use org_outline::{HeadParts, Node, Outline, States, heading_level};
 use org_splice::blanks::{behind_blanks, trimmed};
 use org_splice::{Bytes, Searched};
 use std::alloc::{AllocError, Global};
@@ -255,17 +255,16 @@ fn place(
     })
 }
 
-/// Where the subtree at `path` of the file of this name goes when it is archived (Org manual,
-/// "Moving a tree to an archive file"): the nearest nonempty property ARCHIVE of it or a heading
-/// above it says so; else the text's first line that begins with `#+ARCHIVE:`, if it says
-/// something; else it is the top level of the file's archive file. The text is searched for such a
-/// line only where it isn't known to have none. What is known behind the search is noted.
+/// Where a subtree of the file of this name goes when it is archived (Org manual, "Moving a tree to
+/// an archive file"): the nearest nonempty property ARCHIVE of it or a heading above it says so;
+/// else the text's first line that begins with `#+ARCHIVE:`, if it says something; else it is the
+/// top level of the file's archive file. The text is searched for such a line only where it isn't
+/// known to have none. What is known behind the search is noted.
 ///
 /// # Errors
 ///
 /// In this order:
 ///
-/// - `NotFound` or `NotUnique` of `path`;
 /// - `AlreadyArchive`: the file is an archive file;
 /// - `BadLocation`: what was found isn't a file's name, `::` and then nothing or a heading line
 ///   that is a title alone;
@@ -275,15 +274,15 @@ pub fn location_searched(
     alloc: Global,
     outline: &Outline<'_>,
     name: &FileName,
-    path: &[Step],
+    node: Node,
     searched: &mut Searched,
 ) -> Result<Location, MoveFault>
-    requires { IsSearched has_archive_line searched.old outline.now.text }
+    requires node { node < node_count (tree outline.now.text) }
+    requires searched { IsSearched has_archive_line searched.old outline.now.text }
     ensures place { let states = outline.now.states in
-        GivesPlace (location states name.now path.now outline.now.text) result }
+        GivesPlace (location_at states name.now outline.now.text node) result }
     ensures searched { IsSearched has_archive_line searched.new outline.now.text }
 {
-    let node = outline.find(path)?;
     if name.is_archive() {
         return Err(MoveFault::AlreadyArchive);
     }

@@ -1,15 +1,17 @@
 -- A run of the program over the folder that its arguments name. `world` is what the folder held at
 -- first, and what calls that failed left.
-use Rattle.std.specs.Prelude.{◌≡◌, ℕ, List, [], ◌++◌, string_bytes, Result}
+use Rattle.std.specs.Prelude.{◌≡◌, ◌≢◌, ℕ, List, [], ◌∷◌, ◌++◌, string_bytes, All, Result}
+use Rattle.org_disk.specs.Names.{IsOrgFile}
 use Rattle.org_fileset.specs.declared.open.OpenFault.{OpenFault}
-use Rattle.org_folder.specs.Calls.{World}
-use Rattle.org_folder.specs.FolderDisk.{path_of, record_of}
-use Rattle.org_folder.specs.declared.calls.Calls.{Ghosts}
+use Rattle.org_folder.specs.Calls.{Event, OnlyLooks}
+use Rattle.org_folder.specs.Calls.Event.{Filled, Locked}
+use Rattle.org_folder.specs.Listing.{Lists}
+use Rattle.org_folder.specs.declared.system.System.{Ghosts}
 use Rattle.org_folder.specs.declared.disk.CallsDisk.{CallsDisk}
-use Rattle.org_folder.specs.declared.calls.system.SystemCalls.{SystemCalls}
 use Rattle.org_serve.specs.declared.end.ServeEnd.{ServeEnd}
 use Rattle.org_serve.specs.declared.whole.Setup.{Setup}
 use Rattle.org_serve.specs.Pipes.{Exchange}
+use Rattle.org_serve.specs.Promises.{Promises}
 use Rattle.org_serve.specs.Whole.{RunsSynced}
 use Rattle.org_program.specs.declared.arguments.Arguments.{Arguments}
 use Rattle.org_program.specs.declared.fault.Fault.{Fault}
@@ -21,34 +23,53 @@ use Rattle.org_program.specs.Lists.{names_in, states_in, AreListed}
 abbrev pub turns : ℕ
 turns = 4294967295
 
+-- The folder was listed, and these names are what the list adds to those that are given; or no call
+-- was made, where `--only` is given.
+pub record ListsNames (arguments : Arguments) (listed : List (List ℕ)) (old new : List Event)
+    : Type 0 where
+  pub all : arguments.only.items ≡ [] → Lists listed old new
+  pub only : arguments.only.items ≢ [] → new ≡ old
+
 -- A store is set up as the arguments say: its names are those given and, where `--only` isn't, those
--- that were listed of the folder.
-pub record IsSetUp (arguments : Arguments) (setup : Setup) : Type 0 where
+-- that were listed of the folder, once it was locked. Since then calls only looked.
+pub record IsSetUp (arguments : Arguments) (setup : Setup) (old new : List Event) : Type 0 where
   pub listed : List (List ℕ)
+  pub listing : List Event
   pub are_listed : AreListed arguments listed
+  pub lists : ListsNames arguments listed (Locked (string_bytes arguments.folder) ∷ old) listing
+  pub since : OnlyLooks listing new
+  pub openable : All IsOrgFile setup.names.items
   pub names : setup.names.items ≡ names_in arguments ++ listed
   pub states : setup.states ≡ states_in arguments
   pub group : setup.group ≡ arguments.group
 
--- Lines were served over the folder that the arguments name, by a store that was set up as they
--- say. No call had been made of the folder's disk before.
-pub record ServesFolder {R S A B F : Type 0} {g : Ghosts (SystemCalls R S A B) F}
-    (world : World) (arguments : Arguments) (now : CallsDisk (SystemCalls R S A B) F g)
+-- the folder at a path was locked before every other call since, and these only looked
+abbrev pub LocksFirst : List ℕ → List Event → List Event → Type 0
+LocksFirst path old new = OnlyLooks (Locked path ∷ old) new
+
+-- Lines were served over the folder of these calls, by a store that was set up as the arguments say.
+-- Before that the folder that the arguments name was locked, and then the calls only looked.
+pub record ServesFolder {C F : Type 0} (g : Ghosts C F) (found : C)
+    (arguments : Arguments) (now : CallsDisk C F g)
     (end : Result ServeEnd OpenFault) (io : Exchange) : Type 0 where
-  pub disk : CallsDisk (SystemCalls R S A B) F g
-  pub path : path_of disk ≡ string_bytes arguments.folder
-  pub calls : record_of disk ≡ []
+  pub disk : CallsDisk C F g
+  pub locks : LocksFirst (string_bytes arguments.folder)
+      (Filled (string_bytes arguments.folder) ∷ g.history found) (g.history disk.folder.system)
   pub failures : disk.failures ≡ 0
   pub setup : Setup
   pub is_set_up : IsSetUp arguments setup
-  pub runs : RunsSynced (seen_of world) setup turns disk now end io
+      (Filled (string_bytes arguments.folder) ∷ g.history found) (g.history disk.folder.system)
+  -- README's six sentences
+  pub promises : Promises (seen_of g) setup disk now end io
+  -- .. and all that is known of the run
+  pub runs : RunsSynced (seen_of g) setup turns disk now end io
 
 -- .. and what is reported of how that ended: success exactly where the input was served to its end,
 -- and all is settled
-pub record RunsFolder {R S A B F : Type 0} {g : Ghosts (SystemCalls R S A B) F}
-    (world : World) (arguments : Arguments) (now : CallsDisk (SystemCalls R S A B) F g)
+pub record RunsFolder {C F : Type 0} (g : Ghosts C F) (found : C)
+    (arguments : Arguments) (now : CallsDisk C F g)
     (ended : Result (Unit {0}) Fault) (io : Exchange)
     : Type 0 where
   pub end : Result ServeEnd OpenFault
   pub is_reported : ended ≡ reported end
-  pub serves : ServesFolder world arguments now end io
+  pub serves : ServesFolder g found arguments now end io

@@ -14,6 +14,6 @@ mod streams;
 
 pub use arguments::{Arguments, given_words};
 pub use fault::Fault;
-pub use org_folder::Unknown;
-pub use program::{Ran, run};
+pub use org_folder::{HostSystem, Unknown};
+pub use program::{Ran, Unserved, run};
 pub use streams::{input, output};

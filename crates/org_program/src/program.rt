@@ -2,27 +2,29 @@
 //!
 //! The order is fixed: words, names, states, lock, listing, two names of one file, opening. The
 //! folder isn't listed where the words name the only files of the store.
-ghost use Rattle.std.specs.Prelude.{◌≡◌, ◌++◌, map, string_bytes, IfOk, IfErr, All};
+ghost use Rattle.std.specs.Prelude.{◌≡◌, ◌∷◌, ◌++◌, map, string_bytes, IfOk, IfErr, OnOk, All};
 ghost use Rattle.org_disk.specs.Names.{IsOrgFile};
+ghost use Rattle.org_folder.specs.Right.{HaveNoFiles};
+ghost use Rattle.org_folder.specs.Calls.{OnlyLooks};
+ghost use Rattle.org_folder.specs.Calls.Event.{Filled};
 ghost use Rattle.org_serve.specs.Writes.{exchange};
 ghost use Rattle.org_store.specs.Group.{IsGroup};
 ghost use Rattle.org_program.specs.Causes.{reported, IsCause, MayShare};
 ghost use Rattle.org_program.specs.Faults.{IsFaultOfRun};
 ghost use Rattle.org_program.specs.Lists.{AreListed};
-ghost use Rattle.org_program.specs.Runs.{IsSetUp, RunsFolder, ServesFolder};
+ghost use Rattle.org_program.specs.Runs.{IsSetUp, ListsNames, LocksFirst, RunsFolder};
 ghost use Rattle.org_program.specs.Words.{Say};
 
 use crate::arguments::{self, Arguments};
 use crate::fault::Fault;
 use crate::names::given_names;
 use crate::states::states;
+use indexmap::IndexSet;
 use org_disk::FileName;
-use org_folder::{
-    AbsentNames, AliasFault, FolderDisk, ListFault, LockedFolder, Start, check_aliases,
-    fill_streams, lock_folder, org_files,
-};
+use org_folder::{AliasFault, CallsDisk, ListFault, System, check_aliases, org_files};
 use org_serve::{ServeEnd, Served, Setup, Sink, Source, file_names, serve_synced};
 use org_store::OpenFault;
+use std::alloc::Global;
 
 /// The most reads of an input; one that takes more ends with `Read`.
 const TURNS: u64 = 4_294_967_295;
@@ -32,74 +34,71 @@ const TURNS: u64 = 4_294_967_295;
 pub struct Ran<D> {
     /// What the words of the command line say.
     pub arguments: Arguments,
-    /// The disk of the folder, as the run left it.
+    /// The disk of the folder, as the run left it. It holds the folder's lock.
     pub disk: D,
     /// Ok where the input was served to its end, and all is settled. Else it says why not: the
     /// store wasn't opened, or serving ended otherwise.
     pub end: Result<(), Fault>,
 }
 
+/// A run that came to serve no line.
+#[derive(Drop)]
+pub struct Unserved<S> {
+    /// The system, as the run left it.
+    pub system: S,
+    /// Why no line was served.
+    pub fault: Fault,
+}
+
 /// Runs the command lines of a reader over the folder that the words of a command line name, the
 /// first being the program's name, and writes their replies to a writer.
 ///
-/// `S` says what the folder held at first; no code reads it, and what is promised holds for every
-/// `S`. The disk that is handed back has a record of the calls of the operating system, which
-/// stands in proofs alone and was empty at first. What is said of a step is said where each answer
-/// in the record was right up to the end of that step (`is_right`): a wrong one later takes nothing
-/// from it.
+/// It has no way to the folder but the calls of `S`, each of which is in the record of `S`, with
+/// its answer. What is said of a step is said where each answer in the record was right up to the
+/// end of that step (`is_right`): a wrong one later takes nothing from it.
 ///
 /// The store is set up as the arguments say (`IsSetUp`), and over the folder's files it is run as
-/// `serve_synced` does (`RunsSynced`): its contract says what is answered, what is written, what a
-/// crash leaves at each moment, and why the run ended. The input is read at most 4,294,967,295
-/// times.
+/// `serve_synced` does: what a user is promised of that is one record (`Promises`), and all that is
+/// known another (`RunsSynced`), with what is answered, what is written, what a crash leaves at each
+/// moment, and why the run ended. The input is read at most 4,294,967,295 times.
 ///
 /// # Errors
 ///
-/// No line is read, and none written, where words aren't taken (`Usage`), or where no store is set
-/// up: in this order `BadName`, `BadStates`, `Locked`, then `Open(Device)` or `SameFile`. Want of
-/// memory, `Open(OutOfMemory)`, may take the place of each.
-pub fn run<S: Start, R: Source, W: Sink>(
-    rt: &HostRuntime,
+/// No line is read, and none written, and of the folder nothing is changed, where words aren't
+/// taken (`Usage`), or where no store is set up: in this order `BadName`, `BadStates`, `Locked`,
+/// then `Open(Device)` or `SameFile`. Want of memory, `Open(OutOfMemory)`, may take the place of
+/// each.
+pub fn run<S: System + Drop, R: Source, W: Sink>(
+    alloc: Global,
+    system: S,
     words: &[String],
     reader: &mut R,
     writer: &mut W,
-) -> Result<Ran<FolderDisk<HostRuntime, S>>, Fault>
+) -> Result<Ran<CallsDisk<S>>, Unserved<S>>
+where
+    S::File: Drop,
     ensures words { IfOk result (λ ran. Say (map string_bytes words.now) ran.arguments) }
-    ensures runs { IfOk result (λ ran. RunsFolder S.world ran.arguments ran.disk ran.end
+    ensures runs { IfOk result (λ ran. RunsFolder S.System system ran.arguments ran.disk ran.end
         (exchange R.Source W.Sink reader.old reader.new writer.old writer.new)) }
-    ensures unserved { IfErr result (λ _. (reader.new ≡ reader.old)
-        × (writer.new ≡ writer.old)) }
-    ensures fault { IfErr result (IsFaultOfRun (map string_bytes words.now)) }
+    ensures unserved { IfErr result (λ refused. (reader.new ≡ reader.old)
+        × (writer.new ≡ writer.old)
+        × OnlyLooks (S.history system) (S.history refused.system)) }
+    ensures fault { IfErr result (λ refused. IsFaultOfRun (map string_bytes words.now)
+        refused.fault) }
 {
-    let arguments = arguments::read_words(rt.alloc(), words)?;
-    // A standard stream that is closed is the folder then, and no file of the store.
-    let _streams = fill_streams(rt, &arguments.folder)?;
-    let Served { disk, end } = serve(rt, &arguments, reader, writer)?;
-    Ok(Ran {
-        arguments,
-        disk,
-        end: reported(end),
-    })
-}
-
-// Serves the lines of a reader over the folder that the arguments name.
-fn serve<S: Start, R: Source, W: Sink>(
-    rt: &HostRuntime,
-    arguments: &Arguments,
-    reader: &mut R,
-    writer: &mut W,
-) -> Result<Served<FolderDisk<HostRuntime, S>>, Fault>
-    requires { IsGroup arguments.now.group }
-    ensures serves { IfOk result (λ served. ServesFolder S.world arguments.now served.disk
-        served.end (exchange R.Source W.Sink reader.old reader.new writer.old writer.new)) }
-    ensures unserved { IfErr result (λ _. (reader.new ≡ reader.old)
-        × (writer.new ≡ writer.old)) }
-    ensures cause { IfErr result (IsCause arguments.now) }
-{
-    // The folder is locked until all is served.
-    let (setup, folder, absent) = setup(rt, arguments)?;
-    let disk = FolderDisk::new(rt.clone()?, rt.alloc(), &folder, absent)?;
-    Ok(serve_synced(rt.alloc(), disk, setup, reader, writer, TURNS))
+    let mut system = system;
+    match start(alloc, &mut system, words) {
+        Ok((arguments, setup, absent)) => {
+            let disk = CallsDisk::over(alloc, system, absent);
+            let Served { disk, end } = serve_synced(alloc, disk, setup, reader, writer, TURNS);
+            Ok(Ran {
+                arguments,
+                disk,
+                end: reported(end),
+            })
+        }
+        Err(fault) => Err(Unserved { system, fault }),
+    }
 }
 
 // What is reported of how serving ended.
@@ -113,22 +112,48 @@ fn reported(end: Result<ServeEnd, OpenFault>) -> Result<(), Fault>
     }
 }
 
-// What the store is opened with, its folder, locked, and which of its files aren't there.
-fn setup<'a>(
-    rt: &HostRuntime,
-    arguments: &'a Arguments,
-) -> Result<(Setup, LockedFolder<'a>, AbsentNames), Fault>
+// What the words say, and what the store is opened with.
+fn start<S: System>(
+    alloc: Global,
+    system: &mut S,
+    words: &[String],
+) -> Result<(Arguments, Setup, IndexSet<FileName>), Fault>
+    ensures words { IfOk result (λ made. Say (map string_bytes words.now) made.0) }
+    ensures sets_up { IfOk result (λ made. IsSetUp made.0 made.1
+        (Filled (string_bytes made.0.folder) ∷ S.history system.old) (S.history system.new)
+        × HaveNoFiles S.System system.new made.2.keys) }
+    ensures locks { IfOk result (λ made. LocksFirst (string_bytes made.0.folder)
+        (Filled (string_bytes made.0.folder) ∷ S.history system.old) (S.history system.new)) }
+    ensures looks { OnlyLooks (S.history system.old) (S.history system.new) }
+    ensures fault { IfErr result (IsFaultOfRun (map string_bytes words.now)) }
+{
+    let arguments = arguments::read_words(alloc, words)?;
+    // A standard stream that is closed is the folder then, and no file of the store.
+    system.fill_streams(&arguments.folder)?;
+    let (setup, absent) = setup(alloc, system, &arguments)?;
+    Ok((arguments, setup, absent))
+}
+
+// What the store is opened with, and which of its files aren't there. The folder is locked first.
+fn setup<S: System>(
+    alloc: Global,
+    system: &mut S,
+    arguments: &Arguments,
+) -> Result<(Setup, IndexSet<FileName>), Fault>
     requires { IsGroup arguments.now.group }
-    ensures folder { IfOk result (λ made. made.1.path.now ≡ string_bytes arguments.now.folder) }
-    ensures names { IfOk result (λ made. All IsOrgFile made.0.names.items) }
-    ensures is_set_up { IfOk result (λ made. IsSetUp arguments.now made.0) }
+    ensures sets_up { IfOk result (λ made. IsSetUp arguments.now made.0
+        (S.history system.old) (S.history system.new)
+        × HaveNoFiles S.System system.new made.1.keys) }
+    ensures locks { OnOk result (LocksFirst (string_bytes arguments.now.folder)
+        (S.history system.old) (S.history system.new)) }
+    ensures looks { OnlyLooks (S.history system.old) (S.history system.new) }
     ensures cause { IfErr result (IsCause arguments.now) }
 {
-    let mut names = given_names(rt.alloc(), arguments)?;
-    let states = states(rt.alloc(), &arguments.todo, &arguments.done)?;
-    let folder = lock_folder(rt, &arguments.folder)?;
-    names.append(&mut listed_names(rt, &folder, arguments)?)?;
-    let absent = check_files(rt, &folder, &names)?;
+    let mut names = given_names(alloc, arguments)?;
+    let states = states(alloc, &arguments.todo, &arguments.done)?;
+    system.lock(&arguments.folder)?;
+    names.append(&mut listed_names(alloc, system, arguments)?)?;
+    let absent = check_files(alloc, system, &names)?;
     let group = arguments.group;
     Ok((
         Setup {
@@ -136,37 +161,41 @@ fn setup<'a>(
             states,
             group,
         },
-        folder,
         absent,
     ))
 }
 
 // The names of the folder's Org files, unless the arguments name the only ones.
-fn listed_names(
-    rt: &HostRuntime,
-    folder: &LockedFolder<'_>,
+fn listed_names<S: System>(
+    alloc: Global,
+    system: &mut S,
     arguments: &Arguments,
 ) -> Result<Vec<FileName>, ListFault>
-    ensures { IfOk result (λ names. AreListed arguments.now names.items) }
+    ensures listed { IfOk result (λ names. AreListed arguments.now names.items) }
+    ensures lists { IfOk result (λ names. ListsNames arguments.now names.items
+        (S.history system.old) (S.history system.new)) }
+    ensures looks { OnlyLooks (S.history system.old) (S.history system.new) }
 {
     if !arguments.only.is_empty() {
-        return Ok(Vec::new(rt.alloc()));
+        return Ok(Vec::new(alloc));
     }
-    org_files(rt, folder)
+    org_files(alloc, system)
 }
 
 // Checks that the files of a store with these names are one each, and answers which aren't there.
 // Too many names are reported by the opening.
-fn check_files(
-    rt: &HostRuntime,
-    folder: &LockedFolder<'_>,
+fn check_files<S: System>(
+    alloc: Global,
+    system: &mut S,
     names: &[FileName],
-) -> Result<AbsentNames, AliasFault>
+) -> Result<IndexSet<FileName>, AliasFault>
     requires { All IsOrgFile names.now }
-    ensures { IfErr result (MayShare names.now) }
+    ensures fault { IfErr result (MayShare names.now) }
+    ensures absent { IfOk result (λ absent. HaveNoFiles S.System system.new absent.keys) }
+    ensures looks { OnlyLooks (S.history system.old) (S.history system.new) }
 {
-    match file_names(rt.alloc(), names)? {
-        Some(files) => check_aliases(rt, folder, &files),
-        None => Ok(AbsentNames::none(rt.alloc())),
+    match file_names(alloc, names)? {
+        Some(files) => check_aliases(alloc, system, &files),
+        None => Ok(IndexSet::new(alloc)),
     }
 }

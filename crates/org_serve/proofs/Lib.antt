@@ -17,10 +17,14 @@ pub mod Honest
 pub mod Crashes
 pub mod History
 pub mod Foreign
+mod Places
+mod Settled
 mod Opened
 mod Times
 mod Told
 mod Listed
+mod Again
 mod Files
 mod Syncs
 mod Synced
+mod Promised

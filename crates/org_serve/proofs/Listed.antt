@@ -34,7 +34,7 @@ use Rattle.org_serve.specs.History.{OnlyRefiles}
 use Rattle.org_serve.specs.Serving.{Answers, AnswersRead, IsReadAs, RunsLines, traces_while_honest}
 use Rattle.org_serve.specs.Whole.{ServesOver, IsIntermediate}
 use Rattle.org_serve.proofs.Honest.{sound_traced, sound_traces, up_to}
-use Rattle.org_serve.proofs.Opened.{lists_first}
+use Rattle.org_serve.proofs.Places.{lists_begun}
 
 -- a broken store stays as it is
 broken_stays : (old new : Session) (command : Command) (answer : Result Reply RunFault) → Step old command answer new → old.broken ≡ true → new ≡ old
@@ -182,9 +182,9 @@ module _ {D : Type 0} {g : Ghosts D}
   first_each Q here = subst (All Q) (sym served.texts) (All-cons Q first.files [] here (All-nil Q))
 
   first_lists : Lists first served.first.texts
-  first_lists = subst (Lists first) (sym served.texts) (lists_first setup others first served.begins)
+  first_lists = lists_begun served
 
-  here_small : All (AreSmall first.names) here.texts
+  pub here_small : All (AreSmall first.names) here.texts
   here_small = each_intermediate first.names (AreSmall first.names) Any (λ s line command texts same any read. keeps_small first.names s command texts same) served (any_line served.run.ran)
       (λ began. record { same_names = refl; lists = first_lists; all = first_each (AreSmall first.names) (first_small began) }) here way honestly
 

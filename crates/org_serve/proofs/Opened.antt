@@ -31,8 +31,10 @@ use Rattle.org_serve.specs.declared.end.ServeEnd.TheVariants.{End, Unsettled, De
 use Rattle.org_store.specs.History.{Trace, Lists}
 use Rattle.org_serve.specs.History.{Reaches}
 use Rattle.org_serve.specs.Serving.{EndsBy, FinishesGroups, MayHaveSettled, RunsLines, RunsAndWrites, Serves, ServesAll, ServesInput, WritesSome, end_of, stores_while_honest, traces_while_honest, whole_end}
-use Rattle.org_serve.specs.Whole.{Begins, ServesOver, ServesDisk, HoldsServed, IsForeign, IsIntermediate, IsIntermediateTo, IsDurable}
+use Rattle.org_serve.specs.Whole.{Begins, ServesOver, ServesDisk, HoldsServed, HoldsWhole, IsForeign, IsIntermediate, IsIntermediateTo, IsDurable}
 use Rattle.org_serve.proofs.Foreign.{leaves_foreign}
+use Rattle.org_serve.proofs.Places.{lists_begun, lists_files}
+use Rattle.org_serve.proofs.Settled.{group_lines, whole_since}
 use Rattle.org_serve.proofs.History.{at_first, lift_run, lift_wrote, session_of_traced, since, whole_prefix}
 use Rattle.org_serve.proofs.Honest.{sound_last, sound_lines, sound_reaches, sound_traced, sound_traces, up_to}
 
@@ -97,11 +99,6 @@ module _ {D : Type 0} (g : Ghosts D) (setup : Setup) (disk : D) (store begun : S
         serves = reported;
       }
 
--- what is listed of a store that was just opened
-pub lists_first : (setup : Setup) (files : Image) (begin : Session) → Begins setup files begin → Lists begin (begin.files ∷ [])
-lists_first setup files begin begins =
-    subst (λ (s : Session). Lists s (s.files ∷ [])) (sym begins.session) (record { size = refl; order = omega arith; files = λ sound. refl; settled = λ sound. refl })
-
 on_disk_first : (setup : Setup) (files : Image) (begin : Session) → Begins setup files begin → IsOnDisk begin files
 on_disk_first setup files begin begins =
     subst (λ texts. SameFiles files (with_texts begin.names texts files)) (sym (ap (λ (s : Session). s.settled) begins.session)) (others_same begin.names files)
@@ -161,8 +158,7 @@ module _ {D : Type 0} {g : Ghosts D}
   session_is = served.begins.session
 
   lists : Lists served.first.store.session served.first.texts
-  lists =
-      subst (Lists served.first.store.session) (sym served.texts) (lists_first setup (contents (g.files served.first.store.disk)) served.first.store.session served.begins)
+  lists = lists_begun served
 
   on_disk : IsOnDisk served.first.store.session (contents (g.files served.first.store.disk))
   on_disk = on_disk_first setup (contents (g.files served.first.store.disk)) served.first.store.session served.begins
@@ -260,10 +256,37 @@ module _ {D : Type 0} {g : Ghosts D}
         subst (λ (p : Trace D). LeavesOnly (g.instant here.store.disk) (g.instant p.store.disk) (g.left_since here.store.disk) (g.left_since p.store.disk) (HoldsServed served here p)) (sym to.0)
         (since_at_last here to.1 (subst (λ (p : Trace D). g.honest p.store.disk) to.0 honestly) sound)
 
+    -- Where commands are to be done whole.
+
+    group_is : served.first.store.session.group ≡ setup.group
+    group_is = ap (λ (s : Session). s.group) session_is
+
+    whole_at : setup.group ≡ Whole → (here later : Trace D)
+        → (way : Reaches (traces_while_honest g) served.first served.run.ran served.run.out served.run.mid later) → (to : Reaches (traces_while_honest g) served.first way.answered way.written later here)
+        → g.honest later.store.disk → here.store.session.broken ≡ false
+        → LeavesOnly (g.instant here.store.disk) (g.instant later.store.disk) (g.left_since here.store.disk) (g.left_since later.store.disk) (HoldsWhole served here to.others to.more later)
+    whole_at whole here later way to honestly sound =
+        let began = (sound_lines g served.first way.answered way.written later way.before honestly).1 in
+        let honest_here = (sound_lines g here to.others to.more later to.behind honestly).1 in
+        let from = (sound_lines g served.first to.answered to.written here to.before honest_here).0 in
+        whole_since g only_now served.first here later to.others to.more honestly (rest began) on_disk lists to.behind to.answered to.written from sound
+        (group_lines g served.first here to.answered to.written from ∙ group_is ∙ whole)
+
+    whole_moment_at : setup.group ≡ Whole → (later : Trace D) → (way : Reaches (traces_while_honest g) served.first served.run.ran served.run.out served.run.mid later) → g.honest later.store.disk
+        → LeavesOnly (g.instant disk) (g.instant later.store.disk) (g.left_since disk) (g.left_since later.store.disk)
+        (λ image. RecoversAsBefore (g.files disk) image ⊎ HoldsWhole served served.first way.answered way.written later image)
+    whole_moment_at whole later way honestly =
+        let began = (sound_lines g served.first way.answered way.written later way.before honestly).1 in
+        leaves_then (opening began)
+        (whole_since g only_now served.first served.first later way.answered way.written honestly (rest began) on_disk lists way.before [] [] (refl, refl)
+        (ap (λ (s : Session). s.broken) session_is) (group_is ∙ whole))
+
     pub lasts : IsDurable served
     lasts = record {
       any_moment = moment_at;
       since = since_at;
+      whole_moment = whole_moment_at;
+      whole_since = whole_at;
       ended = λ honest_now well image images.
           let honestly : g.honest served.last.store.disk = subst g.honest served.given_up honest_now in
           let whole = sound_traced g served.run honestly in
@@ -314,5 +337,6 @@ module _ {D : Type 0} (g : Ghosts D)
         served = served;
         breaks = record { broken = counts.0; sound = counts.1 };
         alone = leaves_foreign served;
+        lists = lists_files served;
         lasts = λ fit each. lasts only_now counts_now served (λ honestly. (reopened honestly).rest fit each) (λ honestly. opening fit each honestly);
       }

@@ -1,5 +1,5 @@
 -- How a path is read step by step.
-use Rattle.std.proofs.Common.{◌≡◌, ℕ, ◌==◌, map, ◌+◌, ◌^◌, ◌≤◌, ◌<◌, List, [], ◌∷◌, ◌++◌, length, get_or, take, drop, Bor, Option, None, Some, refl, sym, ap, subst, ◌∙◌, add-one, drop-cons, arith}
+use Rattle.std.proofs.Common.{◌≡◌, ℕ, ◌==◌, map, ◌+◌, ◌^◌, ◌<◌, List, [], ◌∷◌, ◌++◌, length, get_or, take, drop, Bor, Option, None, Some, refl, sym, ap, subst, ◌∙◌, add-one, drop-cons, arith}
 use Rattle.std.specs.Iterator.{Yields}
 use Rattle.std.specs.List.{AllByRecursion, slice_split}
 use Rattle.std.specs.Option.{option_map, option_and_then}

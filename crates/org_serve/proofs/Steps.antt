@@ -1,8 +1,7 @@
 -- How a step of a path is read: its mark, its number, its title.
-use Rattle.std.proofs.Common.{◌≡◌, ℕ, zero, suc, ◌+◌, ◌-◌, ◌*◌, ◌^◌, ◌<◌, ◌≤◌, ◌==◌, ◌&&◌, Bool, true, false, not, List, [], ◌∷◌, ◌++◌, length, get_or, take, drop, Option, None, Some, refl, sym, ap, ◌∙◌, append-nil, append_assoc, length-append, arith, inl, inr}
+use Rattle.std.proofs.Common.{◌≡◌, ℕ, suc, ◌+◌, ◌-◌, ◌*◌, ◌^◌, ◌<◌, ◌≤◌, ◌==◌, ◌&&◌, true, false, List, [], ◌∷◌, ◌++◌, length, get_or, take, drop, Option, None, Some, refl, sym, ap, ◌∙◌, append-nil, append_assoc, length-append, arith, inl, inr}
 use Rattle.std.specs.Prelude.{decimal, fold, nat_le, slice_index}
 use Rattle.std.specs.Char.{is_ascii_digit}
-use Rattle.std.specs.Int.{IsInRange}
 use Rattle.std.specs.List.{list_all}
 use Rattle.std.specs.Str.{all_ascii_digits}
 use Rattle.std.proofs.lemmas.Bool.{cases_Bool}
@@ -12,7 +11,7 @@ use Rattle.std.proofs.lemmas.Str.Parse.{FoldsDigits, IsNumeralModel, numerals_by
 use Rattle.std.proofs.lemmas.List.{take_at, drop_at}
 use Rattle.std.proofs.lemmas.List.Elements.{All-nil, All-append}
 use Rattle.org_outline.specs.declared.steps.Step.{Step}
-use Rattle.org_serve.specs.Grammar.{IsWritten, digits_of, escaped, mark_from, number_field, number_of, step_at, step_field, step_of, unescaped}
+use Rattle.org_serve.specs.Grammar.{IsWritten, escaped, mark_from, number_field, number_of, step_at, step_field, step_of}
 use Rattle.org_serve.proofs.Escapes.{HasNoSlash, no_slash-cons, no_slash-escaped, unescaped-escaped}
 
 -- ---- the mark

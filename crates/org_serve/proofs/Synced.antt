@@ -153,6 +153,11 @@ module _ {D : Type 0} (g : Ghosts D)
             leaves_behind (time (served.began first)) ((lasts first).any_moment later way h) (λ image left. inl (early image left))
             (λ image left. ⊎_elim (λ before. inl (late first image before)) (λ holds. inr holds) left);
         since = λ here later way h sound. (lasts (first_honest later (to_later here later way) h)).since here later way h sound;
+        whole_moment = λ whole later way h.
+            let first = first_honest later (inl way) h in
+            leaves_behind (time (served.began first)) ((lasts first).whole_moment whole later way h) (λ image left. inl (early image left))
+            (λ image left. ⊎_elim (λ before. inl (late first image before)) (λ holds. inr holds) left);
+        whole_since = λ whole here later way to h sound. (lasts (first_honest later (inl way) h)).whole_since whole here later way to h sound;
         ended = λ h well image left.
             let last : g.honest served.last.store.disk = subst g.honest served.given_up h in
             (lasts (sound_traced g served.run last).1).ended h well image left;

@@ -1,5 +1,5 @@
 -- What is known of a run by the trace of its store.
-use Rattle.std.specs.Prelude.{◌≡◌, ◌⊎◌, ℕ, ◌≤◌, List, ◌++◌, slice_get, IsSomeAnd, Some}
+use Rattle.std.specs.Prelude.{◌≡◌, ◌⊎◌, ℕ, ◌≤◌, List, ◌∷◌, ◌++◌, slice_get, IsSomeAnd, Some}
 use Rattle.org_journal.specs.Recovered.{Image}
 use Rattle.org_commands.specs.declared.command.Command.{Command}
 use Rattle.org_commands.specs.declared.command.Command.TheVariants.{Show, Settle}
@@ -33,6 +33,32 @@ pub record HoldsSince {D : Type 0} (first : Session) (others : Image) (here late
   pub count : ℕ
   pub least : here.store.session.acknowledged ≤ count
   pub whole : (count ≡ here.store.session.acknowledged) ⊎ (here.store.session.accepted ≤ count)
+  pub accepted : count ≤ later.store.session.accepted
+  pub holds : IsSomeAnd (slice_get later.texts count) (λ texts. Holds first others texts image)
+
+-- Where this state is reached by lines that lead from the one state to the other by these bytes, the
+-- next of them is `settle`.
+pub record SettlesAt {S : Type 0} (m : Machine S) (old : S) (lines : List (List ℕ)) (out : List ℕ)
+    (new here : S) : Type 0 where
+  pub way : Reaches m old lines out new here
+  pub line : List ℕ
+  pub later : List (List ℕ)
+  pub next : way.others ≡ line ∷ later
+  pub asks : command_of line ≡ Some Settle
+
+-- The image recovers to the files after the first `count` of the commands that were accepted at
+-- `later`: those that were acknowledged at `here`, or all that were accepted at a state between the
+-- two whose next line is `settle`. These lines lead from `here` to `later` by these bytes. So it has
+-- nothing of a command that no line settled.
+pub record HoldsSettled {D : Type 0} (m : Machine (Trace D)) (first : Session) (others : Image)
+    (here : Trace D) (lines : List (List ℕ)) (out : List ℕ) (later : Trace D) (image : Image)
+    : Type 0 where
+  pub count : ℕ
+  pub settled : (count ≡ here.store.session.acknowledged)
+      ⊎ ((mid : Trace D)
+      × SettlesAt m here lines out later mid
+      × (count ≡ mid.store.session.accepted))
+  pub least : here.store.session.acknowledged ≤ count
   pub accepted : count ≤ later.store.session.accepted
   pub holds : IsSomeAnd (slice_get later.texts count) (λ texts. Holds first others texts image)
 

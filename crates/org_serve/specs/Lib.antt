@@ -7,3 +7,4 @@ pub mod Serving
 pub mod History
 pub mod Syncing
 pub mod Whole
+pub mod Promises

@@ -12,7 +12,8 @@ use Rattle.org_fileset.specs.Names.{with_archives, AreFew, AreSorted, first_larg
 use Rattle.org_fileset.specs.Opening.{IsRefusedFor}
 use Rattle.org_fileset.specs.Recovery.{EachRecovers, IsReopened, RecoversAsBefore, is_closed}
 use Rattle.org_fileset.specs.Writes.{LeavesAlone, IsUnconcerned}
-use Rattle.org_store.specs.History.{Trace}
+use Rattle.org_store.specs.History.{Lists, Trace}
+use Rattle.org_commands.specs.declared.tally.Group.TheVariants.{Whole}
 use Rattle.org_commands.specs.InOrder.{texts_of}
 use Rattle.org_store.specs.Calls.{model}
 use Rattle.org_store.specs.Opening.{opened}
@@ -20,7 +21,7 @@ use Rattle.org_commands.specs.Session.{Session, Holds}
 use Rattle.org_serve.specs.declared.end.ServeEnd.{ServeEnd}
 use Rattle.org_serve.specs.declared.end.ServeEnd.TheVariants.{End, Device, Read, Write}
 use Rattle.org_serve.specs.declared.whole.Setup.{Setup}
-use Rattle.org_serve.specs.History.{HoldsSince, Reaches}
+use Rattle.org_serve.specs.History.{HoldsSettled, HoldsSince, Reaches}
 use Rattle.org_serve.specs.Pipes.{EndsForCause, Exchange, output_of}
 use Rattle.org_serve.specs.Serving.{Answers, MayHaveSettled, RunsLines, Serves, WritesSome, traces_while_honest}
 use Rattle.org_serve.specs.Syncing.{IsNotStored, OutsideStable, IsAsFound}
@@ -92,6 +93,15 @@ module _ {D : Type 0} {g : Ghosts D} {setup : Setup} {disk now : D} {end : Serve
   HoldsServed here later =
       HoldsSince served.first.store.session (contents (g.files served.first.store.disk)) here later
 
+  -- The image recovers to the files after the commands that were acknowledged at the one store, or
+  -- after all that were accepted behind it as `settle` was run: these lines lead from the one to the
+  -- other by these bytes.
+  abbrev pub HoldsWhole : (here : Trace D) → List (List ℕ) → List ℕ → (later : Trace D) → Image
+      → Type 0
+  HoldsWhole here lines out later image =
+      HoldsSettled (traces_while_honest g) served.first.store.session
+      (contents (g.files served.first.store.disk)) here lines out later image
+
   -- an intermediate store of a run: after some of its lines were answered, from the first on, or at
   -- its end
   abbrev pub IsIntermediate : Trace D → Type 0
@@ -114,6 +124,13 @@ module _ {D : Type 0} {g : Ghosts D} {setup : Setup} {disk now : D} {end : Serve
       (here : Trace D) → IsIntermediate here → g.honest here.store.disk
       → LeavesAlone g (IsForeignTo g setup disk) disk here.store.disk
 
+  -- At place k of the list of an intermediate store stand the texts of all files after the first k
+  -- of the commands that were accepted by then.
+  abbrev pub ListsFiles : Type 0
+  ListsFiles =
+      (here : Trace D) → IsIntermediate here → g.honest here.store.disk
+      → Lists here.store.session here.texts
+
   -- What a crash leaves of a run: up to each intermediate store over a disk that is honest there,
   -- at the last to the end. `Before` is what it leaves of what was there when the run began.
   pub record DurableFrom (Before : Image → Type 0) : Type 0 where
@@ -126,6 +143,25 @@ module _ {D : Type 0} {g : Ghosts D} {setup : Setup} {disk now : D} {end : Serve
     pub since : (here later : Trace D) → IsIntermediateTo here later → g.honest later.store.disk
         → IsFalse here.store.session.broken
         → LeavesOver g here.store.disk later.store.disk (HoldsServed here later)
+    -- Where commands are to be done whole, which `settle` alone does: since it began, what was there
+    -- then, or the files after no command, or after all that were accepted as `settle` was run. The
+    -- last store is one of these: it settles nothing.
+    pub whole_moment : setup.group ≡ Whole → (later : Trace D)
+        → (way : Reaches (traces_while_honest g) served.first
+        served.run.ran served.run.out served.run.mid later)
+        → g.honest later.store.disk
+        → LeavesOver g disk later.store.disk
+        (λ image. Before image
+        ⊎ HoldsWhole served.first way.answered way.written later image)
+    -- .. since each of its intermediate stores that wasn't broken: the commands that were
+    -- acknowledged there, or all that were accepted as a later `settle` was run
+    pub whole_since : setup.group ≡ Whole → (here later : Trace D)
+        → (way : Reaches (traces_while_honest g) served.first
+        served.run.ran served.run.out served.run.mid later)
+        → (to : Reaches (traces_while_honest g) served.first way.answered way.written later here)
+        → g.honest later.store.disk → IsFalse here.store.session.broken
+        → LeavesOver g here.store.disk later.store.disk
+        (HoldsWhole here to.others to.more later)
     -- at the end, where it ended well: all of them
     pub ended : g.honest now → end ≡ End → (image : Image) → AreImages (g.files now) image
         → Holds served.first.store.session
@@ -149,6 +185,7 @@ pub record ServesDisk {D : Type 0} (g : Ghosts D) (setup : Setup) (disk now : D)
   pub served : ServesOver g setup disk now end io
   pub breaks : BreaksByCount served
   pub alone : LeavesForeign served
+  pub lists : ListsFiles served
   -- over a disk that was recoverable, of which each image recovered to files
   pub lasts : IsRecoverable (g.files disk) → EachRecovers (g.files disk) → IsDurable served
 

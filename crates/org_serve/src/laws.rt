@@ -1,10 +1,11 @@
 //! Laws of the definitions of lines, replies and runs, for all values.
 //!
 //! Each is the contract of a function with nothing to do.
-ghost use Rattle.std.specs.Prelude.{ℕ, List, [], ◌≡◌, ◌∷◌, ◌++◌, ◌<◌, ◌^◌};
+ghost use Rattle.std.specs.Prelude.{ℕ, List, [], ◌≡◌, ◌∷◌, ◌++◌, ◌<◌, ◌≤◌, ◌^◌, slice_get};
 ghost use Rattle.std.specs.List.{AllByRecursion};
 ghost use Rattle.std.specs.Prelude.{All, Some, Result, IsFalse};
 ghost use Rattle.org_disk.specs.Accounts.{LeavesOver};
+ghost use Rattle.org_disk.specs.Names.{IsOrgFile};
 ghost use Rattle.org_journal.specs.Recovered.{Image};
 ghost use Rattle.org_fileset.specs.Replay.{RestsOn, files_on};
 ghost use Rattle.org_fileset.specs.Names.{AreFew};
@@ -16,19 +17,21 @@ ghost use Rattle.org_outline.specs.Paths.{path_of as heading_path};
 ghost use Rattle.org_commands.specs.declared.command.Command.{Command};
 ghost use Rattle.org_commands.specs.declared.command.Reply.{Reply};
 ghost use Rattle.org_commands.specs.declared.command.RunFault.{RunFault};
+ghost use Rattle.org_commands.specs.declared.tally.Group.TheVariants.{Whole};
 ghost use Rattle.org_store.specs.History.{Trace, Lists, HoldsPrefix};
 ghost use Rattle.org_commands.specs.InOrder.{AreNames};
 ghost use Rattle.org_commands.specs.Left.{IsApart};
 ghost use Rattle.org_store.specs.OnePlace.{HaveSameNodes, HasNodesOf, HasNodesOfPrefix, IsSessionOf};
 ghost use Rattle.org_store.specs.Opening.{opened};
-ghost use Rattle.org_store.specs.Reopening.{IsOpenable, AreSmall};
+ghost use Rattle.org_store.specs.Reopening.{AreSameNames, IsOpenable, AreSmall};
 ghost use Rattle.org_commands.specs.Runs.{IsOnDisk};
 ghost use Rattle.org_commands.specs.Session.{Session, StoreView};
 ghost use Rattle.org_commands.specs.Step.{Step};
-ghost use Rattle.org_serve.specs.History.{HoldsSince, OnlyRefiles};
+ghost use Rattle.org_serve.specs.History.{HoldsSettled, HoldsSince, OnlyRefiles};
 ghost use Rattle.org_serve.specs.declared.end.ServeEnd.{ServeEnd};
-ghost use Rattle.org_serve.specs.Serving.{RunsLines, stores_while_honest, traces_while_honest};
+ghost use Rattle.org_serve.specs.Serving.{RunsAndWrites, RunsLines, stores_while_honest, traces_while_honest};
 ghost use Rattle.org_serve.specs.Pipes.{Exchange};
+ghost use Rattle.org_serve.specs.Promises.{IsAfterPrefix};
 ghost use Rattle.org_serve.specs.Whole.{IsIntermediate, ServesOver};
 ghost use Rattle.org_serve.specs.declared.whole.Setup.{Setup};
 ghost use Rattle.org_serve.specs.Grammar.{IsWritten, escaped, unescaped, path_of, path_field};
@@ -101,6 +104,19 @@ pub fn crashes_leave_a_prefix<D: Disk>()
     ensures prefix { (first : Session) (others image : Image) (here later : Trace D)
         → HoldsSince first others here later image
         → HoldsPrefix first others later.texts here.store.session.acknowledged image }
+    // where the group is whole: the commands that were acknowledged as it began, or all that were
+    // accepted as a line `settle` was run
+    ensures whole { (first : Trace D) (new : StoreView D) (end : ServeEnd) (io : Exchange)
+        → D.honest new.disk → RestsOn D.Disk first.store.disk
+        → IsOnDisk first.store.session (files_on D.Disk first.store.disk)
+        → IsFalse first.store.session.broken → Lists first.store.session first.texts
+        → first.store.session.group ≡ Whole
+        → RunsAndWrites (stores_while_honest D.Disk) first.store new end io
+        → (last : Trace D) × (last.store ≡ new) × Lists last.store.session last.texts
+        × (run : RunsLines (traces_while_honest D.Disk) first last end io)
+        × LeavesOver D.Disk first.store.disk last.store.disk
+        (HoldsSettled (traces_while_honest D.Disk) first.store.session
+        (files_on D.Disk first.store.disk) first run.ran run.out last) }
 {}
 
 /// Every image of a store's disk opens again while lines are served, with the names that the store
@@ -121,6 +137,24 @@ pub fn every_image_opens<D: Disk>()
         → HoldsPrefix served.first.store.session
         (files_on D.Disk served.first.store.disk) here.texts least image
         → IsOpenable setup.names.items image }
+{}
+
+/// One run after another. Where the second is given a disk that reads as what a crash left of the
+/// first, and the same names, it begins with the files after a prefix of the first one's accepted
+/// commands: the one of which `Promises` speaks, and which has at least as many as it says.
+pub fn next_run_goes_on<D: Disk, E: Disk>()
+    ensures { (one other : Setup) (disk now : D) (left after : E) (end last : ServeEnd)
+        (io more : Exchange) (first : ServesOver D.Disk one disk now end io)
+        (second : ServesOver E.Disk other left after last more)
+        (state : Trace D) (least : ℕ) (image : Image)
+        → All IsOrgFile one.names.items
+        → IsIntermediate first state → D.honest state.store.disk
+        → IsAfterPrefix first state least image
+        → AreSameNames one.names.items other.names.items
+        → ((name : List ℕ) → files_on E.Disk left name ≡ image name)
+        → E.honest second.first.store.disk
+        → (n : ℕ) × (least ≤ n) × (n ≤ state.store.session.accepted)
+        × (slice_get state.texts n ≡ Some second.first.store.session.files) }
 {}
 
 /// No file is written but the store's own and the journal while lines are served
@@ -145,7 +179,7 @@ pub fn only_own_files_are_written<D: Disk>()
 /// (`crashes_leave_a_prefix`): each node is there as often, over all files of the store, as after
 /// one prefix of the accepted commands, which has all that were acknowledged when serving began.
 /// Where no line that is run is a command but a refile, a show or a settling, that is as often as
-/// when serving began.
+/// when serving began. Other commands make nodes, and an edit may lose some.
 pub fn one_place<D: Disk>()
     ensures any_moment { (given : List (List ℕ)) (first last : Trace D) (end : ServeEnd)
         (io : Exchange) (others image : Image) (least : ℕ)

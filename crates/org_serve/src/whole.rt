@@ -2,6 +2,7 @@
 ghost use Rattle.std.specs.Prelude.{◌≡◌, All, IfErr};
 ghost use Rattle.org_disk.specs.Names.{IsOrgFile};
 ghost use Rattle.org_store.specs.Group.{IsGroup};
+ghost use Rattle.org_serve.specs.Promises.{Promises};
 ghost use Rattle.org_serve.specs.Whole.{RunsDisk, RunsSynced};
 ghost use Rattle.org_serve.specs.Writes.{exchange};
 
@@ -53,6 +54,10 @@ pub struct Served<D> {
 /// commands are (`laws::safe_is_acknowledged`). Where it ends with `End`, each image at the end
 /// recovers to the files after all of them. The disk is as recoverable at the end, so that all this
 /// may be done again.
+///
+/// Where the group is whole, that prefix is the commands that were acknowledged, or all that were
+/// accepted as a line `settle` was run (`HoldsSettled`): nothing of a step that no line settled is
+/// ever on the disk.
 ///
 /// No file is written but the store's own, the journal and those that the record of an open journal
 /// names: up to an intermediate store, and at the end, each other file is as it was, and a crash
@@ -113,6 +118,8 @@ pub fn serve_disk<D: Disk, R: Source, W: Sink>(
 ///
 /// A sync that fails is an opening that is refused with `Device`. Too many names leave the disk
 /// unused.
+///
+/// What a user is promised of all this is said once more in one record (`promises`).
 pub fn serve_synced<D: Disk, R: Source, W: Sink>(
     alloc: Global,
     disk: D,
@@ -124,6 +131,8 @@ pub fn serve_synced<D: Disk, R: Source, W: Sink>(
     requires names { All IsOrgFile setup.names.items }
     requires group { IsGroup setup.group }
     ensures runs { RunsSynced D.Disk setup turns disk result.disk result.end
+        (exchange R.Source W.Sink reader.old reader.new writer.old writer.new) }
+    ensures promises { Promises D.Disk setup disk result.disk result.end
         (exchange R.Source W.Sink reader.old reader.new writer.old writer.new) }
     ensures unserved { IfErr result.end (λ _. (reader.new ≡ reader.old)
         × (writer.new ≡ writer.old)) }

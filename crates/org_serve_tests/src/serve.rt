@@ -17,11 +17,12 @@ mod syncs;
 mod whole;
 
 use crate::shared::must;
-use org_disk::{Disk, MemoryDisk};
+use org_disk::Disk;
 use org_fixtures::org_names;
 use org_outline::States;
 use org_serve::{Counted, ServeEnd, Served, Setup, Sink, Source, serve_disk, serve_synced};
 use org_store::{Group, OpenFault};
+use org_test_disks::MemoryDisk;
 use std::process::Abort;
 
 // What was written, how it ended, and the disk then.

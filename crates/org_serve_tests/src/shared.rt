@@ -1,8 +1,8 @@
 //! What the tests of a store and of lines share.
 ghost use Rattle.std.specs.Prelude.{◌≡◌, Ok};
 
-use org_disk::MemoryDisk;
 use org_fixtures::two_files;
+use org_test_disks::MemoryDisk;
 use std::process::Abort;
 use std::test::Fail;
 

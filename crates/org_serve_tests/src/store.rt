@@ -9,10 +9,11 @@ mod failures;
 mod fuses;
 
 use crate::shared::{must, two};
-use org_disk::{Disk, MemoryDisk};
+use org_disk::Disk;
 use org_fixtures::org_names;
 use org_outline::States;
 use org_store::{OpenRefused, Store};
+use org_test_disks::MemoryDisk;
 use std::process::Abort;
 
 // A store over the files of these names on a disk, or why it wasn't opened.

@@ -127,10 +127,10 @@ switched_by : (now : Moment) (from : ℕ) (d : Document) (i : ℕ) (r : Result D
     → switched now from d i ≡ result_map_both (λ terminated. Some (with_opened now i terminated)) (λ fault. fault) r
 switched_by now from d i r other is = rw (not_same i from other) (ap (result_map_both (λ terminated. Some (with_opened now i terminated)) (λ fault. fault)) is)
 
-pub switch_refused : (now : Moment) (t u : List ℕ) (from i : ℕ) (fault : StateFault) → u ≡ t → i ≢ from → ClosesSection now (tree u) from (Err fault) → AnswersSwitch now t from (Ok i) (Err fault)
+pub switch_refused : (now : Moment) (t u : List ℕ) (from i : ℕ) (fault : StateFault) → u ≡ t → i ≢ from → ClosesSection now (tree u) from (Err fault) → AnswersSwitch now t from i (Err fault)
 switch_refused now t u from i fault text other a = by_fault fault (subst (λ (u : List ℕ). ClosesSection now (tree u) from (Err fault)) text a)
   where
-    by_fault : (fault : StateFault) → ClosesSection now (tree t) from (Err fault) → AnswersSwitch now t from (Ok i) (Err fault)
+    by_fault : (fault : StateFault) → ClosesSection now (tree t) from (Err fault) → AnswersSwitch now t from i (Err fault)
     by_fault NotFound a = switched_by now from (tree t) i (Err NotFound) other a
     by_fault NotUnique a = switched_by now from (tree t) i (Err NotUnique) other a
     by_fault UnknownState a = switched_by now from (tree t) i (Err UnknownState) other a
@@ -142,7 +142,7 @@ switch_refused now t u from i fault text other a = by_fault fault (subst (λ (u 
         (with_opened now i (with_section_at from (tree t) a.0), switched_by now from (tree t) i (Ok (with_section_at from (tree t) a.0)) other (ap (result_map_both (with_section_at from (tree t)) fault_of_meta) a.1))
 
 -- memory was refused once the clock that runs can be closed
-pub switch_starved : (now : Moment) (t u : List ℕ) (from i : ℕ) (closing : Edit) (fault : StateFault) → u ≡ t → i ≢ from → ClosesSection now (tree u) from (Ok closing) → fault ≡ OutOfMemory → AnswersSwitch now t from (Ok i) (Err fault)
+pub switch_starved : (now : Moment) (t u : List ℕ) (from i : ℕ) (closing : Edit) (fault : StateFault) → u ≡ t → i ≢ from → ClosesSection now (tree u) from (Ok closing) → fault ≡ OutOfMemory → AnswersSwitch now t from i (Err fault)
 switch_starved now t u from i closing fault text other closes memory =
     let can = subst (λ (u : List ℕ). ClosesSection now (tree u) from (Ok closing)) text closes in
     rw memory (switch_refused now t t from i OutOfMemory refl other (can.0, can.1))

@@ -24,7 +24,7 @@ use Rattle.org_meta.specs.Clocking.{opened, closed_line}
 use Rattle.org_meta.specs.Sections.{split, joined}
 use Rattle.org_state.specs.declared.run.Running.{Running}
 use Rattle.org_state.specs.declared.fault.StateFault.{StateFault}
-use Rattle.org_state.specs.declared.fault.StateFault.TheVariants.{ClockBackwards, OutOfMemory}
+use Rattle.org_state.specs.declared.fault.StateFault.TheVariants.{OutOfMemory}
 use Rattle.org_state.specs.Edits.{section_start, EditsSection}
 use Rattle.org_state.specs.Answers.{Makes}
 use Rattle.org_state.specs.Todo.{fault_of_path, fault_of_meta}
@@ -118,19 +118,6 @@ clocked_at states path d =
 
 -- ---- what calls answer
 
--- an edit that opens a clock at the heading at a path, or why there is no such heading; memory is
--- wanted only where there is
-abbrev pub AnswersOpening : Keywords → List Step → Moment → List ℕ → Result Edit StateFault
-    → Type 0
-AnswersOpening states path now text (Ok edit) =
-    (i : ℕ)
-    × (find_path states (tree text) path ≡ Ok i)
-    × AreEdits (edit ∷ []) text (print (with_opened now i (tree text)))
-AnswersOpening states path now text (Err OutOfMemory) =
-    (i : ℕ) × (find_path states (tree text) path ≡ Ok i)
-AnswersOpening states path now text (Err fault) =
-    (why : PathFault) × (find_path states (tree text) path ≡ Err why) × (fault ≡ fault_of_path why)
-
 -- an edit that closes the first clock that runs at heading i, or why it can't be closed; memory is
 -- wanted only where it can
 abbrev pub AnswersClosing : Moment → List ℕ → ℕ → Result Edit StateFault → Type 0
@@ -152,14 +139,13 @@ ClosesSection now d i (Err OutOfMemory) =
     (new : List (List ℕ)) × (closed_first now (node_at d i).node.section ≡ Ok new)
 ClosesSection now d i (Err fault) = with_closed now i d ≡ Err fault
 
--- edits that clock in at the heading that was found, where a clock runs at heading `from`, or why
--- that can't be; memory is wanted only where something is to change
-abbrev pub AnswersSwitch : Moment → List ℕ → ℕ → Result ℕ PathFault
-    → Result (Vec Edit Global) StateFault → Type 0
-AnswersSwitch now text from found (Ok edits) =
+-- edits that clock in at heading i, where a clock runs at heading `from`, or why that can't be;
+-- memory is wanted only where something is to change
+abbrev pub AnswersSwitch : Moment → List ℕ → ℕ → ℕ → Result (Vec Edit Global) StateFault → Type 0
+AnswersSwitch now text from i (Ok edits) =
     (new : Option Document)
-    × (switched_at now from (tree text) found ≡ Ok new)
+    × (switched now from (tree text) i ≡ Ok new)
     × Makes new text edits.items
-AnswersSwitch now text from found (Err OutOfMemory) =
-    (new : Document) × (switched_at now from (tree text) found ≡ Ok (Some new))
-AnswersSwitch now text from found (Err fault) = switched_at now from (tree text) found ≡ Err fault
+AnswersSwitch now text from i (Err OutOfMemory) =
+    (new : Document) × (switched now from (tree text) i ≡ Ok (Some new))
+AnswersSwitch now text from i (Err fault) = switched now from (tree text) i ≡ Err fault

@@ -2,13 +2,13 @@
 //!
 //! One clock runs in a text, the first open line of a heading's section. Other texts aren't known
 //! here.
-ghost use Rattle.std.specs.Prelude.{◌≡◌, ◌≢◌, ◌<◌, ◌≤◌, ℕ, false, length, Some, Ok, IfOk};
+ghost use Rattle.std.specs.Prelude.{◌≡◌, ◌≢◌, ◌<◌, ◌≤◌, [], ◌∷◌, ℕ, false, length, Some, IfOk};
+ghost use Rattle.org_splice.specs.Edits.{AreEdits};
 ghost use Rattle.org_splice.specs.Lines.{terminated, print_lines};
 ghost use Rattle.org_splice.specs.Searched.{IsSearched};
-ghost use Rattle.org_outline.specs.Paths.{find_path};
-ghost use Rattle.org_outline.specs.Tree.{node_at, node_count, tree};
-ghost use Rattle.org_state.specs.Clock.{has_clock, span_from, running_in, runs_at, opened_section, clocked_minutes, clocked_at};
-ghost use Rattle.org_state.specs.Clock.{AnswersOpening, AnswersClosing, ClosesSection, AnswersSwitch};
+ghost use Rattle.org_outline.specs.Tree.{node_at, node_count, print, tree};
+ghost use Rattle.org_state.specs.Clock.{has_clock, span_from, running_in, runs_at, opened_section, with_opened, clocked_minutes, clocked_at};
+ghost use Rattle.org_state.specs.Clock.{AnswersClosing, ClosesSection, AnswersSwitch};
 ghost use Rattle.org_state.specs.Edits.{section_start, EditsSection};
 
 use crate::fault::StateFault;
@@ -101,23 +101,22 @@ fn opening(
     Ok(in_section(outline, node, edit))
 }
 
-/// The edit that clocks in at the heading at `path` (Org manual, "Clocking commands"): an open
-/// clock line with the moment first in its LOGBOOK drawer, or in a new one before the rest of its
-/// section. A clock that runs elsewhere, or there already, isn't closed by it.
-///
-/// # Errors
-///
-/// `NotFound` or `NotUnique` of `path`, and `OutOfMemory`.
+/// The edit that clocks in at a heading (Org manual, "Clocking commands"): an open clock line with
+/// the moment first in its LOGBOOK drawer, or in a new one before the rest of its section. A clock
+/// that runs elsewhere, or there already, isn't closed by it. `AllocError` comes where memory ran
+/// out.
 pub fn clock_in(
     alloc: Global,
     outline: &Outline<'_>,
-    path: &[Step],
+    node: Node,
     now: Moment,
-) -> Result<Edit, StateFault>
-    ensures { AnswersOpening outline.now.states path.now now outline.now.text result }
+) -> Result<Edit, AllocError>
+    requires { node < node_count (tree outline.now.text) }
+    ensures { let d = tree outline.now.text in
+        IfOk result (λ edit. AreEdits (edit ∷ []) outline.now.text
+        (print (with_opened now node d))) }
 {
-    let node = outline.find(path)?;
-    Ok(opening(alloc, outline, node, now)?)
+    opening(alloc, outline, node, now)
 }
 
 /// The edit that closes the clock that runs in the text.
@@ -170,7 +169,7 @@ fn switch(
     requires node { node < node_count (tree outline.now.text) }
     requires runs { running_in (tree outline.now.text) ≡ Some running }
     requires other { node ≢ running.heading }
-    ensures { AnswersSwitch now outline.now.text running.heading (Ok node) result }
+    ensures { AnswersSwitch now outline.now.text running.heading node result }
 {
     let stop = closing(alloc, outline.text(), running, now)?;
     let start = opening(alloc, outline, node, now)?;
@@ -183,28 +182,25 @@ fn switch(
     Ok(Vec::from_array(alloc, edits)?)
 }
 
-/// The edits, to be made in this order, that clock in at the heading at `path` of a text in which a
-/// clock runs, as `running` answers it (Org manual, "Clocking commands"): that clock is closed at
-/// the same moment. No edits where it runs at that heading, and then nothing changes, whatever the
-/// moment.
+/// The edits, to be made in this order, that clock in at a heading of a text in which a clock runs,
+/// as `running` answers it (Org manual, "Clocking commands"): that clock is closed at the same
+/// moment. No edits where it runs at that heading, and then nothing changes, whatever the moment.
 ///
 /// # Errors
 ///
-/// In this order: `NotFound` or `NotUnique` of `path`; `ClockBackwards` where the moment is before
-/// the start of the clock that is to be closed; and `OutOfMemory`.
+/// In this order: `ClockBackwards` where the moment is before the start of the clock that is to be
+/// closed, and `OutOfMemory`.
 pub fn switch_clock(
     alloc: Global,
     outline: &Outline<'_>,
-    path: &[Step],
+    node: Node,
     running: Running,
     now: Moment,
 ) -> Result<Vec<Edit>, StateFault>
-    requires { running_in (tree outline.now.text) ≡ Some running }
-    ensures { let d = tree outline.now.text in
-        AnswersSwitch now outline.now.text running.heading
-        (find_path outline.now.states d path.now) result }
+    requires node { node < node_count (tree outline.now.text) }
+    requires runs { running_in (tree outline.now.text) ≡ Some running }
+    ensures { AnswersSwitch now outline.now.text running.heading node result }
 {
-    let node = outline.find(path)?;
     if node.number() == running.heading.number() {
         return Ok(Vec::new(alloc));
     }

@@ -2,6 +2,7 @@ pub mod Settled
 pub mod Acted
 pub mod Accepted
 pub mod Follows
+pub mod Asking
 pub mod Own
 pub mod Sortings
 pub mod Runs

@@ -31,12 +31,12 @@ use Rattle.org_store.proofs.Runs.{falls}
 
 -- ---- the files of a store's names
 
-distinct : (names : List (List ℕ)) → IsStrictlySortedBy (slice_cmp nat_cmp) names → IsDistinct bytes_eq names
+pub distinct : (names : List (List ℕ)) → IsStrictlySortedBy (slice_cmp nat_cmp) names → IsDistinct bytes_eq names
 distinct names sorted =
     let same : eq_by_cmp (slice_cmp nat_cmp) ≡ bytes_eq = λ i x y. is_eq-slice_cmp x y i in
     subst (λ (e : List ℕ → List ℕ → Bool). IsDistinct e names) same (IsDistinct-from_sorted (slice_cmp nat_cmp) names sorted)
 
-texts_back : (names texts : List (List ℕ)) (others : Image) → IsDistinct bytes_eq names → length texts ≡ length names → texts_of (with_texts names texts others) names ≡ texts
+pub texts_back : (names texts : List (List ℕ)) (others : Image) → IsDistinct bytes_eq names → length texts ≡ length names → texts_of (with_texts names texts others) names ≡ texts
 texts_back [] [] others apart size = refl
 texts_back [] (text ∷ texts) others apart size = absurd (cc)
 texts_back (one ∷ names) [] others apart size = absurd (cc)

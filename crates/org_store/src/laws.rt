@@ -19,7 +19,7 @@ ghost use Rattle.org_move.specs.Counts.{count_over};
 ghost use Rattle.org_commands.specs.declared.command.Archive.{Archive as Archiving};
 ghost use Rattle.org_commands.specs.declared.command.Refile.{Refile as Refiling};
 ghost use Rattle.org_commands.specs.declared.command.Command.{Command};
-ghost use Rattle.org_commands.specs.declared.command.Command.TheVariants.{Archive, Refile};
+ghost use Rattle.org_commands.specs.declared.command.Command.TheVariants.{Archive, Refile, Settle};
 ghost use Rattle.org_commands.specs.declared.command.Reply.{Reply};
 ghost use Rattle.org_commands.specs.declared.command.Reply.TheVariants.{Done};
 ghost use Rattle.org_commands.specs.declared.command.RunFault.{RunFault};
@@ -56,11 +56,16 @@ pub fn few_unacknowledged()
         → new.accepted < new.acknowledged + size }
 {}
 
-/// Where the group is all commands up to the next settling, no command that is accepted settles.
+/// Where the group is all commands up to the next settling, no command that is accepted settles:
+/// what is acknowledged rises by `settle` alone.
 pub fn whole_groups_wait()
-    ensures { (old new : Session) (command : Command) (n : ℕ) → old.group ≡ Whole
+    ensures accepted { (old new : Session) (command : Command) (n : ℕ) → old.group ≡ Whole
         → Step old command (Ok (Done n)) new
         → (new.acknowledged ≡ old.acknowledged) × (new.settled ≡ old.settled) }
+    ensures acknowledged { (old new : Session) (command : Command)
+        (answer : Result Reply RunFault) → old.group ≡ Whole → Step old command answer new
+        → (new.acknowledged ≡ old.acknowledged)
+        ⊎ ((command ≡ Settle) × (new.acknowledged ≡ old.accepted)) }
 {}
 
 /// No command changes the states, the names or the group.
@@ -210,8 +215,9 @@ pub fn middle_of_a_call_counts<D: Disk>()
 /// commands that were acknowledged when the run began, or after one prefix of the accepted
 /// commands. Where no command but refiles is accepted, that is as often as when the run began: a
 /// crash within a refile loses no node of the subtree and doubles none, in the old place or the
-/// new. An edit may make nodes and lose some, so those laws that count on speak of runs without
-/// one; what a crash leaves of it has each node as often as before it or as after it.
+/// new. An edit may make nodes and lose some, so the clauses from `refiles` on speak of runs in which
+/// none is accepted; what a crash leaves within one has each node as often as after the
+/// acknowledged commands or as after the edit.
 pub fn one_place<D: Disk>()
     ensures held { (given : List (List ℕ)) (s : Session) (others image : Image)
         (texts : List (List ℕ)) → IsSessionOf given s → AreSmall s.names texts

@@ -37,7 +37,8 @@ enum Fact {
 /// The edit that opens a clock at the heading A of an outline.
 fn opening_in(rt: &impl Abort, alloc: Global, outline: &Outline<'_>) -> Edit {
     let path = titles(rt, alloc, &["A"]);
-    clock_in(alloc, outline, path.as_slice(), now(rt)).expect(rt, "an edit")
+    let node = outline.find(path.as_slice()).expect(rt, "a heading");
+    clock_in(alloc, outline, node, now(rt)).expect(rt, "an edit")
 }
 
 /// The edit that opens a clock at the heading A of a text.

@@ -3,7 +3,7 @@
 //! to standard output. A fault is a line on standard error and the exit status.
 #![tactic(auto)]
 
-use org_program::{Fault, Ran, Unknown, given_words, input, output, run};
+use org_program::{Fault, HostSystem, Unknown, given_words, input, output, run};
 use std::process::ExitCode;
 
 fn main(rt: HostRuntime) -> ExitCode {
@@ -23,10 +23,9 @@ fn run_streams(rt: &HostRuntime) -> Result<(), Fault> {
     let words = given_words(rt)?;
     let mut reader = input(rt);
     let mut writer = output(rt)?;
-    let Ran {
-        arguments: _,
-        disk: _,
-        end,
-    } = run::<Unknown, _, _>(rt, &words, &mut reader, &mut writer)?;
-    end
+    let system: HostSystem<HostRuntime, Unknown> = HostSystem::new(rt.clone()?);
+    match run(rt.alloc(), system, &words, &mut reader, &mut writer) {
+        Ok(ran) => ran.end,
+        Err(unserved) => Err(unserved.fault),
+    }
 }

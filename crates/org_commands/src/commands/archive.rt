@@ -1,11 +1,13 @@
 //! Subtrees moved to their archives, within a file or across two.
-ghost use Rattle.std.specs.Prelude.{◌≡◌, [], ◌∷◌, List, ℕ, Some, IfOk, false, true};
+ghost use Rattle.std.specs.Prelude.{◌≡◌, [], ◌∷◌, List, ℕ, Some, Ok, IfOk, false, true};
+ghost use Rattle.org_outline.specs.Paths.{find_path};
 ghost use Rattle.org_outline.specs.Tree.{tree};
 ghost use Rattle.org_texts.specs.Texts.{bytes_or, text_of};
 ghost use Rattle.org_move.specs.Answers.{Gives, GivesPlace};
-ghost use Rattle.org_move.specs.Archive.{archive_across, archive_within};
-ghost use Rattle.org_move.specs.Location.{location};
+ghost use Rattle.org_move.specs.Archive.{archive_across_at, archive_within_at};
+ghost use Rattle.org_move.specs.Location.{location_at};
 ghost use Rattle.org_commands.specs.Files.{AreReadyForCommand, AreReady, IsPlanFor, IsReady};
+ghost use Rattle.org_commands.specs.Headings.{HasHeading};
 ghost use Rattle.org_commands.specs.InOrder.{is_name, text_at};
 ghost use Rattle.org_commands.specs.Keeping.{Plans};
 ghost use Rattle.org_commands.specs.Outcome.{archive_to as outcome_to, outcome};
@@ -15,12 +17,12 @@ ghost use Rattle.org_commands.specs.Refile.{MakesDocument, MakesDocuments};
 ghost use Rattle.org_commands.specs.Session.{BetweenSessions};
 
 use crate::command::{Archive, Command, Refusal, RunFault};
-use crate::commands::outline::outline_of;
+use crate::commands::outline::{heading_at, outline_of};
 use crate::commands::plans::{plan_of_two, plan_of_two_edits};
 use crate::files::Files;
 use org_disk::{Disk, FileName};
 use org_move::{Location, MoveFault, archive, archive_within, location_searched};
-use org_outline::{Outline, States};
+use org_outline::{Node, Outline, States};
 use org_texts::{NameOf, Plan};
 
 /// The outline of one of the files, whose text is ready. Takes no memory.
@@ -38,10 +40,12 @@ fn find_location<D: Disk>(
     files: &mut Files<D>,
     states: &States,
     command: &Archive,
+    node: Node,
 ) -> Result<Location, MoveFault>
-    requires { AreReady (command.now.file ∷ []) files.old.held }
+    requires ready { AreReady (command.now.file ∷ []) files.old.held }
+    requires heading { HasHeading files.old.held.now command.now.file node }
     ensures place { let seen = bytes_or [] (text_of files.new.held.now command.now.file) in
-        GivesPlace (location states.now command.now.file command.now.path seen) result }
+        GivesPlace (location_at states.now command.now.file seen node) result }
     ensures same { files.new ≡ files.old }
 {
     let file = &command.file;
@@ -50,7 +54,7 @@ fn find_location<D: Disk>(
         files.alloc(),
         &outline_in(files, states, file),
         file,
-        command.path.as_slice(),
+        node,
         &mut searches.archive_lines,
     );
     files.note(file, searches);
@@ -62,23 +66,18 @@ fn plan_within<'a, D: Disk>(
     files: &Files<D>,
     states: &States,
     command: &'a Archive,
+    node: Node,
     to: &Location,
 ) -> Result<Plan<'a>, MoveFault>
-    requires { IsReady command.now.file files.now.held }
+    requires ready { IsReady command.now.file files.now.held }
+    requires heading { HasHeading files.now.held.now command.now.file node }
     ensures { let seen = bytes_or [] (text_of files.now.held.now command.now.file) in
-        Gives (archive_within states.now command.now.file command.now.path command.now.moment
-        to.now (tree seen)) (MakesDocument command.now.file seen) result }
+        Gives (archive_within_at states.now command.now.file command.now.moment to.now (tree seen)
+        node) (MakesDocument command.now.file seen) result }
 {
     let alloc = files.alloc();
     let outline = outline_in(files, states, &command.file);
-    let edits = archive_within(
-        alloc,
-        &outline,
-        &command.file,
-        command.path.as_slice(),
-        command.moment,
-        to,
-    )?;
+    let edits = archive_within(alloc, &outline, &command.file, node, command.moment, to)?;
     Ok(plan_of_two_edits(alloc, &command.file, edits)?)
 }
 
@@ -88,14 +87,16 @@ fn plan_across<'a, D: Disk>(
     files: &Files<D>,
     states: &States,
     command: &'a Archive,
+    node: Node,
     to: &Location,
 ) -> Result<Plan<'a>, MoveFault>
     requires source { IsReady command.now.file files.now.held }
     requires target { IsReady to.now.file files.now.held }
+    requires heading { HasHeading files.now.held.now command.now.file node }
     ensures { let seen = bytes_or [] (text_of files.now.held.now command.now.file) in
         let target = bytes_or [] (text_of files.now.held.now to.now.file) in
-        Gives (archive_across states.now command.now.file command.now.path command.now.moment
-        (tree seen) states.now to.now (tree target))
+        Gives (archive_across_at states.now command.now.file command.now.moment (tree seen)
+        states.now to.now (tree target) node)
         (MakesDocuments command.now.file to.now.file seen target) result }
 {
     let alloc = files.alloc();
@@ -104,7 +105,7 @@ fn plan_across<'a, D: Disk>(
         &outline_in(files, states, &command.file),
         &outline_in(files, states, to.file()),
         &command.file,
-        command.path.as_slice(),
+        node,
         command.moment,
         to,
     )?;
@@ -115,33 +116,36 @@ fn plan_across<'a, D: Disk>(
     Ok(plan_of_two(alloc, file, goes_out, to_file, goes_in))
 }
 
-/// What an archiving to this location is to change, from a file that is ready. It is refused for
-/// the location's file first, then for the heading there.
+/// What an archiving of the heading at the command's path to this location is to change, from a
+/// file that is ready. It is refused for the location's file first, then for the heading there.
 fn plan_archive_to<'a, D: Disk>(
     files: &mut Files<D>,
     states: &States,
     command: &'a Archive,
+    node: Node,
     to: &Location,
 ) -> Result<Plan<'a>, RunFault>
     requires unbroken { files.old.broken ≡ false }
     requires name { is_name files.old.names command.now.file ≡ true }
     requires ready { AreReady (command.now.file ∷ []) files.old.held }
+    requires heading { HasHeading files.old.held.now command.now.file node }
     ensures plan { IfOk result (λ plan. IsPlanFor files.new.names files.new.held plan) }
     ensures plans { BetweenSessions D.Disk states.now files.old files.new
         (λ old new. (text : List ℕ) → text_at old.names old.files command.now.file ≡ Some text
+        → find_path states.now (tree text) command.now.path ≡ Ok node
         → Plans old (outcome_to old command.now.file command.now.path command.now.moment text
         to.now (text_at old.names old.files to.now.file)) result files.new.held new) }
     ensures disk { OnlyReads D.Disk files.old files.new result }
 {
     let to_file = to.file();
     if command.file == *to_file {
-        return Ok(plan_within(files, states, command, to)?);
+        return Ok(plan_within(files, states, command, node, to)?);
     }
     if !files.has(to_file) {
         return Err(RunFault::Refused(Refusal::NoSuchFile));
     }
     files.ready(to_file)?;
-    Ok(plan_across(files, states, command, to)?)
+    Ok(plan_across(files, states, command, node, to)?)
 }
 
 /// What an archiving is to change. It is refused for its file first, then for its path, then where
@@ -158,6 +162,7 @@ pub(crate) fn plan_archive<'a, D: Disk>(
 {
     files.check_name(&command.file)?;
     files.ready(&command.file)?;
-    let to = find_location(files, states, command)?;
-    plan_archive_to(files, states, command, &to)
+    let node = heading_at(files.held(&command.file), states, &command.path)?;
+    let to = find_location(files, states, command, node)?;
+    plan_archive_to(files, states, command, node, &to)
 }

@@ -1,16 +1,15 @@
 //! Clocks, started and stopped, where one clock runs over all files.
 //!
 //! Clocking in stops the clock that runs, in the same step, in whatever file it runs.
-ghost use Rattle.std.specs.Prelude.{◌≡◌, ◌≢◌, [], None, Some, OnOk, true};
+ghost use Rattle.std.specs.Prelude.{◌≡◌, ◌≢◌, ◌<◌, [], None, Some, Ok, IfOk, OnOk, true};
 ghost use Rattle.std.specs.Option.{ForSome, unwrap_or};
-ghost use Rattle.std.specs.Result.{result_map_both};
 ghost use Rattle.org_outline.specs.Paths.{find_path};
-ghost use Rattle.org_outline.specs.Tree.{tree};
-ghost use Rattle.org_state.specs.Clock.{AnswersOpening, running_in};
-ghost use Rattle.org_state.specs.Todo.{fault_of_path};
+ghost use Rattle.org_outline.specs.Tree.{node_count, tree};
+ghost use Rattle.org_state.specs.Clock.{running_in};
 ghost use Rattle.org_commands.specs.Clocking.{PlansClocks, clock_moved, clocked_in, clocked_out};
 ghost use Rattle.org_commands.specs.Clocks.{RunsHeld};
 ghost use Rattle.org_commands.specs.Files.{AreReadyForCommand};
+ghost use Rattle.org_commands.specs.Headings.{HasHeading};
 ghost use Rattle.org_commands.specs.InOrder.{is_name, text_at};
 ghost use Rattle.org_commands.specs.Keeping.{LooksUp};
 ghost use Rattle.org_commands.specs.Outcome.{outcome, with_clock_moved, with_state};
@@ -20,43 +19,17 @@ ghost use Rattle.org_commands.specs.Session.{BetweenSessions};
 ghost use Rattle.org_commands.specs.Todo.{PlansState};
 
 use crate::command::{ClockIn, Command, Refusal, RunFault};
-use crate::commands::outline::outline_of;
+use crate::commands::outline::{heading_at, outline_of};
 use crate::commands::plans::{plan_of, plan_of_one, plan_of_two};
 use crate::commands::refile::both_ready;
 use crate::commands::running::{Clock, running_clock};
 use crate::files::Files;
 use org_disk::Disk;
-use org_outline::States;
-use org_splice::Edit;
+use org_outline::{Node, States};
 use org_stamp::Moment;
 use org_state::{Running, StateFault, clock_in, clock_out, switch_clock};
 use org_texts::{Held, NameOf, Plan};
 use std::alloc::Global;
-
-/// Tests that a text that is ready has a heading at a path.
-fn look_up(states: &States, held: &Held, command: &ClockIn) -> Result<(), StateFault>
-    requires ready { held.now.ready ≡ true }
-    ensures { result ≡ result_map_both (λ _. tt) fault_of_path
-        (find_path states.now (tree held.now.text.bytes) command.now.path) }
-{
-    outline_of(held, states).find(command.path.as_slice())?;
-    Ok(())
-}
-
-/// The edit of a text, which is ready, that opens a clock at one of its headings.
-fn opening(
-    alloc: Global,
-    states: &States,
-    held: &Held,
-    command: &ClockIn,
-) -> Result<Edit, StateFault>
-    requires ready { held.now.ready ≡ true }
-    ensures { AnswersOpening states.now command.now.path command.now.moment held.now.text.bytes
-        result }
-{
-    let outline = outline_of(held, states);
-    clock_in(alloc, &outline, command.path.as_slice(), command.moment)
-}
 
 /// The edits of a file, whose text is ready, that clock in at one of its headings. No clock runs in
 /// it.
@@ -65,13 +38,14 @@ fn plan_start<'a>(
     states: &States,
     held: &Held,
     command: &'a ClockIn,
+    node: Node,
 ) -> Result<Option<Plan<'a>>, StateFault>
     requires ready { held.now.ready ≡ true }
-    ensures { let d = tree held.now.text.bytes in
-        PlansState command.now.file held.now.text.bytes (clocked_in command.now.moment None d
-        (find_path states.now d command.now.path)) result }
+    requires node { node < node_count (tree held.now.text.bytes) }
+    ensures { PlansState command.now.file held.now.text.bytes
+        (clocked_in command.now.moment None (tree held.now.text.bytes) (Ok node)) result }
 {
-    let edit = opening(alloc, states, held, command)?;
+    let edit = clock_in(alloc, &outline_of(held, states), node, command.moment)?;
     Ok(Some(plan_of_one(alloc, NameOf::given(&command.file), edit)))
 }
 
@@ -82,17 +56,17 @@ fn plan_switch<'a>(
     states: &States,
     held: &Held,
     command: &'a ClockIn,
+    node: Node,
     running: Running,
 ) -> Result<Option<Plan<'a>>, StateFault>
     requires ready { held.now.ready ≡ true }
+    requires node { node < node_count (tree held.now.text.bytes) }
     requires runs { running_in (tree held.now.text.bytes) ≡ Some running }
-    ensures { let d = tree held.now.text.bytes in
-        PlansState command.now.file held.now.text.bytes (clocked_in command.now.moment
-        (Some running) d (find_path states.now d command.now.path)) result }
+    ensures { PlansState command.now.file held.now.text.bytes
+        (clocked_in command.now.moment (Some running) (tree held.now.text.bytes) (Ok node)) result }
 {
     let outline = outline_of(held, states);
-    let path = command.path.as_slice();
-    let edits = switch_clock(alloc, &outline, path, running, command.moment)?;
+    let edits = switch_clock(alloc, &outline, node, running, command.moment)?;
     Ok(plan_of(&command.file, edits))
 }
 
@@ -103,18 +77,19 @@ fn plan_in_text<'a>(
     states: &States,
     held: &Held,
     command: &'a ClockIn,
+    node: Node,
     running: Option<Running>,
 ) -> Result<Option<Plan<'a>>, StateFault>
     requires ready { held.now.ready ≡ true }
+    requires node { node < node_count (tree held.now.text.bytes) }
     requires runs { ForSome running
         (λ running. running_in (tree held.now.text.bytes) ≡ Some running) }
-    ensures { let d = tree held.now.text.bytes in
-        PlansState command.now.file held.now.text.bytes (clocked_in command.now.moment running d
-        (find_path states.now d command.now.path)) result }
+    ensures { PlansState command.now.file held.now.text.bytes
+        (clocked_in command.now.moment running (tree held.now.text.bytes) (Ok node)) result }
 {
     match running {
-        None => plan_start(alloc, states, held, command),
-        Some(running) => plan_switch(alloc, states, held, command, running),
+        None => plan_start(alloc, states, held, command, node),
+        Some(running) => plan_switch(alloc, states, held, command, node, running),
     }
 }
 
@@ -150,16 +125,17 @@ fn plan_move<'a>(
     held: &Held,
     clock: &Clock,
     command: &'a ClockIn,
+    node: Node,
 ) -> Result<Plan<'a>, StateFault>
     requires other { other.now.ready ≡ true }
     requires ready { held.now.ready ≡ true }
+    requires node { node < node_count (tree held.now.text.bytes) }
     requires runs { running_in (tree other.now.text.bytes) ≡ Some clock.now.running }
-    ensures { let d = tree held.now.text.bytes in
-        PlansClocks clock.now.file command.now.file other.now.text.bytes held.now.text.bytes
-        (clock_moved command.now.moment clock.now.running (tree other.now.text.bytes) d
-        (find_path states.now d command.now.path)) result }
+    ensures { PlansClocks clock.now.file command.now.file other.now.text.bytes
+        held.now.text.bytes (clock_moved command.now.moment clock.now.running
+        (tree other.now.text.bytes) (tree held.now.text.bytes) (Ok node)) result }
 {
-    let start = opening(alloc, states, held, command)?;
+    let start = clock_in(alloc, &outline_of(held, states), node, command.moment)?;
     let stop = clock_out(
         alloc,
         outline_of(other, states).text(),
@@ -173,24 +149,26 @@ fn plan_move<'a>(
     Ok(plan_of_two(alloc, file, stop, to_file, start))
 }
 
-/// Tests that one of the files has a heading at a path. No text changes.
+/// The heading at a path of one of the files. No text changes.
 fn look_up_in<D: Disk>(
     files: &mut Files<D>,
     states: &States,
     command: &ClockIn,
-) -> Result<(), RunFault>
+) -> Result<Node, RunFault>
     requires file { is_name files.old.names command.now.file ≡ true }
     requires between { AreReadyForCommand files.old }
     ensures finds { BetweenSessions D.Disk states.now files.old files.new
         (λ old new. let text = unwrap_or (text_at old.names old.files command.now.file) [] in
         LooksUp old (find_path states.now (tree text) command.now.path) result new) }
+    ensures heading { IfOk result
+        (λ node. HasHeading files.new.held.before command.now.file node) }
     ensures unedited { OnOk result (files.new.held.now ≡ files.new.held.before) }
     ensures disk { OnlyReads D.Disk files.old files.new result }
 {
     files.ready(&command.file)?;
-    look_up(states, files.held(&command.file), command)?;
+    let node = heading_at(files.held(&command.file), states, &command.path)?;
     files.undo();
-    Ok(())
+    Ok(node)
 }
 
 /// What clocking in at a heading of one of the files is to change, where no clock runs in another
@@ -199,20 +177,22 @@ fn start_in_one<'a, D: Disk>(
     files: &mut Files<D>,
     states: &States,
     command: &'a ClockIn,
+    node: Node,
     running: Option<Running>,
 ) -> Result<Option<Plan<'a>>, RunFault>
     requires file { is_name files.old.names command.now.file ≡ true }
     requires between { AreReadyForCommand files.old }
+    requires heading { HasHeading files.old.held.before command.now.file node }
     requires runs { ForSome running
         (λ running. RunsHeld files.old.held command.now.file running) }
     ensures { PlansOrStaysAs D.Disk states.now files.old
         (λ s. let d = tree (unwrap_or (text_at s.names s.files command.now.file) []) in
-        with_state s command.now.file (clocked_in command.now.moment running d
-        (find_path states.now d command.now.path))) result files.new }
+        with_state s command.now.file (clocked_in command.now.moment running d (Ok node)))
+        result files.new }
 {
     files.ready(&command.file)?;
     let held = files.held(&command.file);
-    Ok(plan_in_text(files.alloc(), states, held, command, running)?)
+    Ok(plan_in_text(files.alloc(), states, held, command, node, running)?)
 }
 
 /// What clocking in at a heading of one of the files is to change, where this clock runs in another
@@ -222,22 +202,24 @@ fn start_beside<'a, D: Disk>(
     states: &States,
     clock: &Clock,
     command: &'a ClockIn,
+    node: Node,
 ) -> Result<Option<Plan<'a>>, RunFault>
     requires other { is_name files.old.names clock.now.file ≡ true }
     requires file { is_name files.old.names command.now.file ≡ true }
     requires apart { clock.now.file ≢ command.now.file }
     requires between { AreReadyForCommand files.old }
+    requires heading { HasHeading files.old.held.before command.now.file node }
     requires runs { RunsHeld files.old.held clock.now.file clock.now.running }
     ensures { PlansOrStaysAs D.Disk states.now files.old
         (λ s. let d = tree (unwrap_or (text_at s.names s.files command.now.file) []) in
         let other = tree (unwrap_or (text_at s.names s.files clock.now.file) []) in
-        with_clock_moved s clock.now.file command.now.file (clock_moved command.now.moment
-        clock.now.running other d (find_path states.now d command.now.path))) result files.new }
+        with_clock_moved s clock.now.file command.now.file
+        (clock_moved command.now.moment clock.now.running other d (Ok node))) result files.new }
 {
     both_ready(files, &clock.file, &command.file)?;
     let other = files.held(&clock.file);
     let held = files.held(&command.file);
-    let plan = plan_move(files.alloc(), states, other, held, clock, command)?;
+    let plan = plan_move(files.alloc(), states, other, held, clock, command, node)?;
     Ok(Some(plan))
 }
 
@@ -254,14 +236,14 @@ pub(crate) fn plan_clock_in<'a, D: Disk>(
         (λ s. outcome s (Command.ClockIn command.now)) result files.new }
 {
     files.check_name(&command.file)?;
-    look_up_in(files, states, command)?;
+    let node = look_up_in(files, states, command)?;
     let Some(clock) = running_clock(files, states)? else {
-        return start_in_one(files, states, command, None);
+        return start_in_one(files, states, command, node, None);
     };
     if clock.file == command.file {
-        return start_in_one(files, states, command, Some(clock.running));
+        return start_in_one(files, states, command, node, Some(clock.running));
     }
-    start_beside(files, states, &clock, command)
+    start_beside(files, states, &clock, command, node)
 }
 
 /// What stopping the clock that runs in one of the files is to change.

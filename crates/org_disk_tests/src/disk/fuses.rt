@@ -3,7 +3,8 @@ ghost use Rattle.std.specs.Prelude.{◌≡◌, List, ℕ, length, take, OnOk};
 ghost use Rattle.org_disk.specs.Disk.{AreImages};
 
 use super::{hold, hold_row, holds, name_of, sync_write_cut};
-use org_disk::{Disk, DiskFault, FileName, Fuse, MemoryDisk};
+use org_disk::{Disk, DiskFault, FileName};
+use org_test_disks::{Fuse, MemoryDisk};
 use std::alloc::Global;
 use std::process::Abort;
 

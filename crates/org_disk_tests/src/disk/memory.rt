@@ -1,10 +1,11 @@
 //! A disk in memory that is to crash, or at which a call is to fail.
 ghost use Rattle.std.specs.Prelude.{◌≡◌, codes};
 ghost use Rattle.org_disk.specs.Disk.{stable};
-ghost use Rattle.org_disk.specs.Memory.{memory_files};
+ghost use Rattle.org_test_disks.specs.Memory.{memory_files};
 
 use super::{hold_row, holds, leaves, name_of, sync_write_cut};
-use org_disk::{Disk, DiskFault, FileName, MemoryDisk, Outcome};
+use org_disk::{Disk, DiskFault, FileName};
+use org_test_disks::{MemoryDisk, Outcome};
 use std::alloc::Global;
 use std::process::Abort;
 

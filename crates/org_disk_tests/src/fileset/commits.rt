@@ -1,6 +1,6 @@
 //! Commits: whole, crashed and failing ones.
 ghost use Rattle.std.specs.Prelude.{◌≤◌, length, Contains, OnOk};
-ghost use Rattle.org_disk.specs.Memory.{memory_files};
+ghost use Rattle.org_test_disks.specs.Memory.{memory_files};
 ghost use Rattle.org_journal.specs.Recovered.{contents};
 ghost use Rattle.org_splice.specs.Texts.{IsEditOf};
 ghost use Rattle.org_fileset.specs.Names.{limit};
@@ -12,10 +12,11 @@ use super::{
     with_gate,
 };
 use crate::disk::{hold, hold_row, must};
-use org_disk::{FileName, MemoryDisk, Outcome};
+use org_disk::FileName;
 use org_fileset::{FileSet, LIMIT, SetFault};
 use org_fixtures::{OLD, OUTCOMES, TEXT, bytes_of};
 use org_splice::Editing;
+use org_test_disks::{MemoryDisk, Outcome};
 use std::alloc::Global;
 use std::process::Abort;
 

@@ -4,9 +4,10 @@ use super::{
     read_once, with_gate,
 };
 use crate::disk::{hold, hold_row, must, name_of};
-use org_disk::{FileName, MemoryDisk, Outcome};
+use org_disk::FileName;
 use org_fileset::{FileSet, LIMIT, OpenFault, OpenRefused, SetFault};
 use org_fixtures::{OUTCOMES, TEXT, numbered_names};
+use org_test_disks::{MemoryDisk, Outcome};
 use std::alloc::Global;
 use std::process::Abort;
 

@@ -1,10 +1,11 @@
 //! Calls of the system of which one fails.
-use super::{Call, Step, first_wrong, holds, make_folder, remove};
+use super::{Call, Step, disk, first_wrong, holds, make_folder, remove};
 use crate::disk::hold_row;
 use org_disk::DiskFault;
+use org_folder::{FolderDisk, Locks, Unknown};
 use std::alloc::{Alloc, Allocator, Global};
 use std::cell::Cell;
-use std::fs::{File, FileTimes, Files, Metadata, OpenFile, OpenOptions, Permissions};
+use std::fs::{File, FileTimes, Files, Metadata, OpenFile, OpenOptions, Permissions, TryLockError};
 use std::io;
 use std::io::{Error, ErrorKind, Read, Seek, SeekFrom, Write};
 use std::os::unix::fs::FileExt;
@@ -24,7 +25,7 @@ fn count(fails_in: &Rc<Cell<u64>>) -> io::Result<()> {
 }
 
 // The file system, of which one call fails without effect.
-#[derive(Drop)]
+#[derive(Clone, Drop)]
 struct Failing {
     rt: HostRuntime,
     // the call that fails, counted from 1; 0 for none
@@ -123,6 +124,12 @@ impl OpenFile for FailingFile {
     }
 }
 
+impl Locks for FailingFile {
+    fn try_lock(&self) -> Result<(), TryLockError> {
+        self.file.try_lock()
+    }
+}
+
 impl FileExt for FailingFile {
     fn read_at(&self, buf: &mut [u8], offset: u64) -> io::Result<usize> {
         count(&self.fails_in)?;
@@ -165,11 +172,12 @@ const ONE_FAILS: &[Step] = &[
     Step::Call("a.org", Call::Each, Ok(0), 1),
 ];
 
-// The file system, of which the call with this number fails.
+// The file system, of which the call with this number fails, counted behind the one that opens the
+// folder to lock it.
 fn failing_system(rt: &impl Abort, host: &HostRuntime, fails_in: u64) -> Failing {
     Failing {
         rt: host.clone().expect(rt, "memory"),
-        fails_in: Rc::new(host.alloc(), Cell::new(fails_in)).expect(rt, "memory"),
+        fails_in: Rc::new(host.alloc(), Cell::new(fails_in.saturating_add(1))).expect(rt, "memory"),
     }
 }
 
@@ -178,7 +186,8 @@ fn failing_system(rt: &impl Abort, host: &HostRuntime, fails_in: u64) -> Failing
 fn fails_at(rt: &impl Abort, host: &HostRuntime, fails_in: u64) -> bool {
     make_folder(rt, host, "one_fails", &[]);
     let system = failing_system(rt, host, fails_in);
-    first_wrong(rt, host, "one_fails", system, ONE_FAILS).is_none()
+    let disk: FolderDisk<Failing, Unknown> = disk(rt, host, "one_fails", system);
+    first_wrong(rt, host, disk, ONE_FAILS).is_none()
         && holds(rt, host, "one_fails/a.org", b"* A\n* C\n")
 }
 

@@ -1,8 +1,8 @@
 //! What calls of a disk do to the files of a folder.
-use super::{Call, Entry, Step, disk, go, holds, is_there, make, make_folder, remove};
+use super::{Call, Entry, Step, disk, go, holds, is_there, locked, make, make_folder, remove};
 use crate::disk::{hold, name_of};
 use org_disk::{Disk, DiskFault, FileName};
-use org_folder::{FolderDisk, Start, Unknown, check_aliases, lock_folder};
+use org_folder::{CallsDisk, FolderDisk, HostSystem, Start, Unknown, check_aliases};
 use std::process::Abort;
 
 // What a disk does to no file makes none.
@@ -186,11 +186,11 @@ fn disk_without(
     folder: &str,
     name: &FileName,
 ) -> FolderDisk<HostRuntime, Unknown> {
-    let folder = lock_folder(host, folder).expect(rt, "not locked");
-    let names = vec![in host.alloc(); name.clone().expect(rt, "memory")].expect(rt, "memory");
-    let absent = check_aliases(host, &folder, &names).expect(rt, "no aliases");
     let own = host.clone().expect(rt, "memory");
-    FolderDisk::new(own, host.alloc(), &folder, absent).expect(rt, "memory")
+    let mut system: HostSystem<HostRuntime, Unknown> = locked(rt, own, folder);
+    let names = vec![in host.alloc(); name.clone().expect(rt, "memory")].expect(rt, "memory");
+    let absent = check_aliases(host.alloc(), &mut system, &names).expect(rt, "no aliases");
+    CallsDisk::over(host.alloc(), system, absent)
 }
 
 // A file that was found absent is believed to be so by the first call, and once more by the next:

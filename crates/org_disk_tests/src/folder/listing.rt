@@ -1,8 +1,8 @@
 //! The Org files of a folder.
-use super::{Entry, make_folder, remove};
+use super::{Entry, locked, make_folder, remove};
 use crate::disk::{are_texts, hold, hold_row};
 use org_disk::{FileName, NameFault};
-use org_folder::{lock_folder, org_file, org_files};
+use org_folder::{HostSystem, Unknown, org_file, org_files};
 use std::alloc::Global;
 use std::process::Abort;
 
@@ -39,8 +39,9 @@ const LISTED: &[(&str, Entry)] = &[
 
 // The Org files of a folder, where they are listed.
 fn listed(rt: &impl Abort, host: &HostRuntime, folder: &str) -> Option<Vec<FileName>> {
-    let folder = lock_folder(host, folder).expect(rt, "not locked");
-    org_files(host, &folder).ok()
+    let own = host.clone().expect(rt, "memory");
+    let mut system: HostSystem<HostRuntime, Unknown> = locked(rt, own, folder);
+    org_files(host.alloc(), &mut system).ok()
 }
 
 // Whether the names of a folder are these, and it is listed.

@@ -6,9 +6,10 @@ ghost use Rattle.org_disk.specs.Names.{journal_name};
 use super::{ALL, Body, TWO, behind_gate, body_of, is_capture, joined};
 use crate::disk::{hold, hold_row};
 use crate::fileset::{disk_with, is_refused};
-use org_disk::{Disk, DiskFault, FileName, MemoryDisk};
+use org_disk::{Disk, DiskFault, FileName};
 use org_fixtures::{NEW, OLD};
 use org_journal::{FindFault, Found, arm, close_gate, find, open_gate, prepare};
+use org_test_disks::MemoryDisk;
 use std::alloc::Global;
 use std::process::Abort;
 

@@ -3,12 +3,14 @@
 use super::steps::{
     ACROSS, ARCHIVE_WITHIN, BACK, BETWEEN_TWINS, CAPTURES, CLOCK_ELSEWHERE, CLOCK_OUT, EDITED,
     IN_AND_OUT, LINE_MOVED, REFILE_WITHIN, REPEATED, Step, THERE_AND_BACK, TO_A_DAY, TO_A_HEAD,
-    TO_ANOTHER_FILE, TO_THE_ARCHIVE, TWO_ARCHIVES, all_of, count_of, files, may_be_done, safe_in,
+    TO_ANOTHER_FILE, TO_THE_ARCHIVE, TWO_ARCHIVES, WITHIN_TWINS, all_of, count_of, files,
+    may_be_done, safe_in,
 };
 use super::{Ended, calls, disk_of, run, served};
 use crate::shared::image;
-use org_disk::{Disk, MemoryDisk, Outcome};
+use org_disk::Disk;
 use org_fixtures::OUTCOMES;
+use org_test_disks::{MemoryDisk, Outcome};
 use std::process::Abort;
 
 // How many lines of the step are done in the files of a disk, once it is opened again.
@@ -116,18 +118,18 @@ fn captures_crashed(rt: HostRuntime) {
     }
 }
 
-const MOVED: &[&Step] = &[
-    ACROSS,
-    BACK,
-    BETWEEN_TWINS,
-    REFILE_WITHIN,
-    TO_A_HEAD,
-    TO_A_DAY,
-];
+const MOVED: &[&Step] = &[ACROSS, BACK, REFILE_WITHIN, TO_A_HEAD, TO_A_DAY];
 
 #[test]
 fn moves_crashed(rt: HostRuntime) {
     crash_each(&rt, 1, MOVED);
+}
+
+const TWINS: &[&Step] = &[BETWEEN_TWINS, WITHIN_TWINS];
+
+#[test]
+fn moves_of_twins_crashed(rt: HostRuntime) {
+    crash_each(&rt, 1, TWINS);
 }
 
 const ARCHIVED: &[&Step] = &[TO_THE_ARCHIVE, TO_ANOTHER_FILE, ARCHIVE_WITHIN];

@@ -6,9 +6,9 @@ use super::steps::{
 };
 use super::{Ended, calls, disk_of, is_refused, run};
 use crate::shared::{image, must};
-use org_disk::MemoryDisk;
 use org_fixtures::OUTCOMES;
 use org_serve::ServeEnd;
+use org_test_disks::MemoryDisk;
 use std::alloc::Global;
 use std::process::Abort;
 use std::test::Fail;

@@ -2,9 +2,10 @@
 use super::crashes::done_in;
 use super::steps::{Step, TO_ANOTHER_FILE, TO_THE_ARCHIVE, files, safe_in};
 use super::{Ended, calls, run};
-use org_disk::Fuse;
-use org_folder::{AbsentNames, FolderDisk, Unknown, lock_folder};
+use indexmap::IndexSet;
+use org_folder::{CallsDisk, FolderDisk, HostSystem, System, Unknown};
 use org_serve::ServeEnd;
+use org_test_disks::Fuse;
 use std::process::Abort;
 use std::{fs, io};
 
@@ -22,15 +23,10 @@ fn make_folder(host: &HostRuntime, step: &Step) -> io::Result<()> {
 
 // The disk of that folder.
 fn folder_disk(rt: &impl Abort, host: &HostRuntime) -> FolderDisk<HostRuntime, Unknown> {
-    let system = host.clone().expect(rt, "memory");
-    let folder = lock_folder(host, FOLDER).expect(rt, "not locked");
-    FolderDisk::new(
-        system,
-        host.alloc(),
-        &folder,
-        AbsentNames::none(host.alloc()),
-    )
-    .expect(rt, "memory")
+    let own = host.clone().expect(rt, "memory");
+    let mut system: HostSystem<HostRuntime, Unknown> = HostSystem::new(own);
+    system.lock(FOLDER).expect(rt, "not locked");
+    CallsDisk::over(host.alloc(), system, IndexSet::new(host.alloc()))
 }
 
 // Serves the line of a step over the folder, of whose disk so many calls pass: how many lines were

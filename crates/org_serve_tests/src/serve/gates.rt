@@ -3,8 +3,8 @@ use super::crashes::{calls_of_opening, done_in, left, way, ways};
 use super::steps::{FIRST, Step, TO_THE_ARCHIVE, files};
 use super::{calls, disk_of, run};
 use crate::shared::{image, must};
-use org_disk::{MemoryDisk, Outcome};
 use org_fixtures::{OUTCOMES, bytes_of, disk_with, file_name};
+use org_test_disks::{MemoryDisk, Outcome};
 use std::process::Abort;
 
 // A capture reads a length and a text, tries the journal and its file, and writes its record; then

@@ -2,9 +2,9 @@
 use super::crashes::done_stopped;
 use super::pipes::{Page, in_pieces, pipe};
 use super::steps::{CAPTURES, TWO_LINES, files};
-use org_disk::MemoryDisk;
 use org_fixtures::OUTCOMES;
 use org_serve::ServeEnd;
+use org_test_disks::MemoryDisk;
 use std::process::Abort;
 
 // What is left of the disk where the input breaks off behind these lines, so that nothing is

@@ -1,9 +1,9 @@
 //! Input that comes in pieces, and pipes that fail.
 use super::serve_over;
 use crate::shared::two;
-use org_disk::MemoryDisk;
 use org_serve::{PipeFault, ServeEnd, Served, Sink, Source};
 use org_store::Group;
+use org_test_disks::MemoryDisk;
 use std::alloc::Global;
 use std::process::Abort;
 

@@ -1,6 +1,6 @@
 //! Lines, and what they make of two files.
 use crate::shared::two;
-use org_disk::MemoryDisk;
+use org_test_disks::MemoryDisk;
 use std::process::Abort;
 
 // Lines: what a.org and b.org hold before them, and what shows of two files answer after none of
@@ -113,6 +113,18 @@ pub const BETWEEN_TWINS: &Step = &Step {
     shown: &[
         "text 10\n* A\n* A\nx\n\ntext 8\n* T\n* T\n\n",
         "text 4\n* A\n\ntext 15\n* T\n* T\n** A\nx\n\n",
+    ],
+};
+
+// The same in one file: both are found before anything moves.
+pub const WITHIN_TWINS: &Step = &Step {
+    a: "* A\n* B\n* A\n** T\n* A\n",
+    b: "* Z",
+    lines: "refile\ta.org\tA\\#1\ta.org\tA\\#3\tlast\n",
+    shows: BOTH,
+    shown: &[
+        "text 21\n* A\n* B\n* A\n** T\n* A\n\ntext 3\n* Z\n",
+        "text 22\n* B\n* A\n** T\n* A\n** A\n\ntext 3\n* Z\n",
     ],
 };
 

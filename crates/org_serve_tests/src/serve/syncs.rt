@@ -2,10 +2,11 @@
 use super::crashes::{way, ways};
 use super::{Ended, is_refused, served, setup};
 use crate::shared::{image, must, two};
-use org_disk::{Disk, MemoryDisk, Outcome};
+use org_disk::Disk;
 use org_fixtures::file_name;
 use org_serve::{Counted, Served, serve_synced};
 use org_store::Group;
+use org_test_disks::{MemoryDisk, Outcome};
 use std::process::Abort;
 
 // The files of the store: three names, their archive files, and the journal.

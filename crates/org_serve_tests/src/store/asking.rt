@@ -1,12 +1,13 @@
 //! What a store is asked, and what it answers.
 use crate::shared::must;
 use org_capture::Target;
-use org_disk::{FileName, MemoryDisk};
+use org_disk::FileName;
 use org_fixtures::file_name;
 use org_outline::{Path, Place, Step};
 use org_splice::Bytes;
 use org_stamp::Moment;
 use org_store::{Capture, Command, Refile, Reply, RunFault, Store, TextOf, Todo};
+use org_test_disks::MemoryDisk;
 use std::process::Abort;
 
 // A path of one step without a number, that of a heading of this title; or for an empty one that of

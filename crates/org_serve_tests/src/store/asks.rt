@@ -2,8 +2,8 @@
 use super::asking::{Answer, Ask, Row, answers, ask_each};
 use super::open;
 use crate::shared::two;
-use org_disk::MemoryDisk;
 use org_store::{Group, Refusal, RunFault, Store};
+use org_test_disks::MemoryDisk;
 use std::process::Abort;
 
 // Asks for both files, which hold these texts, before a command is accepted.

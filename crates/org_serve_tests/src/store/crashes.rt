@@ -4,8 +4,8 @@ use super::{calls_of_opening, opened};
 use crate::serve::crashes::{done_in, way, ways};
 use crate::serve::steps::{BOTH, Step};
 use crate::shared::{image, two};
-use org_disk::{MemoryDisk, Outcome};
 use org_store::{Group, Store};
+use org_test_disks::{MemoryDisk, Outcome};
 use std::process::Abort;
 
 // The texts of both files with none, one and two of the captures.

@@ -4,8 +4,8 @@ use super::{calls_of_opening, open};
 use crate::serve::crashes::done_in;
 use crate::serve::steps::{BOTH, Step};
 use crate::shared::two;
-use org_disk::MemoryDisk;
 use org_store::{RunFault, Store};
+use org_test_disks::MemoryDisk;
 use std::process::Abort;
 
 // The texts as before the capture, and behind it.

@@ -1,9 +1,9 @@
 //! A disk that fails from some call of an opening on.
 use super::{calls_of_opening, opened};
 use crate::shared::{must, two};
-use org_disk::{Fuse, MemoryDisk};
 use org_fixtures::{bytes_of, file_name};
 use org_store::{OpenFault, OpenRefused};
+use org_test_disks::{Fuse, MemoryDisk};
 use std::process::Abort;
 
 // What a.org and b.org hold.

@@ -3,8 +3,8 @@ use Rattle.std.specs.List.{Contains}
 use Rattle.org_folder.proofs.Places.{not_first, behind_first}
 use Rattle.org_folder.proofs.apart.check_aliases.Goals as goal
 
-pub returns-in-Some : goal.returns-in-Some
-returns-in-Some g c =
+pub returns-in_ok-clone-in-Some-clause-fault : goal.returns-in_ok-clone-in-Some-clause-fault
+returns-in_ok-clone-in-Some-clause-fault g c =
     let names = c.args.names.now in
     let at = c.in-Some.at in
     let nodes = c.as_slice.result.now in

@@ -10,8 +10,8 @@ returns c =
     let target = c.args.target.now in
     let to = c.args.to.now in
     let up = c.in_ok-up.up in
-    let root : Node = archived source.states c.args.name.now c.args.now (tree source.text) c.in_ok-node.node in
+    let root : Node = archived source.states c.args.name.now c.args.now (tree source.text) c.args.node in
     let lines = c.in_ok-lines.ensures.lines ∙ ap (λ (above : Option ℕ). print_node (filled to above root)) c.last_below-at.ensures.level in
-    archive_made source.states c.args.name.now _ c.args.now source.text target.states to target.text _ _ _ _ _ _ _ _ c.in_ok-lines.ensures.terminated c.last_below-at.ensures.terminated
-    c.find.ensures.value c.in_ok-node.was c.target_heading.ensures.value c.in_ok-up.was c.in_ok-node.ensures.within
+    archive_made source.states c.args.name.now c.args.now source.text target.states to target.text _ _ _ _ _ _ _ c.in_ok-lines.ensures.terminated c.last_below-at.ensures.terminated
+    c.target_heading.ensures.value c.in_ok-up.was c.requires
     (λ node. c.last_below-at.ensures.place to node) c.without.ensures c.insertion-goes_in.ensures lines

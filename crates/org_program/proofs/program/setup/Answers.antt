@@ -1,70 +1,98 @@
-use Rattle.std.proofs.Common.{◌≡◌, ◌∙◌, ◌++◌, ap, ap₂, refl, subst, ℕ, List, IsTrue}
+use Rattle.std.proofs.Common.{◌≡◌, ◌∙◌, ◌++◌, ◌∷◌, ap, ap₂, refl, subst, ℕ, List, IsTrue, string_bytes}
 use Rattle.std.proofs.lemmas.List.Elements.{All-append}
 use Rattle.org_disk.specs.Names.{IsOrgFile}
+use Rattle.org_folder.specs.Calls.{Event, OnlyLooks}
+use Rattle.org_folder.specs.Calls.Event.{Locked}
+use Rattle.org_folder.proofs.Looked.{looks_on, one_look}
 use Rattle.org_outline.specs.States.{Keywords, are_states}
 use Rattle.org_program.specs.Causes.{MayShare, NameAStore}
+use Rattle.org_program.specs.Runs.{ListsNames}
 use Rattle.org_program.specs.Lists.{names_in, states_in, states_of}
 use Rattle.org_program.proofs.Causing.{passed_told, of_names, of_states, of_lock, of_listing}
 use Rattle.org_program.proofs.Files.{shared}
+use Rattle.org_program.proofs.program.setup.Given.{Over}
 use Rattle.org_program.proofs.program.setup.Goals as goal
-use Rattle.org_program.proofs.program.setup.Goals.{In_ok-states}
+use Rattle.org_program.proofs.program.setup.Goals.{In_ok-states, In_ok-lock}
 
 -- the states are the ones that the arguments name
-states : (c : In_ok-states) → c.in_ok-states.states ≡ states_in c.args.arguments.now
-states c = c.in_ok-states.ensures.states ∙ ap₂ states_of c.deref.ensures c.deref-2.ensures
+states : (g : Over) (c : In_ok-states g) → c.in_ok-states.states ≡ states_in c.args.arguments.now
+states g c = c.in_ok-states.ensures.states ∙ ap₂ states_of c.deref.ensures c.deref-2.ensures
 
 -- .. and with the names they are a store's
-good : (c : In_ok-states) → NameAStore c.args.arguments.now
-good c = (c.in_ok-names.ensures.good, subst (λ (s : Keywords). IsTrue (are_states s)) (states c) c.in_ok-states.ensures.accepted)
+good : (g : Over) (c : In_ok-states g) → NameAStore c.args.arguments.now
+good g c = (c.in_ok-names.ensures.good, subst (λ (s : Keywords). IsTrue (are_states s)) (states g c) c.in_ok-states.ensures.accepted)
 
 pub returns-in_err-names-clause-cause : goal.returns-in_err-names-clause-cause
-returns-in_err-names-clause-cause c =
+returns-in_err-names-clause-cause g c =
     passed_told _ _ c.from_residual.result c.from_residual.ensures.1 (of_names c.args.arguments.now _ c.in_err-names.ensures.cause)
 
 pub returns-in_err-states-clause-cause : goal.returns-in_err-states-clause-cause
-returns-in_err-states-clause-cause c =
+returns-in_err-states-clause-cause g c =
     passed_told _ _ c.from_residual-in_err-states.result c.from_residual-in_err-states.ensures.1
     (of_states c.args.arguments.now _ _ c.in_ok-names.ensures.good (ap₂ states_of c.deref.ensures c.deref-2.ensures) c.in_err-states.ensures.cause)
 
-pub returns-in_err-folder-clause-cause : goal.returns-in_err-folder-clause-cause
-returns-in_err-folder-clause-cause c =
-    passed_told _ _ c.from_residual-in_err-folder.result c.from_residual-in_err-folder.ensures.1
-    (of_lock c.args.arguments.now _ (good (goal.at.returns-in_err-folder-clause-cause c).In_ok-states))
+pub returns-in_err-lock-clause-cause : goal.returns-in_err-lock-clause-cause
+returns-in_err-lock-clause-cause g c =
+    passed_told _ _ c.from_residual-in_err-lock.result c.from_residual-in_err-lock.ensures.1
+    (of_lock c.args.arguments.now _ (good g (goal.at.returns-in_err-lock-clause-cause g c).In_ok-states))
 
 pub returns-in_err-listed_names-clause-cause : goal.returns-in_err-listed_names-clause-cause
-returns-in_err-listed_names-clause-cause c =
+returns-in_err-listed_names-clause-cause g c =
     passed_told _ _ c.from_residual-in_err-listed_names.result c.from_residual-in_err-listed_names.ensures.1
-    (of_listing c.args.arguments.now _ (good (goal.at.returns-in_err-listed_names-clause-cause c).In_ok-states))
+    (of_listing c.args.arguments.now _ (good g (goal.at.returns-in_err-listed_names-clause-cause g c).In_ok-states))
 
 pub returns-in_err-append-clause-cause : goal.returns-in_err-append-clause-cause
-returns-in_err-append-clause-cause c =
+returns-in_err-append-clause-cause g c =
     passed_told _ _ c.from_residual-in_err-append.result c.from_residual-in_err-append.ensures.1 tt
 
 pub check_files-requires : goal.check_files-requires
-check_files-requires c =
-    rw (c.deref-4.ensures.value, c.in_ok-append.ensures.items) (All-append IsOrgFile _ _ c.in_ok-names.ensures.openable c.in_ok-listed_names.ensures.org_files)
+check_files-requires g c =
+    rw (c.deref-4.ensures.value, c.in_ok-append.ensures.items) (All-append IsOrgFile _ _ c.in_ok-names.ensures.openable c.in_ok-listed_names.ensures.listed.org_files)
 
 pub returns-in_err-absent-clause-cause : goal.returns-in_err-absent-clause-cause
-returns-in_err-absent-clause-cause c =
+returns-in_err-absent-clause-cause g c =
     let listed : List (List ℕ) = c.in_ok-listed_names.field-0.items in
     let all : c.deref-4.result.now ≡ names_in c.args.arguments.now ++ listed = c.deref-4.ensures.value ∙ c.in_ok-append.ensures.items ∙ ap (λ l. l ++ listed) c.in_ok-names.ensures.names in
-    let may = subst (λ (names : List (List ℕ)). MayShare names c.in_err-absent.field-0.0) all c.in_err-absent.ensures in
+    let may = subst (λ (names : List (List ℕ)). MayShare names c.in_err-absent.field-0.0) all c.in_err-absent.ensures.fault in
     passed_told _ _ c.from_residual-in_err-absent.result c.from_residual-in_err-absent.ensures.1
-    (shared c.args.arguments.now listed _ (good (goal.at.returns-in_err-absent-clause-cause c).In_ok-states) c.in_ok-listed_names.ensures may)
+    (shared c.args.arguments.now listed _ (good g (goal.at.returns-in_err-absent-clause-cause g c).In_ok-states) c.in_ok-listed_names.ensures.listed may)
 
-pub returns-clause-folder : goal.returns-clause-folder
-returns-clause-folder c = c.in_ok-folder.ensures ∙ c.deref-3.ensures
+-- the folder is locked, and only looks were made since
+locked : (g : Over) (c : In_ok-lock g) → g.S.System.history c.lock.new.self ≡ Locked (string_bytes c.args.arguments.now.folder) ∷ g.S.System.history c.args.system.now
+locked g c = c.in_ok-lock.ensures.ok ∙ ap (λ path. Locked path ∷ g.S.System.history c.args.system.now) c.deref-3.ensures
 
-pub returns-clause-names : goal.returns-clause-names
-returns-clause-names c =
-    rw c.in_ok-append.ensures.items (All-append IsOrgFile _ _ c.in_ok-names.ensures.openable c.in_ok-listed_names.ensures.org_files)
+pub returns-clause-sets_up : goal.returns-clause-sets_up
+returns-clause-sets_up g c = (
+  record {
+    listed = c.in_ok-listed_names.field-0.items;
+    listing = g.S.System.history c.listed_names.new.system;
+    are_listed = c.in_ok-listed_names.ensures.listed;
+    lists = subst (λ (calls : List Event). ListsNames c.args.arguments.now c.in_ok-listed_names.field-0.items calls (g.S.System.history c.listed_names.new.system)) (locked g (goal.at.returns-clause-sets_up g c).In_ok-lock) c.in_ok-listed_names.ensures.lists;
+    since = c.check_files.ensures.looks;
+    openable = rw c.in_ok-append.ensures.items (All-append IsOrgFile _ _ c.in_ok-names.ensures.openable c.in_ok-listed_names.ensures.listed.org_files);
+    names = c.in_ok-append.ensures.items ∙ ap (λ (l : List (List ℕ)). l ++ c.in_ok-listed_names.field-0.items) c.in_ok-names.ensures.names;
+    states = states g (goal.at.returns-clause-sets_up g c).In_ok-states;
+    group = refl;
+  },
+  c.in_ok-absent.ensures.absent,
+)
 
-pub returns-clause-is_set_up : goal.returns-clause-is_set_up
-returns-clause-is_set_up c =
-    record {
-      listed = c.in_ok-listed_names.field-0.items;
-      are_listed = c.in_ok-listed_names.ensures;
-      names = c.in_ok-append.ensures.items ∙ ap (λ (l : List (List ℕ)). l ++ c.in_ok-listed_names.field-0.items) c.in_ok-names.ensures.names;
-      states = states (goal.at.returns-clause-is_set_up c).In_ok-states;
-      group = refl;
-    }
+one : (g : Over) (c : In_ok-lock g) → OnlyLooks (g.S.System.history c.args.system.now) (g.S.System.history c.lock.new.self)
+one g c = one_look _ _ _ tt (locked g c)
+
+pub returns-in_err-listed_names-clause-looks : goal.returns-in_err-listed_names-clause-looks
+returns-in_err-listed_names-clause-looks g c = looks_on _ _ _ (one g (goal.at.returns-in_err-listed_names-clause-looks g c).In_ok-lock) c.listed_names.ensures.looks
+
+pub returns-in_err-append-clause-looks : goal.returns-in_err-append-clause-looks
+returns-in_err-append-clause-looks g c = looks_on _ _ _ (one g (goal.at.returns-in_err-append-clause-looks g c).In_ok-lock) c.listed_names.ensures.looks
+
+pub returns-in_err-absent-clause-looks : goal.returns-in_err-absent-clause-looks
+returns-in_err-absent-clause-looks g c = looks_on _ _ _ (looks_on _ _ _ (one g (goal.at.returns-in_err-absent-clause-looks g c).In_ok-lock) c.listed_names.ensures.looks) c.check_files.ensures.looks
+
+pub returns-clause-looks : goal.returns-clause-looks
+returns-clause-looks g c = looks_on _ _ _ (looks_on _ _ _ (one g (goal.at.returns-clause-looks g c).In_ok-lock) c.listed_names.ensures.looks) c.check_files.ensures.looks
+
+pub returns-clause-locks : goal.returns-clause-locks
+returns-clause-locks g c =
+    subst (λ (calls : List Event). OnlyLooks calls (g.S.System.history c.check_files.new.system)) (locked g (goal.at.returns-clause-locks g c).In_ok-lock)
+    (looks_on _ _ _ c.listed_names.ensures.looks c.check_files.ensures.looks)

@@ -1,7 +1,7 @@
 use Rattle.std.proofs.Common.{◌≡◌, ◌∙◌, ◌+◌, ◌-◌, length, drop, take, None, sym, ap, arith}
 use Rattle.std.specs.Option.{option_map}
 use Rattle.std.proofs.lemmas.List.{length-drop, take_all}
-use Rattle.org_serve.specs.Grammar.{mark_from, number_of, step_at, step_of, unescaped}
+use Rattle.org_serve.specs.Grammar.{number_of, step_at, step_of, unescaped}
 use Rattle.org_serve.proofs.Nodes.{refused, behind, part_refused}
 use Rattle.org_serve.proofs.field.step.Goals as goal
 

@@ -10,8 +10,10 @@ use Rattle.org_serve.specs.Syncing.{AreSynced, IsNotStored, stored}
 use Rattle.org_serve.specs.Whole.{SaysFailure}
 use Rattle.org_serve.specs.Writes.{pipes}
 use Rattle.org_serve.proofs.Counting.{ended_unserved}
+use Rattle.org_serve.proofs.Promised.{promises}
 use Rattle.org_serve.proofs.Syncs.{ok_apart}
 use Rattle.org_serve.proofs.Foreign.{leaves_foreign}
+use Rattle.org_serve.proofs.Places.{lists_files}
 use Rattle.org_serve.proofs.Synced.{if_err, reason_before, served_from, breaks_from, lasts_recoverable, lasts_found, synced_leaves_disk, unsynced_leaves_disk}
 use Rattle.org_serve.proofs.whole.serve_synced.Goals as goal
 
@@ -32,6 +34,7 @@ returns-in-Ok-clause-runs g c = record {
           served = served_from d setup disk mid began own synced images others time had.served;
           breaks = breaks_from d setup disk mid began own synced images others time had.served (c.in-Ok.ensures.accounts.equal (λ failed. absurd (cc))) had.breaks;
           alone = leaves_foreign (served_from d setup disk mid began own synced images others time had.served);
+          lists = lists_files (served_from d setup disk mid began own synced images others time had.served);
           lasts = lasts_recoverable d setup disk mid began own synced images others time had.served had.lasts;
         };
         lasts_found = lasts_found d setup disk mid began own synced images others time had.served had.lasts;
@@ -87,3 +90,9 @@ returns-in-Ok-clause-unserved g c = c.serve_disk.ensures.unserved
 
 pub returns-in-Err-clause-unserved : goal.returns-in-Err-clause-unserved
 returns-in-Err-clause-unserved g c = (refl, refl)
+
+pub returns-in-Ok-clause-promises : goal.returns-in-Ok-clause-promises
+returns-in-Ok-clause-promises g c = promises _ _ _ _ _ _ _ (returns-in-Ok-clause-runs g c)
+
+pub returns-in-Err-clause-promises : goal.returns-in-Err-clause-promises
+returns-in-Err-clause-promises g c = promises _ _ _ _ _ _ _ (returns-in-Err-clause-runs g c)

@@ -1,8 +1,8 @@
 use Rattle.std.proofs.Common.{◌∷◌, []}
-use Rattle.org_commands.proofs.Clocks.{still_runs}
+use Rattle.org_commands.proofs.Clocks.{still_runs, still_there}
 use Rattle.org_commands.proofs.MadeReady.{first_is_ready, second_is_ready, sees_two, two_ready}
 use Rattle.org_commands.proofs.Moving.{move_fails, move_fits, move_planned}
-use Rattle.org_commands.proofs.Plans.{second_name}
+use Rattle.org_commands.proofs.Plans.{first_name, second_name}
 use Rattle.org_commands.proofs.Faults.{no_value, state_own}
 use Rattle.org_commands.proofs.Reading.{only_reads_ok, only_reads_own}
 use Rattle.org_commands.proofs.Handing.{handed_on}
@@ -20,6 +20,13 @@ held-other-requires g c = first_is_ready c.args.clock.now.file c.args.command.no
 pub held-held-requires : goal.held-held-requires
 held-held-requires g c = second_is_ready c.args.clock.now.file c.args.command.now.file c.requires.between c.in_ok-both_ready.ensures.ready
 
+pub plan_move-requires-clause-node : goal.plan_move-requires-clause-node
+plan_move-requires-clause-node g c =
+    let clock = c.args.clock.now in
+    let file = c.args.command.now.file in
+    still_there c.args.files.now.held c.both_ready.new.files.held (file ∷ clock.file ∷ []) file c.args.node c.held-held.result.now.text c.requires.heading c.both_ready.ensures.files.keeps
+    (two_ready clock.file file c.requires.between c.in_ok-both_ready.ensures.ready) (first_name file (clock.file ∷ [])) c.held-held.ensures.text
+
 pub plan_move-requires-clause-runs : goal.plan_move-requires-clause-runs
 plan_move-requires-clause-runs g c =
     let clock = c.args.clock.now in
@@ -35,7 +42,7 @@ returns-in_err-plan g c = record {
       let k = c.args.command.now in
       let both = sees_two clock.file k.file c.requires.between g.D.Disk c.args.states.now c.both_ready.new.files c.requires.other c.requires.file c.in_ok-both_ready.ensures.ready c.both_ready.ensures.files.disk.names c.in_ok-both_ready.ensures.files.reads
       c.held-other.ensures.text c.held-held.ensures.text in
-      move_fails both k.path k.moment clock.running tally honest c.plan_move.result c.from_residual-in_err-plan.result c.in_err-plan.was c.plan_move.ensures c.from_residual-in_err-plan.ensures.1;
+      move_fails both c.args.node k.moment clock.running tally honest c.plan_move.result c.from_residual-in_err-plan.result c.in_err-plan.was c.plan_move.ensures c.from_residual-in_err-plan.ensures.1;
   disk = only_reads_own c.from_residual-in_err-plan.result (fault_of_state c.in_err-plan.field-0.0) (handed_on c.from_residual-in_err-plan.result _ c.from_residual-in_err-plan.ensures.1) (state_own c.in_err-plan.field-0.0) c.in_ok-both_ready.ensures.files.disk;
 }
 
@@ -46,12 +53,12 @@ returns g c = record {
       let k = c.args.command.now in
       let both = sees_two clock.file k.file c.requires.between g.D.Disk c.args.states.now c.both_ready.new.files c.requires.other c.requires.file c.in_ok-both_ready.ensures.ready c.both_ready.ensures.files.disk.names c.in_ok-both_ready.ensures.files.reads
       c.held-other.ensures.text c.held-held.ensures.text in
-      move_fits both k.path k.moment clock.running c.in_ok-plan.plan c.requires.apart c.in_ok-plan.ensures;
+      move_fits both c.args.node k.moment clock.running c.in_ok-plan.plan c.requires.apart c.in_ok-plan.ensures;
   plans = λ tally honest.
       let clock = c.args.clock.now in
       let k = c.args.command.now in
       let both = sees_two clock.file k.file c.requires.between g.D.Disk c.args.states.now c.both_ready.new.files c.requires.other c.requires.file c.in_ok-both_ready.ensures.ready c.both_ready.ensures.files.disk.names c.in_ok-both_ready.ensures.files.reads
       c.held-other.ensures.text c.held-held.ensures.text in
-      move_planned both k.path k.moment clock.running tally honest c.in_ok-plan.plan c.requires.apart c.in_ok-plan.ensures;
+      move_planned both c.args.node k.moment clock.running tally honest c.in_ok-plan.plan c.requires.apart c.in_ok-plan.ensures;
   disk = only_reads_ok c.in_ok-both_ready.ensures.files.disk;
 }

@@ -1,4 +1,4 @@
-use Rattle.org_disk.specs.Memory.{memory_files}
+use Rattle.org_test_disks.specs.Memory.{memory_files}
 use Rattle.org_journal.specs.Recovered.{contents}
 use Rattle.org_fileset.specs.Set.{AreCommittable}
 use Rattle.org_disk_tests.proofs.fileset.commits.commit.Given as goal

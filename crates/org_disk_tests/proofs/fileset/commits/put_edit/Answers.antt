@@ -4,7 +4,7 @@ use Rattle.std.specs.List.{All, AllByRecursion, Contains}
 use Rattle.std.specs.Str.{bytes_eq}
 use Rattle.std.proofs.lemmas.List.Elements.{All-from_recursion, recursion_from_All}
 use Rattle.org_disk.specs.Disk.{FileState}
-use Rattle.org_disk.specs.Memory.{memory_files}
+use Rattle.org_test_disks.specs.Memory.{memory_files}
 use Rattle.org_disk.proofs.Names.{name_cases}
 use Rattle.org_disk_tests.specs.Edited.{with_text}
 use Rattle.org_splice.specs.Texts.{EditedText, IsEditOf}

@@ -1,0 +1,70 @@
+-- Calls that only look, one after another.
+use Rattle.std.proofs.Common.{◌≡◌, ◌∙◌, ap, sym, refl, subst, ℕ, List, [], ◌∷◌, ◌++◌, Option, Some, None, Result, Ok, Err, IfOk, IfSome, OnErr}
+use Rattle.std.specs.Prelude.{IfNone}
+use Rattle.std.proofs.lemmas.List.{append_assoc}
+use Rattle.std.proofs.lemmas.List.Elements.{All-append, All-cons, All-nil}
+use Rattle.org_folder.specs.Calls.{Event, IsHeld, IsLook, OnlyLooks, with_entries}
+use Rattle.org_folder.specs.Calls.Event.{Filled, Locked, Entry, Listed, There, Unseen, Absent, Length, Read, Write, Cut, Sync, Made, Entered}
+use Rattle.org_folder.specs.declared.system.Found.{Found}
+use Rattle.org_folder.specs.declared.list.ListFault.{ListFault}
+
+pub no_look : (calls : List Event) → OnlyLooks calls calls
+no_look calls = record { calls = []; look = All-nil IsLook; after = refl }
+
+pub one_look : (event : Event) (old new : List Event) → IsLook event → new ≡ event ∷ old → OnlyLooks old new
+one_look event old new is recorded = record { calls = event ∷ []; look = All-cons IsLook event [] is (All-nil IsLook); after = recorded }
+
+pub looks_on : (old mid new : List Event) → OnlyLooks old mid → OnlyLooks mid new → OnlyLooks old new
+looks_on old mid new first second = record {
+  calls = second.calls ++ first.calls;
+  look = All-append IsLook _ _ second.look first.look;
+  after = second.after ∙ ap (λ l. second.calls ++ l) first.after ∙ sym (append_assoc second.calls first.calls old);
+}
+
+pub same_look : (old mid new : List Event) → OnlyLooks old mid → new ≡ mid → OnlyLooks old new
+same_look old mid new first is = subst (OnlyLooks old) (sym is) first
+
+-- what is answered of a name
+pub look_made : (name : List ℕ) (old new : List Event) (result : Result (Option Found) ListFault)
+    → IfOk result (λ found. IfSome found (λ found. new ≡ There name found.node.device found.node.number found.is_plain ∷ old))
+    → IfOk result (λ found. IfNone found (new ≡ Absent name ∷ old)) → OnErr result (new ≡ Unseen name ∷ old) → OnlyLooks old new
+look_made name old new (Ok (Some found)) there absent err = one_look (There name found.node.device found.node.number found.is_plain) old new tt there
+look_made name old new (Ok None) there absent err = one_look (Absent name) old new tt absent
+look_made name old new (Err fault) there absent err = one_look (Unseen name) old new tt err
+
+entries_look : (names : List (List ℕ)) (old : List Event) → OnlyLooks old (with_entries names old)
+entries_look [] old = no_look old
+entries_look (name ∷ names) old = looks_on old (Entry name ∷ old) (with_entries names (Entry name ∷ old)) (one_look (Entry name) old (Entry name ∷ old) tt refl) (entries_look names (Entry name ∷ old))
+
+pub listing_looks : (names : List (List ℕ)) (old new : List Event) → new ≡ Listed ∷ with_entries names old → OnlyLooks old new
+listing_looks names old new is = looks_on old (with_entries names old) new (entries_look names old) (one_look Listed (with_entries names old) new tt is)
+
+-- a listing that may have failed
+pub list_looks : {T F : Type 0} (names : T → List (List ℕ)) (old new : List Event) (result : Result T F) → IfOk result (λ t. new ≡ Listed ∷ with_entries (names t) old) → OnErr result (new ≡ old)
+    → OnlyLooks old new
+list_looks names old new (Ok t) ok err = listing_looks (names t) old new ok
+list_looks names old new (Err fault) ok err = same_look old old new (no_look old) err
+
+-- a folder that was locked is locked after calls too
+held_by : (event : Event) (calls : List Event) → IsHeld calls → IsHeld (event ∷ calls)
+held_by (Filled path) calls held = held
+held_by (Locked path) calls held = refl
+held_by (Entry name) calls held = held
+held_by Listed calls held = held
+held_by (There name device number plain) calls held = held
+held_by (Unseen name) calls held = held
+held_by (Made name ok) calls held = held
+held_by (Entered name ok) calls held = held
+held_by (Absent name) calls held = held
+held_by (Length name n) calls held = held
+held_by (Read name from bytes) calls held = held
+held_by (Write name from bytes ok) calls held = held
+held_by (Cut name n ok) calls held = held
+held_by (Sync name ok) calls held = held
+
+held_after : (calls old : List Event) → IsHeld old → IsHeld (calls ++ old)
+held_after [] old held = held
+held_after (event ∷ calls) old held = held_by event (calls ++ old) (held_after calls old held)
+
+pub held_on : (old new : List Event) → OnlyLooks old new → IsHeld old → IsHeld new
+held_on old new looks held = subst IsHeld (sym looks.after) (held_after looks.calls old held)

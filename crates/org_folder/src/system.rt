@@ -1,0 +1,198 @@
+//! The calls of a system on a folder and its files: all that the program makes, and their record.
+//!
+//! Code that is generic over `System` has no other way to the folder. The record stands in proofs
+//! alone. Whether its answers were right is the premise under which a folder is an honest disk.
+ghost use Rattle.std.specs.Prelude.{◌≡◌, List, ◌∷◌, is_ok, map, string_bytes, IsTrue, IsFalse, IfOk, IfSome, IfNone, OnOk, OnErr};
+ghost use Rattle.org_folder.specs.Calls.{Event, HasEntered, IsWithin, World, with_entries};
+ghost use Rattle.org_folder.specs.Calls.Event.{Absent, Cut, Entered, Filled, Length, Listed, Locked, Made, Read, Sync, There, Unseen, Write};
+
+use crate::apart::Node;
+use crate::list::ListFault;
+use crate::lock::LockFault;
+use org_disk::{DiskFault, FileName};
+use seen::Seen;
+use std::alloc::AllocError;
+use std::cell::Cell;
+
+mod access;
+mod host;
+mod seen;
+
+pub use host::{HostSystem, Locks};
+
+// A file of the system, as it was found or made.
+#[derive(Drop)]
+struct Reached<F> {
+    file: F,
+    // no link led to it, and it wasn't made
+    is_own: bool,
+    seen: Seen,
+}
+
+/// A file that was opened under a name. Its parts are seen by the calls of the system alone, so
+/// that no other code can take the file's entry in the folder for synced.
+#[derive(Drop)]
+pub struct Opened<F> {
+    name: FileName,
+    file: F,
+    // it was found in the folder itself: no link led to it, and it wasn't made
+    is_own: bool,
+    // its entry in the folder is known to be on the device
+    is_entered: bool,
+    // what the system last said of it
+    seen: Cell<Seen>,
+}
+
+impl<F: Drop> Opened<F> {
+    fn new(name: &FileName, file: Reached<F>) -> Result<Opened<F>, DiskFault>
+        ensures name { IfOk result (λ opened. opened.name ≡ name.now) }
+        ensures entry { IfOk result (λ opened. IsFalse opened.is_entered) }
+    {
+        match name.clone() {
+            Ok(name) => Ok(Opened {
+                name,
+                file: file.file,
+                is_own: file.is_own,
+                is_entered: false,
+                seen: Cell::new(file.seen),
+            }),
+            Err(_) => Err(DiskFault),
+        }
+    }
+
+    /// The name under which it was opened.
+    pub fn name(&self) -> &FileName
+        ensures { result.now ≡ self.now.name }
+    {
+        &self.name
+    }
+
+    /// Whether its entry in the folder is known to be on the device.
+    pub fn is_entered(&self) -> bool
+        ensures { result ≡ self.now.is_entered }
+    {
+        self.is_entered
+    }
+}
+
+/// What a name leads to: a file, which is a plain one, or a folder, a pipe, a socket or a device.
+#[derive(Clone, Copy)]
+pub struct Found {
+    pub node: Node,
+    pub is_plain: bool,
+}
+
+/// The calls of a system on one folder and on its files: code that is generic over it has no other
+/// way to the folder. A call that fails may have gone any part of its way.
+///
+/// A record that stands in proofs alone has, each with its answer: the folder's lock and its list,
+/// each look at a name, a name without a file, each length and read that succeeded, and each write,
+/// cut and sync, each file that was made and each entry that was synced. To open a file that is
+/// there leaves it as it is. Whether the answers were right (`AreRight`) is no clause: that a
+/// length and a read gave what the calls before made of the file, that a name without a file stands
+/// for the empty file, after a crash too, and that a call that failed left what a crash within it
+/// may leave. It is the premise under which a `CallsDisk` is an honest disk. That the list is right
+/// is a premise of its own (`IsRightList`).
+pub trait System {
+    /// A file of the system, open for reading and, where that is permitted, for writing.
+    type File;
+
+    /// What no call shows of the files: each as it was at first, and what calls that failed left.
+    ghost world: { World };
+
+    /// The calls so far, the newest first.
+    ghost history: { Self → List Event };
+
+    /// Opens the folder at a path so often that where standard streams are closed their numbers are
+    /// the folder's, as long as this is kept. What can't be opened isn't held.
+    fn fill_streams(&mut self, path: &str) -> Result<(), AllocError>
+        ensures ok { OnOk result (history self.new ≡ Filled path.now ∷ history self.old) }
+        ensures err { OnErr result (history self.new ≡ history self.old) };
+
+    /// Locks the folder at a path, as far as the system locks it, until this is dropped or its
+    /// process ends. It is the folder of all calls that follow.
+    fn lock(&mut self, path: &str) -> Result<(), LockFault>
+        ensures ok { OnOk result (history self.new ≡ Locked path.now ∷ history self.old) }
+        ensures err { OnErr result (history self.new ≡ history self.old) };
+
+    /// The names of all entries of the folder.
+    fn list(&mut self) -> Result<Vec<String>, ListFault>
+        ensures ok { IfOk result (λ names. history self.new
+            ≡ Listed ∷ with_entries (map string_bytes names.items) (history self.old)) }
+        ensures err { OnErr result (history self.new ≡ history self.old) };
+
+    /// Looks where a name leads. Links are followed.
+    fn look(&mut self, name: &FileName) -> Result<Option<Found>, ListFault>
+        ensures there { IfOk result (λ found. IfSome found (λ found. history self.new
+            ≡ There name.now found.node.device found.node.number found.is_plain
+            ∷ history self.old)) }
+        ensures absent { IfOk result (λ found. IfNone found
+            (history self.new ≡ Absent name.now ∷ history self.old)) }
+        ensures err { OnErr result (history self.new ≡ Unseen name.now ∷ history self.old) };
+
+    /// Opens the file of a name, where there is one.
+    fn open(&mut self, name: &FileName) -> Result<Option<Opened<Self::File>>, DiskFault>
+        ensures name { IfOk result (λ found. IfSome found (λ opened. opened.name ≡ name.now)) }
+        ensures entry { IfOk result (λ found. IfSome found (λ opened.
+            IsFalse opened.is_entered)) }
+        ensures found { IfOk result (λ found. IfSome found (λ _.
+            history self.new ≡ history self.old)) }
+        ensures absent { IfOk result (λ found. IfNone found
+            (history self.new ≡ Absent name.now ∷ history self.old)) }
+        ensures err { OnErr result (history self.new ≡ history self.old) };
+
+    /// Opens the file of a name, which is made where there is none. Its content stays as it is.
+    fn make(&mut self, name: &FileName) -> Result<Opened<Self::File>, DiskFault>
+        ensures name { IfOk result (λ opened. opened.name ≡ name.now) }
+        ensures entry { IfOk result (λ opened. IsFalse opened.is_entered) }
+        ensures made { history self.new ≡ Made name.now (is_ok result) ∷ history self.old };
+
+    /// The length of a file in bytes.
+    fn length(&mut self, opened: &Opened<Self::File>) -> Result<u64, DiskFault>
+        ensures ok { IfOk result (λ n.
+            history self.new ≡ Length opened.now.name n ∷ history self.old) }
+        ensures err { OnErr result (history self.new ≡ history self.old) };
+
+    /// Fills the buffer with the bytes of a file from `from` on.
+    fn read_at(
+        &mut self,
+        opened: &Opened<Self::File>,
+        from: u64,
+        into: &mut [u8],
+    ) -> Result<(), DiskFault>
+        ensures ok { OnOk result
+            (history self.new ≡ Read opened.now.name from into.new ∷ history self.old) }
+        ensures err { OnErr result (history self.new ≡ history self.old) };
+
+    /// Writes bytes over a file from `from` on, which is at most its length. A write of no bytes
+    /// changes nothing: it tries the file. It fails where the file can't be written, or where
+    /// another program is seen to have changed or replaced it since these calls looked at it.
+    fn write_at(
+        &mut self,
+        opened: &Opened<Self::File>,
+        from: u64,
+        bytes: &[u8],
+    ) -> Result<(), DiskFault>
+        requires { IsWithin world (history self.old) opened.now.name from }
+        ensures { history self.new
+            ≡ Write opened.now.name from bytes.now (is_ok result) ∷ history self.old };
+
+    /// Takes away the bytes of a file from `to` on, which is at most its length.
+    fn cut(&mut self, opened: &Opened<Self::File>, to: u64) -> Result<(), DiskFault>
+        requires { IsWithin world (history self.old) opened.now.name to }
+        ensures { history self.new ≡ Cut opened.now.name to (is_ok result) ∷ history self.old };
+
+    /// Puts a file on the device. Its entry in the folder was put there before.
+    fn sync(&mut self, opened: &Opened<Self::File>) -> Result<(), DiskFault>
+        requires { HasEntered opened.now.name (history self.old) }
+        ensures { history self.new ≡ Sync opened.now.name (is_ok result) ∷ history self.old };
+
+    /// Puts the entry of a file in its folder on the device. A call that fails leaves it as little
+    /// known as before.
+    fn sync_entry(&mut self, opened: &mut Opened<Self::File>) -> Result<(), DiskFault>
+        ensures name { opened.new.name ≡ opened.old.name }
+        ensures ok { OnOk result (IsTrue opened.new.is_entered) }
+        ensures err { OnErr result (opened.new ≡ opened.old) }
+        ensures entered { history self.new
+            ≡ Entered opened.old.name (is_ok result) ∷ history self.old };
+}

@@ -1,0 +1,408 @@
+//! The calls of the operating system on a folder.
+//!
+//! Each method makes the call that the trait names, again where a signal interrupts it, and what it
+//! takes to reach the file; then it notes what the trait's clauses say. To be read against its
+//! calls: no contract says what a system does.
+ghost use Rattle.std.specs.Prelude.{◌≡◌, [], ◌∷◌, map, string_bytes, IfOk, IsFalse};
+ghost use Rattle.std.specs.Path.{path_buf_bytes, path_join};
+ghost use Rattle.org_folder.specs.Calls.{with_entries};
+ghost use Rattle.org_folder.specs.Calls.Event.{Listed};
+ghost use Rattle.org_folder.specs.Note.{event_of};
+
+use super::access::{Access, OWNER, is_shared};
+use super::seen::Seen;
+use super::{Found, Opened, Reached, System};
+use crate::apart::Node;
+use crate::list::ListFault;
+use crate::lock::{LockFault, held};
+use crate::record::{Call, Record};
+use crate::start::Start;
+use org_disk::{DiskFault, FileName};
+use std::alloc::{AllocError, Global};
+use std::fs::{File, Files, Metadata, OpenFile, OpenOptions, TryLockError};
+use std::io::{Error, ErrorKind};
+use std::marker::PhantomData;
+use std::os::unix::fs::{FileExt, MetadataExt, OpenOptionsExt};
+use std::path::{Path, PathBuf};
+use std::{fs, io};
+
+/// A folder that was opened and may be locked.
+pub trait Locks {
+    /// Locks it against every other one that is open, until this is dropped.
+    fn try_lock(&self) -> Result<(), TryLockError>;
+}
+
+impl Locks for File {
+    fn try_lock(&self) -> Result<(), TryLockError> {
+        File::try_lock(self)
+    }
+}
+
+/// The files of a folder of the operating system, which held what `S` says at first.
+///
+/// Their record takes no memory. No contract says what a real file gives, so that each answer in it
+/// was right can only be supposed. Nor does one say which call of the system a method makes: what
+/// it notes has to be read against that.
+#[derive(Drop)]
+pub struct HostSystem<R: Files, S: Start> {
+    rt: R,
+    path: String,
+    // the folder, where the system locked it
+    lock: Option<R::File>,
+    // the folder again, so that no closed stream's number is a file's
+    streams: [Option<R::File>; 3],
+    // the folder was synced, and this has made no file since
+    is_synced: bool,
+    pub(crate) log: Record,
+    start: PhantomData<S>,
+}
+
+impl<R: Files + AllocGlobal + Clone + Drop, S: Start> HostSystem<R, S>
+where
+    R::File: FileExt + Locks,
+{
+    /// The calls on a folder that is still to be locked. None was made.
+    pub fn new(rt: R) -> HostSystem<R, S>
+        ensures empty { result.log.events ≡ [] }
+    {
+        HostSystem {
+            path: String::new(rt.alloc()),
+            rt,
+            lock: None,
+            streams: [None, None, None],
+            is_synced: false,
+            log: Record::new(),
+            start: PhantomData,
+        }
+    }
+
+    // A path that ends in a slash opens a folder or nothing: a pipe would wait for its writer.
+    fn open_folder(&self, path: &str) -> Result<Option<R::File>, AllocError> {
+        let path = Path::new(path).join(self.rt.alloc(), "")?;
+        Ok(File::open(&self.rt, path.as_path()).ok())
+    }
+
+    // The names of the entries of the folder.
+    fn entries(&self) -> io::Result<Vec<String>> {
+        let mut names = Vec::new(self.rt.alloc());
+        for entry in fs::read_dir(&self.rt, self.path.as_str())? {
+            names.push(String::from_str(self.rt.alloc(), entry?.file_name())?)?;
+        }
+        Ok(names)
+    }
+
+    fn note_entries(&mut self, names: &[String])
+        ensures { self.new.log.events
+            ≡ Listed ∷ with_entries (map string_bytes names.now) self.old.log.events }
+    {
+        for name in names {
+            self.log.note(Call::Entry, name.as_bytes(), &[]);
+        }
+        self.log.note(Call::Listed, &[], &[]);
+    }
+
+    fn found(&self, name: &FileName) -> io::Result<Found> {
+        let metadata = fs::metadata(&self.rt, self.path_of(name)?)?;
+        Ok(Found {
+            node: Node::new(metadata.dev(), metadata.ino()),
+            is_plain: metadata.is_file(),
+        })
+    }
+
+    // The file of a name. What is no plain file isn't opened: a pipe would wait for its other end.
+    fn find(&self, name: &FileName) -> io::Result<Reached<R::File>> {
+        let path = self.path_of(name)?;
+        let path = path.as_path();
+        let entry = fs::symlink_metadata(&self.rt, path)?;
+        let is_own = entry.is_file();
+        let metadata = if is_own {
+            entry
+        } else {
+            fs::metadata(&self.rt, path)?
+        };
+        if !metadata.is_file() {
+            return Err(Error::from(ErrorKind::Unsupported));
+        }
+        let file = self.open_file(path)?;
+        if is_journal(name) && is_shared(&metadata) {
+            self.access_to_journal()?.limit(&file, &file.metadata()?);
+        }
+        Ok(Reached {
+            file,
+            is_own,
+            seen: Seen::of(&metadata),
+        })
+    }
+
+    // A file that may not be written is opened for reading alone: writes to it fail then.
+    fn open_file(&self, path: Path<'_>) -> io::Result<R::File> {
+        match File::options().read(true).write(true).open(&self.rt, path) {
+            Err(error) if is_refused(error.kind()) => File::open(&self.rt, path),
+            found => found,
+        }
+    }
+
+    fn made(&self, name: &FileName) -> Result<Opened<R::File>, DiskFault>
+        ensures name { IfOk result (λ opened. opened.name ≡ name.now) }
+        ensures entry { IfOk result (λ opened. IsFalse opened.is_entered) }
+    {
+        let file = answered(self.find_or_make(name))?;
+        Opened::new(name, file)
+    }
+
+    // A link that leads nowhere is followed: the file is made where it leads.
+    fn find_or_make(&self, name: &FileName) -> io::Result<Reached<R::File>> {
+        let path = self.path_of(name)?;
+        let access = self.access_to(name)?;
+        let mut options = File::options();
+        options.read(true).write(true).create(true);
+        if access.is_some() {
+            options.mode(OWNER);
+        }
+        let file = options.open(&self.rt, path.as_path())?;
+        let metadata = file.metadata()?;
+        only_empty(&metadata)?;
+        if let Some(access) = access {
+            access.give(&file, &metadata);
+        }
+        Ok(Reached {
+            file,
+            is_own: false,
+            seen: Seen::of(&metadata),
+        })
+    }
+
+    // Who may use a file of this name, once it is made. None leaves that to the user's own setting.
+    fn access_to(&self, name: &FileName) -> io::Result<Option<Access>> {
+        if is_journal(name) {
+            return Ok(Some(self.access_to_journal()?));
+        }
+        let Some(org_file) = name.as_str().strip_suffix("_archive") else {
+            return Ok(None);
+        };
+        let path = Path::new(self.path.as_str()).join(self.rt.alloc(), org_file)?;
+        match fs::metadata(&self.rt, path.as_path()) {
+            Ok(metadata) => Ok(Some(Access::to_archive(&metadata))),
+            Err(_) => Ok(None),
+        }
+    }
+
+    fn access_to_journal(&self) -> io::Result<Access> {
+        let folder = fs::metadata(&self.rt, Path::new(self.path.as_str()))?;
+        Ok(Access::to_journal(&folder))
+    }
+
+    fn sync_folder_of(&self, name: &FileName) -> io::Result<()> {
+        let path = fs::canonicalize(&self.rt, self.path_of(name)?)?;
+        let Some(folder) = path.parent() else {
+            return Err(Error::from(ErrorKind::NotFound));
+        };
+        File::open(&self.rt, folder)?.sync_all()
+    }
+
+    // A file that may be written, and to which its name leads; it is as the calls so far left it.
+    fn try_file(&self, opened: &Opened<R::File>) -> io::Result<()> {
+        opened.file.write_at(&[], 0)?;
+        let path = self.path_of(&opened.name)?;
+        let now = Seen::of(&fs::metadata(&self.rt, path.as_path())?);
+        if opened.seen.get().is_still(&now) {
+            Ok(())
+        } else {
+            Err(Error::from(ErrorKind::Other))
+        }
+    }
+
+    // Notes a call that was made on the file of this name, which read or wrote these bytes.
+    pub(crate) fn note(&mut self, call: Call, name: &FileName, bytes: &[u8])
+        ensures { self.new.log.events ≡ event_of call name.now bytes.now ∷ self.old.log.events }
+    {
+        self.log.note(call, name.as_str().as_bytes(), bytes);
+    }
+
+    fn path_of(&self, name: &FileName) -> Result<PathBuf, AllocError>
+        ensures { IfOk result (λ path. path_buf_bytes path
+            ≡ path_join (string_bytes self.now.path) name.now) }
+    {
+        Path::new(self.path.as_str()).join(self.rt.alloc(), name.as_str())
+    }
+}
+
+// The journal's is the one name on a disk that no text makes.
+fn is_journal(name: &FileName) -> bool {
+    !FileName::accepts(name.as_str())
+}
+
+// A file that was found absent. One that has bytes by now was made by another name or another
+// program since: it isn't written over.
+fn only_empty(metadata: &Metadata) -> io::Result<()> {
+    if metadata.len() > 0 {
+        return Err(Error::from(ErrorKind::AlreadyExists));
+    }
+    Ok(())
+}
+
+fn write_all<F: OpenFile + FileExt>(opened: &Opened<F>, from: u64, bytes: &[u8]) -> io::Result<()> {
+    opened.file.write_all_at(bytes, from)?;
+    opened.seen.set(opened.seen.get().written());
+    Ok(())
+}
+
+fn cut_off<F: OpenFile>(opened: &Opened<F>, to: u64) -> io::Result<()> {
+    opened.file.set_len(to)?;
+    measured(opened)?;
+    Ok(())
+}
+
+// The length of a file; what the system says of it is kept for the next try.
+fn measured<F: OpenFile>(opened: &Opened<F>) -> io::Result<u64> {
+    let metadata = opened.file.metadata()?;
+    opened.seen.set(Seen::of(&metadata));
+    Ok(metadata.len())
+}
+
+fn is_refused(kind: ErrorKind) -> bool {
+    kind == ErrorKind::PermissionDenied || kind == ErrorKind::ReadOnlyFilesystem
+}
+
+// A fault says no more than that the call failed.
+fn answered<T: Drop>(answer: io::Result<T>) -> Result<T, DiskFault> {
+    match answer {
+        Ok(value) => Ok(value),
+        Err(_) => Err(DiskFault),
+    }
+}
+
+impl<R: Files + AllocGlobal + Clone + Drop, S: Start> System for HostSystem<R, S>
+where
+    R::File: FileExt + Locks,
+{
+    type File = R::File;
+
+    ghost world = { S.world };
+
+    ghost history = { λ calls. calls.log.events };
+
+    fn fill_streams(&mut self, path: &str) -> Result<(), AllocError> {
+        self.streams = [
+            self.open_folder(path)?,
+            self.open_folder(path)?,
+            self.open_folder(path)?,
+        ];
+        self.log.note(Call::Filled, path.as_bytes(), &[]);
+        Ok(())
+    }
+
+    fn lock(&mut self, path: &str) -> Result<(), LockFault> {
+        self.path = String::from_str(self.rt.alloc(), path)?;
+        self.lock = match self.open_folder(path)? {
+            Some(folder) => {
+                let tried = folder.try_lock();
+                held(folder, tried)?
+            }
+            None => None,
+        };
+        self.log.note(Call::Locked, path.as_bytes(), &[]);
+        Ok(())
+    }
+
+    fn list(&mut self) -> Result<Vec<String>, ListFault> {
+        let names = self.entries()?;
+        self.note_entries(&names);
+        Ok(names)
+    }
+
+    fn look(&mut self, name: &FileName) -> Result<Option<Found>, ListFault> {
+        match self.found(name) {
+            Ok(found) => {
+                let call = Call::There(found.node.device(), found.node.number(), found.is_plain);
+                self.note(call, name, &[]);
+                Ok(Some(found))
+            }
+            Err(error) if error.kind() == ErrorKind::NotFound => {
+                self.note(Call::Absent, name, &[]);
+                Ok(None)
+            }
+            Err(error) => {
+                self.note(Call::Unseen, name, &[]);
+                Err(ListFault::from(error))
+            }
+        }
+    }
+
+    fn open(&mut self, name: &FileName) -> Result<Option<Opened<R::File>>, DiskFault> {
+        match self.find(name) {
+            Ok(file) => Ok(Some(Opened::new(name, file)?)),
+            Err(error) if error.kind() == ErrorKind::NotFound => {
+                self.note(Call::Absent, name, &[]);
+                Ok(None)
+            }
+            Err(_) => Err(DiskFault),
+        }
+    }
+
+    fn make(&mut self, name: &FileName) -> Result<Opened<R::File>, DiskFault> {
+        self.is_synced = false;
+        let answer = self.made(name);
+        self.note(Call::Made(answer.is_ok()), name, &[]);
+        answer
+    }
+
+    fn length(&mut self, opened: &Opened<R::File>) -> Result<u64, DiskFault> {
+        let length = answered(measured(opened))?;
+        self.note(Call::Length(length), &opened.name, &[]);
+        Ok(length)
+    }
+
+    fn read_at(
+        &mut self,
+        opened: &Opened<R::File>,
+        from: u64,
+        into: &mut [u8],
+    ) -> Result<(), DiskFault> {
+        answered(opened.file.read_exact_at(into, from))?;
+        self.note(Call::Read(from), &opened.name, into);
+        Ok(())
+    }
+
+    fn write_at(
+        &mut self,
+        opened: &Opened<R::File>,
+        from: u64,
+        bytes: &[u8],
+    ) -> Result<(), DiskFault> {
+        let answer = answered(if bytes.is_empty() {
+            self.try_file(opened)
+        } else {
+            write_all(opened, from, bytes)
+        });
+        self.note(Call::Write(from, answer.is_ok()), &opened.name, bytes);
+        answer
+    }
+
+    fn cut(&mut self, opened: &Opened<R::File>, to: u64) -> Result<(), DiskFault> {
+        let answer = answered(cut_off(opened, to));
+        self.note(Call::Cut(to, answer.is_ok()), &opened.name, &[]);
+        answer
+    }
+
+    fn sync(&mut self, opened: &Opened<R::File>) -> Result<(), DiskFault> {
+        let answer = answered(opened.file.sync_data());
+        self.note(Call::Sync(answer.is_ok()), &opened.name, &[]);
+        answer
+    }
+
+    // A file that was found in the folder itself was there when the folder was synced: nobody else
+    // makes any.
+    fn sync_entry(&mut self, opened: &mut Opened<R::File>) -> Result<(), DiskFault> {
+        let answer = if opened.is_own && self.is_synced {
+            Ok(())
+        } else {
+            answered(self.sync_folder_of(&opened.name))
+        };
+        self.note(Call::Entered(answer.is_ok()), &opened.name, &[]);
+        answer?;
+        self.is_synced = self.is_synced || opened.is_own;
+        opened.is_entered = true;
+        Ok(())
+    }
+}

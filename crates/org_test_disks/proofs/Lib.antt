@@ -1,0 +1,6 @@
+mod Calls
+mod ImageSoFar
+mod Keeping
+mod Outcomes
+mod Overwriting
+mod Fuses

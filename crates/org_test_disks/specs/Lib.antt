@@ -1,0 +1,4 @@
+pub mod Fuse
+pub mod Memory
+pub mod Record
+pub mod RecordLaws
