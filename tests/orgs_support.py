@@ -9,6 +9,7 @@ import tempfile
 
 TOP = os.path.dirname(os.path.dirname(os.path.abspath(__file__)))
 ORGS = os.path.join(TOP, "clients", "shell", "orgs")
+PYTHON = [sys.executable, "-ISXutf8"]  # as the first line of `orgs` has it
 AT = ["--at", "2026-07-01 10:00"]
 CLEAN = {name: value for name, value in os.environ.items() if not name.startswith("ORGSTORE_")}
 ENVIRONMENT = {**CLEAN, "LC_ALL": "C.UTF-8", "TERM": "dumb", "PYTHONDONTWRITEBYTECODE": "1"}
@@ -68,7 +69,7 @@ class Ended:
 
 def orgs(folder, *words, given=b"", more=None, cwd=None):
     """A run of orgs on a folder."""
-    ended = subprocess.run([sys.executable, ORGS, *(["-C", folder] if folder else []), *words], input=given,
+    ended = subprocess.run([*PYTHON, ORGS, *(["-C", folder] if folder else []), *words], input=given,
                            capture_output=True, timeout=120, env={**ENVIRONMENT, **(more or {})}, cwd=cwd)
     return Ended(ended.returncode, ended.stdout.decode("utf-8", "surrogateescape"),
                  ended.stderr.decode("utf-8", "surrogateescape"))

@@ -31,26 +31,61 @@ import sys
 if sys.version_info < (3, 9):
     raise ImportError("orgstore needs Python 3.9 or newer; this is %d.%d" % sys.version_info[:2])
 
-from .commands import Archive, Capture, CaptureTemplate, ClockIn, ClockOut, Command, Done, Edit, Refile, Todo
-from .errors import (AlreadyArchive, BadEntry, BadLine, BadLocation, BadRepeat, BadTemplate, CannotOpen, CannotRead,
-                     CannotWrite, Changed, ClockBackwards, Closed, DateRange, Died, Error, Fault, InsideItself, Locked,
-                     Misused, NoClock, NoProgram, NoSuchFile, NotFound, NotThere, NotUnique, OddPlanning, Refused,
-                     TimedOut, TooLarge, UnknownState)
-from .heading import Heading, States, headings, lookup
-from .lines import Moment, Nth, Order, Path, Text, titles
-from .process import program
-from .store import Store, many
-from .targets import Date, Head, Target, Top, Under
-from .version import version
+from .light import TYPE_CHECKING
+
+if TYPE_CHECKING:
+    from .commands import (Archive, Capture, CaptureTemplate, ClockIn, ClockOut, Command, Done, Edit, Refile, Todo)
+    from .errors import (AlreadyArchive, BadEntry, BadLine, BadLocation, BadRepeat, BadTemplate, CannotOpen, CannotRead,
+                         CannotWrite, Changed, ClockBackwards, Closed, DateRange, Died, Error, Fault, InsideItself,
+                         Locked, Misused, NoClock, NoProgram, NoSuchFile, NotFound, NotThere, NotUnique, OddPlanning,
+                         Refused, TimedOut, TooLarge, UnknownState)
+    from .heading import Heading, headings, lookup
+    from .keywords import States
+    from .kinds import Cause, Moment, Order, Path, Target, Text
+    from .lines import Nth, titles
+    from .process import program
+    from .store import Store, many
+    from .targets import Date, Head, Top, Under
+
+    __version__: str
 
 __all__ = [
     "AlreadyArchive", "Archive", "BadEntry", "BadLine", "BadLocation", "BadRepeat", "BadTemplate", "CannotOpen",
-    "CannotRead", "CannotWrite", "Capture", "CaptureTemplate", "Changed", "ClockBackwards", "ClockIn", "ClockOut",
-    "Closed", "Command", "Date", "DateRange", "Died", "Done", "Edit", "Error", "Fault", "Head", "Heading",
+    "CannotRead", "CannotWrite", "Capture", "CaptureTemplate", "Cause", "Changed", "ClockBackwards", "ClockIn",
+    "ClockOut", "Closed", "Command", "Date", "DateRange", "Died", "Done", "Edit", "Error", "Fault", "Head", "Heading",
     "InsideItself", "Locked", "Misused", "Moment", "NoClock", "NoProgram", "NoSuchFile", "NotFound", "NotThere",
     "NotUnique", "Nth", "OddPlanning", "Order", "Path", "Refile", "Refused", "States", "Store", "Target", "Text",
     "TimedOut", "Todo", "TooLarge", "Top", "Under", "UnknownState", "headings", "lookup", "many", "program",
     "titles",
 ]
 
-__version__ = version()
+# where each name is: a module is loaded when one of its names is asked for, since `orgs` needs few of them
+_MODULES = {
+    "commands": ("Archive", "Capture", "CaptureTemplate", "ClockIn", "ClockOut", "Command", "Done", "Edit", "Refile",
+                 "Todo"),
+    "heading": ("Heading", "headings", "lookup"),
+    "keywords": ("States",),
+    "kinds": ("Cause", "Moment", "Order", "Path", "Target", "Text"),
+    "lines": ("Nth", "titles"),
+    "process": ("program",),
+    "store": ("Store", "many"),
+    "targets": ("Date", "Head", "Top", "Under"),
+}
+
+
+def __getattr__(name: str) -> object:
+    if name not in __all__ and name != "__version__":
+        raise AttributeError("module %r has no attribute %r" % (__name__, name))
+    from importlib import import_module
+
+    if name == "__version__":
+        found: object = import_module(".version", __name__).version()
+    else:
+        module = next((module for module, names in _MODULES.items() if name in names), "errors")
+        found = getattr(import_module("." + module, __name__), name)
+    globals()[name] = found
+    return found
+
+
+def __dir__() -> "list[str]":
+    return sorted({*globals(), *__all__, "__version__"})

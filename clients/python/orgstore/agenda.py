@@ -17,24 +17,26 @@ begin with COMMENT, are passed over with what is below them. Diary expressions (
 from __future__ import annotations
 
 import datetime
-from dataclasses import dataclass
-from typing import Any, Dict, Iterable, Iterator, List, Literal, Optional, Tuple
 
 from .entry import Entry
+from .light import TYPE_CHECKING, record
 from .stamps import Stamp
 
-__all__ = ["Item", "Kind", "WARNING_DAYS", "agenda", "overdue"]
+if TYPE_CHECKING:
+    from typing import Any, Dict, Iterable, Iterator, List, Literal, Optional, Tuple
+
+    Kind = Literal["deadline", "upcoming", "overdue", "scheduled", "late", "timestamp", "range"]
+    """Why an entry stands on a day. Only today has `upcoming` and `overdue` deadlines, and what is `late`: scheduled
+    before, and not done."""
+
+    Range = Tuple[datetime.date, datetime.date]
+
+__all__ = ["Item", "WARNING_DAYS", "agenda", "overdue"]
 
 WARNING_DAYS = 14
 
-Kind = Literal["deadline", "upcoming", "overdue", "scheduled", "late", "timestamp", "range"]
-"""Why an entry stands on a day. Only today has `upcoming` and `overdue` deadlines, and what is `late`: scheduled
-before, and not done."""
 
-Range = Tuple[datetime.date, datetime.date]
-
-
-@dataclass(frozen=True)
+@record(frozen=True)
 class Item:
     """An entry on a day of the agenda.
 

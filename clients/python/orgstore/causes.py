@@ -4,19 +4,22 @@ from __future__ import annotations
 import errno
 import os
 import stat
-from dataclasses import dataclass
-from typing import Iterable, List, Optional
 
-from .errors import Cause
-from .journal import JOURNAL, unfinished
+from .journal import unfinished
 from .lines import as_bytes, as_string
-from .names import ARCHIVE, is_file_name, own_name
+from .light import TYPE_CHECKING, record
+from .names import ARCHIVE, JOURNAL, is_file_name, own_name
+
+if TYPE_CHECKING:
+    from typing import Iterable, List, Optional
+
+    from .kinds import Cause
 
 # Less room than this may be too little: a commit writes its record first, in whole blocks, and then the files.
 _ROOM = 65_536
 
 
-@dataclass(frozen=True)
+@record(frozen=True)
 class Why:
     """Why something fails: a word, the name of the file that it is about, and a sentence that says what to do."""
 

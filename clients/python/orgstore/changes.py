@@ -15,59 +15,29 @@ from __future__ import annotations
 
 import datetime
 import re
-from dataclasses import dataclass, replace
-from typing import Any, Dict, List, Literal, Optional, Sequence, Set, Tuple
 
 from . import stamps
-from .commands import Edit
+from .commands import Change
 from .entry import PLANNED, Entry
 from .heading import headings
+from .light import TYPE_CHECKING
 from .lines import as_bytes, as_string
 from .phrases import short
 from .section import BLANKS, planning, properties
 from .stamps import Stamp
 
+if TYPE_CHECKING:
+    from typing import Any, Dict, List, Literal, Optional, Sequence, Set, Tuple
+
+    Planning = Literal["SCHEDULED", "DEADLINE"]
+
 __all__ = ["Change", "deleted", "noted", "planned", "prioritised", "renamed", "replaced", "tagged", "with_property",
            "without_property"]
 
-Planning = Literal["SCHEDULED", "DEADLINE"]
 
 _HEADING = re.compile(rb"(?P<stars>\*+)(?P<gap>[ \t]+)(?P<rest>[^\n]*?)(?P<blanks>[ \t\r]*)(?P<newline>\n|\Z)")
 _TAG = re.compile(r"[A-Za-z0-9_@#%\x80-\U0010ffff\udc80-\udcff]+")
-# An edit has its bytes twice, and each may count twice, in a line of at most 1 MiB.
-_PIECE = 200_000
 _NAME = re.compile(r"[^\s:](?:[^\s]*[^\s:])?")
-
-
-@dataclass(frozen=True)
-class Change:
-    """The bytes `old` at a position of a file, and the bytes that are to stand there instead."""
-
-    file: str
-    at: int
-    old: bytes
-    new: bytes
-
-    def applied(self, text: bytes) -> bytes:
-        """The text with the change. Raises `ValueError` where `old` doesn't stand there."""
-        if text[self.at:self.at + len(self.old)] != self.old or self.at > len(text):
-            raise ValueError("the bytes have changed")
-        return text[:self.at] + self.new + text[self.at + len(self.old):]
-
-    @property
-    def reverse(self) -> Change:
-        """The change that takes this one back."""
-        return replace(self, old=self.new, new=self.old)
-
-    def edits(self) -> List[Edit]:
-        """The commands that make it, one or, where the bytes are many, several after each other."""
-        commands: List[Edit] = []
-        at = self.at
-        for begin in range(0, max(len(self.old), len(self.new), 1), _PIECE):
-            old, new = self.old[begin:begin + _PIECE], self.new[begin:begin + _PIECE]
-            commands.append(Edit(self.file, at, old, new))
-            at += len(new)
-        return commands
 
 
 def _change(entry: Entry, at: int, old: bytes, new: bytes) -> Change:

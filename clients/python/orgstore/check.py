@@ -15,9 +15,8 @@ from typing import Iterator, List, Literal, Optional, Sequence
 
 from . import stamps
 from .entry import Entry
-from .heading import States
+from .keywords import States, state_lines
 from .lines import Nth, as_string, path_text
-from .outline import TODO_LINE
 from .phrases import short
 from .section import BLANKS, planning, properties
 
@@ -52,11 +51,10 @@ def check(entries: Sequence[Entry], now: Optional[datetime.datetime] = None) -> 
 
 def check_states(file: str, text: bytes) -> Iterator[Finding]:
     """The `#+TODO:` lines of a file that the store can't take."""
-    for found in TODO_LINE.finditer(text):
+    for line, words in state_lines(text):
         try:
-            States.parse(as_string(found[1]))
+            States.parse(words)
         except ValueError as fault:
-            line = text.count(b"\n", 0, found.start()) + 1
             yield Finding(file, line, "states", "the folder's states hold in this file: %s" % fault)
 
 

@@ -3,15 +3,17 @@ from __future__ import annotations
 
 import collections
 import datetime
-from dataclasses import dataclass
-from typing import Dict, Iterable, Iterator, List, Tuple
 
 from .entry import Clocked, Entry
+from .light import TYPE_CHECKING, record
+
+if TYPE_CHECKING:
+    from typing import Dict, Iterable, Iterator, List, Tuple
 
 __all__ = ["Share", "by_day", "by_heading", "shares"]
 
 
-@dataclass(frozen=True)
+@record(frozen=True)
 class Share:
     """The minutes of one clock line on one day; `runs` says that the clock runs."""
 

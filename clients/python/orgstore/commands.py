@@ -1,16 +1,22 @@
 """The commands of a store, and the answers to them."""
 from __future__ import annotations
 
-from dataclasses import dataclass
-from typing import List, Optional, Tuple
-
 from .errors import (REFUSALS, BadEntry, BadLine, BadRepeat, BadTemplate, DateRange, InsideItself, NoSuchFile, NotFound,
                      NotUnique, OddPlanning, Refused, UnknownState)
-from .lines import Moment, Order, Path, Text, as_bytes, field_of, line_of, moment_field, path_field, place_field, titles
+from .light import TYPE_CHECKING, record
+from .lines import as_bytes, field_of, line_of, moment_field, path_field, place_field, titles
 from .names import name_fault
-from .phrases import short_path
-from .refusals import ADVICE, Files, entry_fault, no_file, template_fault
-from .targets import Date, Target, Top, Under
+from .targets import Date, Top, Under
+
+if TYPE_CHECKING:
+    from typing import List, Optional, Tuple
+
+    from .kinds import Moment, Order, Path, Target, Text
+    from .refusals import Files
+
+
+# An edit has its bytes twice, and each may count twice, in a line of at most 1 MiB.
+_PIECE = 200_000
 
 
 class Command:
@@ -38,7 +44,7 @@ class Command:
         return None
 
 
-@dataclass(frozen=True)
+@record(frozen=True)
 class Capture(Command):
     r"""Puts in an entry, from its stars on. Its text is taken as it is, whatever percent signs it has.
 
@@ -62,10 +68,14 @@ class Capture(Command):
         return [(self.file, self.to)]
 
     def _why(self, code: int, files: Files) -> Optional[str]:
-        return "the text isn't one entry: " + entry_fault(as_bytes(self.text)) if code == BadEntry.code else None
+        if code != BadEntry.code:
+            return None
+        from .refusals import entry_fault  # refusals are rare, here and below
+
+        return "the text isn't one entry: " + entry_fault(as_bytes(self.text))
 
 
-@dataclass(frozen=True)
+@record(frozen=True)
 class CaptureTemplate(Command):
     """Puts in the entry that a template makes, in which `%t %T %u %U` are the moment, `%i` the initial text, and `%?`
     is nothing."""
@@ -85,10 +95,14 @@ class CaptureTemplate(Command):
         return [(self.file, self.to)]
 
     def _why(self, code: int, files: Files) -> Optional[str]:
-        return template_fault(as_bytes(self.template)) if code == BadTemplate.code else None
+        if code != BadTemplate.code:
+            return None
+        from .refusals import template_fault
+
+        return template_fault(as_bytes(self.template))
 
 
-@dataclass(frozen=True)
+@record(frozen=True)
 class Edit(Command):
     r"""Puts `new` in the place of the bytes `old`, which must stand at a position of a file, in bytes from 0 on.
     Nothing else of the file changes, and nothing is read into the bytes.
@@ -109,7 +123,38 @@ class Edit(Command):
         return [(self.file, None)]
 
 
-@dataclass(frozen=True)
+@record(frozen=True)
+class Change:
+    """The bytes `old` at a position of a file, and the bytes that are to stand there instead."""
+
+    file: str
+    at: int
+    old: bytes
+    new: bytes
+
+    def applied(self, text: bytes) -> bytes:
+        """The text with the change. Raises `ValueError` where `old` doesn't stand there."""
+        if text[self.at:self.at + len(self.old)] != self.old or self.at > len(text):
+            raise ValueError("the bytes have changed")
+        return text[:self.at] + self.new + text[self.at + len(self.old):]
+
+    @property
+    def reverse(self) -> Change:
+        """The change that takes this one back."""
+        return Change(self.file, self.at, self.new, self.old)
+
+    def edits(self) -> List[Edit]:
+        """The commands that make it, one or, where the bytes are many, several after each other."""
+        commands: List[Edit] = []
+        at = self.at
+        for begin in range(0, max(len(self.old), len(self.new), 1), _PIECE):
+            old, new = self.old[begin:begin + _PIECE], self.new[begin:begin + _PIECE]
+            commands.append(Edit(self.file, at, old, new))
+            at += len(new)
+        return commands
+
+
+@record(frozen=True)
 class _AtHeading(Command):
     """A command on the heading at a path of a file."""
 
@@ -120,7 +165,7 @@ class _AtHeading(Command):
         return [(self.file, Under(self.path))]
 
 
-@dataclass(frozen=True)
+@record(frozen=True)
 class Refile(_AtHeading):
     """Moves the subtree at a path below another heading."""
 
@@ -136,7 +181,7 @@ class Refile(_AtHeading):
         return [(self.file, Under(self.path)), (self.to_file, Under(self.to_path))]
 
 
-@dataclass(frozen=True)
+@record(frozen=True)
 class Archive(_AtHeading):
     """Moves the subtree at a path to its archive."""
 
@@ -156,7 +201,7 @@ class Archive(_AtHeading):
         return "its archive location names %s: mend its ARCHIVE property, or the file's #+ARCHIVE: line" % named
 
 
-@dataclass(frozen=True)
+@record(frozen=True)
 class Todo(_AtHeading):
     """Changes the state of a heading; an empty one, or None, is none."""
 
@@ -172,11 +217,13 @@ class Todo(_AtHeading):
             sentence = "'%s' isn't one of the states %s: choose one, or open the store with others"
             return sentence % (self.state, files.states)
         if code in (OddPlanning.code, BadRepeat.code, DateRange.code):
+            from .refusals import ADVICE
+
             return ADVICE[code] + files.planning(self.file, self.path)
         return None
 
 
-@dataclass(frozen=True)
+@record(frozen=True)
 class ClockIn(_AtHeading):
     """Starts the clock at a heading, and stops one that runs elsewhere."""
 
@@ -188,7 +235,7 @@ class ClockIn(_AtHeading):
         return line_of(b"clock-in", field_of(self.file), path_field(self.path), moment_field(self.moment))
 
 
-@dataclass(frozen=True)
+@record(frozen=True)
 class ClockOut(Command):
     """Stops the clock."""
 
@@ -200,7 +247,7 @@ class ClockOut(Command):
         return line_of(b"clock-out", moment_field(self.moment))
 
 
-@dataclass(frozen=True)
+@record(frozen=True)
 class Time(_AtHeading):
     """Asks for the time that was clocked at a heading and below it."""
 
@@ -210,7 +257,7 @@ class Time(_AtHeading):
         return line_of(b"time", field_of(self.file), path_field(self.path))
 
 
-@dataclass(frozen=True)
+@record(frozen=True)
 class Show(Command):
     """Asks for the bytes of a file."""
 
@@ -225,7 +272,7 @@ class Show(Command):
         return [(self.file, None)]
 
 
-@dataclass(frozen=True)
+@record(frozen=True)
 class Settle(Command):
     """Puts pending commands on the disk."""
 
@@ -235,7 +282,7 @@ class Settle(Command):
         return line_of(b"settle")
 
 
-@dataclass(frozen=True)
+@record(frozen=True)
 class Done:
     """A command was accepted, the `accepted`-th of this store. `safe` says how many are on the disk, where that has
     risen with it; it is None where the command waits for others of its group."""
@@ -255,6 +302,8 @@ def _of_place(command: Command, code: int, files: Files) -> Optional[Refused]:
 
 def _of_command(command: Command, code: int, files: Files) -> str:
     """What is said of a refusal that isn't of a place, or whose place can't be looked into."""
+    from .refusals import ADVICE, no_file
+
     said = command._why(code, files)
     if said:
         return said
@@ -276,6 +325,8 @@ def refusal(reply: bytes, command: Command, files: Files) -> Refused:
         return found
     file, target = (command.places() or [("", None)])[0]
     path = titles(target.path) if isinstance(target, (Under, Date)) else ()
+    from .phrases import short_path
+
     place = [file] if file else []
     if path:
         place.append(short_path(path))

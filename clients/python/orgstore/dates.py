@@ -8,10 +8,12 @@ from __future__ import annotations
 
 import datetime
 import re
-from dataclasses import dataclass
-from typing import Callable, List, Optional, Tuple
 
+from .light import TYPE_CHECKING, record
 from .stamps import COOKIE, Stamp, moved
+
+if TYPE_CHECKING:
+    from typing import Callable, List, Optional, Tuple
 
 __all__ = ["When", "read", "read_moment", "read_stamp"]
 
@@ -22,7 +24,7 @@ _WEEKDAY = "|".join("%s|%s" % (name, name[:3]) for name in WEEKDAYS)
 _MONTH = "|".join("%s|%s" % (name, name[:3]) for name in MONTHS)
 
 
-@dataclass(frozen=True)
+@record(frozen=True)
 class When:
     """A day, and a time or two of it where they were named."""
 
@@ -31,7 +33,7 @@ class When:
     end: Optional[datetime.time] = None
 
 
-@dataclass(frozen=True)
+@record(frozen=True)
 class _Asked:
     """What dates are counted from: the moment it is, and the day that was there before."""
 

@@ -11,19 +11,22 @@ Everything is read when it is asked for, from the bytes of the file; positions c
 """
 from __future__ import annotations
 
-import datetime
-import functools
 import itertools
 import re
-from dataclasses import dataclass
-from typing import TYPE_CHECKING, Any, Dict, Iterator, List, Optional, Tuple
 
-from .heading import Heading, States, headings
-from .lines import Step, as_string, path_text
+from .heading import headings
+from .light import TYPE_CHECKING, cached, record
+from .lines import as_string, path_text
 from .outline import Outline
 from .section import BLANKS, planning, properties
 
 if TYPE_CHECKING:
+    import datetime
+    from typing import Any, Dict, Iterator, List, Optional, Tuple
+
+    from .heading import Heading
+    from .keywords import States
+    from .kinds import Step
     from .stamps import Stamp
 
 __all__ = ["Clocked", "Entry", "entries"]
@@ -37,7 +40,7 @@ _OPAQUE = rb"[ \t]*(?:#(?:[ \t]|$|\+\w+:)|:(?:[ \t]|$))"
 _BLOCK = rb"(?i)[ \t]*#\+BEGIN_(SRC|EXAMPLE|EXPORT|COMMENT)\b"
 
 
-@dataclass(frozen=True)
+@record(frozen=True)
 class Clocked:
     """A clock line: when it began, when it ended (or None, where it runs), and its line in the file."""
 
@@ -51,7 +54,7 @@ class Clocked:
         return int((end - self.begin).total_seconds()) // 60
 
 
-@dataclass(frozen=True)
+@record(frozen=True)
 class Entry:
     """A heading of a file, with what belongs to it alone: the lines up to the next heading."""
 
@@ -80,24 +83,24 @@ class Entry:
             return self.heading.steps
         return headings(self.outline.text, states)[self.number].steps
 
-    @functools.cached_property
+    @cached
     def lines(self) -> List[bytes]:
         """The lines below its heading line, up to the next heading."""
         return self.outline.section(self.number)
 
-    @functools.cached_property
+    @cached
     def end(self) -> int:
         """Where its lines end, and the next heading begins."""
         below = self.outline.headings[self.number + 1:self.number + 2]
         return below[0].start if below else len(self.outline.text)
 
-    @functools.cached_property
+    @cached
     def section_start(self) -> int:
         """Where the line below its heading line begins, or the file ends."""
         newline = self.outline.text.find(b"\n", self.heading.start)
         return len(self.outline.text) if newline < 0 else newline + 1
 
-    @functools.cached_property
+    @cached
     def planned(self) -> Dict[str, Stamp]:
         """The stamps of its planning line by their words, the first of each; what can't be read is left out."""
         line = planning(self.lines)
@@ -127,7 +130,7 @@ class Entry:
         """The stamp behind `CLOSED:`."""
         return self.planned.get("CLOSED")
 
-    @functools.cached_property
+    @cached
     def properties(self) -> Dict[str, str]:
         """Its properties, with their names in capitals."""
         return {as_string(name): as_string(value) for name, value in properties(self.lines).items()}
@@ -137,7 +140,7 @@ class Entry:
         """Its property ID."""
         return self.properties.get("ID")
 
-    @functools.cached_property
+    @cached
     def body_start(self) -> int:
         """Where its text begins: behind the planning line and the property drawer."""
         lines = self.lines
@@ -150,26 +153,26 @@ class Entry:
     def _drawer_is_empty(self, at: int) -> bool:
         return [line.strip(BLANKS).upper() for line in self.lines[at:at + 2]] == [b":PROPERTIES:", b":END:"]
 
-    @functools.cached_property
+    @cached
     def body(self) -> str:
         """Its text, without the planning line and the property drawer."""
         return as_string(self.outline.text[self.body_start:self.end])
 
-    @functools.cached_property
+    @cached
     def inherited(self) -> Tuple[str, ...]:
         """The tags that it has from its file and from the headings above it, each once."""
         above = reversed(self.outline.with_ancestors(self.number)[1:])
         tags = itertools.chain(file_tags(self.outline.text), *(self.outline.headings[at].tags for at in above))
         return tuple(dict.fromkeys(tag for tag in tags if tag not in self.heading.tags))
 
-    @functools.cached_property
+    @cached
     def hidden(self) -> bool:
         """Whether an agenda passes over it: it, or a heading above it, has the tag ARCHIVE or begins with COMMENT."""
         above = (self.outline.headings[at] for at in self.outline.with_ancestors(self.number))
         commented = any(heading.title == "COMMENT" or heading.title.startswith("COMMENT ") for heading in above)
         return commented or "ARCHIVE" in self.heading.tags + self.inherited
 
-    @functools.cached_property
+    @cached
     def clocks(self) -> List[Clocked]:
         """Its clock lines, the running ones too."""
         first = self.heading.line + 1

@@ -1,16 +1,13 @@
 """What the package raises: faults of the machine, of the folder and of other programs, and the program's refusals."""
 from __future__ import annotations
 
-from typing import TYPE_CHECKING, Any, Dict, List, Literal, Optional, Sequence, Tuple, Type
+from .light import TYPE_CHECKING
 
 if TYPE_CHECKING:
-    from .heading import Heading
+    from typing import Any, Dict, List, Optional, Sequence, Tuple, Type
 
-Cause = Literal["no-folder", "permission", "name", "link", "kind", "full", "read-only", "device", ""]
-"""Why the machine failed, as far as the folder tells it: there is no such folder; a file or the folder may not be read
-or written; an entry's name isn't UTF-8; a link leads in a circle or nowhere, or gives a file a second name; what has a
-file's name is none; the disk is full; it is mounted read-only; a call of the disk failed, and nothing of that is seen.
-It is empty where nothing was looked for."""
+    from .heading import Heading
+    from .kinds import Cause
 
 
 class Error(Exception):

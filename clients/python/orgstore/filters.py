@@ -1,15 +1,17 @@
 """Which entries of a list are wanted, and in which order."""
 from __future__ import annotations
 
-import datetime
-from dataclasses import dataclass
-from typing import Callable, Dict, Iterable, List, Optional, Tuple, TypeVar
+from .light import TYPE_CHECKING, record
 
-from .entry import Entry
+if TYPE_CHECKING:
+    import datetime
+    from typing import Callable, Dict, Iterable, List, Optional, Tuple, TypeVar
+
+    from .entry import Entry
+
+    AnyEntry = TypeVar("AnyEntry", bound=Entry)
 
 __all__ = ["ORDERS", "Filter", "due", "ordered"]
-
-AnyEntry = TypeVar("AnyEntry", bound=Entry)
 
 
 def due(entry: Entry) -> Optional[datetime.datetime]:
@@ -18,7 +20,7 @@ def due(entry: Entry) -> Optional[datetime.datetime]:
     return min(dates, default=None)
 
 
-@dataclass(frozen=True)
+@record(frozen=True)
 class Filter:
     """What is asked of an entry; what is empty asks nothing.
 
@@ -72,12 +74,14 @@ class Filter:
             self.after is None or when.date() > self.after)
 
 
-def _by_due(entry: Entry) -> Tuple[datetime.datetime, str]:
-    return due(entry) or datetime.datetime.max, entry.heading.priority or "[#B]"
+def _by_due(entry: Entry) -> Tuple[bool, Optional[datetime.datetime], str]:
+    when = due(entry)
+    return when is None, when, entry.heading.priority or "[#B]"
 
 
-def _by_priority(entry: Entry) -> Tuple[str, datetime.datetime]:
-    return entry.heading.priority or "[#B]", due(entry) or datetime.datetime.max
+def _by_priority(entry: Entry) -> Tuple[str, bool, Optional[datetime.datetime]]:
+    when = due(entry)
+    return entry.heading.priority or "[#B]", when is None, when
 
 
 ORDERS: Dict[str, Optional[Callable[[Entry], Tuple[object, ...]]]] = {

@@ -3,32 +3,33 @@ from __future__ import annotations
 
 import os
 import time
-from dataclasses import dataclass, field
-from typing import Dict, Iterable, List, Optional, Sequence
 
 from .errors import CannotRead
-from .heading import States
-from .journal import gate_is_open, holder
+from .keywords import states_of
+from .light import TYPE_CHECKING
 from .marks import look_at_journal
 from .names import ARCHIVE, is_archive, is_file_name, own_name
-from .outline import Outline, states_of
-from .store import Store
+
+if TYPE_CHECKING:
+    from typing import Dict, Iterable, List, Optional, Sequence
+
+    from .keywords import States
+    from .outline import Outline
+    from .store import Store
 
 # A closed gate before and after, and the same journal: no commit was under way while the files were read.
 READ_TRIES = 50
 
 
-@dataclass
 class Folder:
     """A folder of Org files, read without a lock, and opened as a store for what changes it."""
 
-    path: str
-    states: States
-    wait: float
-    cut_short: bool = field(default=False, init=False)
-    """Whether what was read is half of a change, which the next opening finishes."""
-    torn: bool = field(default=False, init=False)
-    """Whether what was read isn't of one moment, since a store wrote all the time."""
+    def __init__(self, path: str, states: States, wait: float) -> None:
+        self.path, self.states, self.wait = path, states, wait
+        self.cut_short = False
+        """Whether what was read is half of a change, which the next opening finishes."""
+        self.torn = False
+        """Whether what was read isn't of one moment, since a store wrote all the time."""
 
     def names(self, archives: bool = True) -> List[str]:
         """The store's files that are there, in byte order; an archive file counts beside its file alone."""
@@ -57,6 +58,8 @@ class Folder:
 
     def outline(self, file: str, text: Optional[bytes] = None) -> Outline:
         """The outline of a file, or of these bytes in its place."""
+        from .outline import Outline  # not needed by a capture
+
         return Outline(file, self.read(file) if text is None else text, self.states)
 
     def states_of(self, file: str) -> States:
@@ -66,6 +69,8 @@ class Folder:
     def snapshot(self, names: Iterable[str]) -> Dict[str, bytes]:
         """The bytes of files, all of one moment between two commits, without a lock; where they aren't, `cut_short` or
         `torn` is set."""
+        from .journal import gate_is_open, holder  # not needed by what opens a store
+
         names = list(names)
         self.cut_short = self.torn = False
         for _ in range(READ_TRIES):
@@ -83,8 +88,16 @@ class Folder:
     def open(self, group: int = 1, new: Sequence[str] = (), states: Optional[States] = None,
              only: Optional[Sequence[str]] = None, whole: bool = False) -> Store:
         """A store on the folder, or on some files of it, with its states or others."""
-        return Store(self.path, states=states or self.states, group=group, wait=self.wait, new=new, only=only,
-                     whole=whole)
+        from .opening import Opening, terms_of  # not needed by what only reads
+        from .process import program
+
+        terms = terms_of(self.path, program(), states or self.states, group, new, only, whole, 30.0)
+        opening = Opening(terms, [*terms.new, *(terms.only or ())])
+        # while the program opens the folder, what comes then is loaded
+        from . import undo  # noqa: F401
+        from .store import Store
+
+        return Store.opened(opening, self.wait)
 
 
 def _is_file(entry: os.DirEntry[str]) -> bool:

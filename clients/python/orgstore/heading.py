@@ -1,59 +1,22 @@
 """The headings of a text, by the store's own rules: their parts, their paths, their subtrees."""
 from __future__ import annotations
 
-import bisect
-import collections
-import re
-from dataclasses import dataclass
-from typing import Dict, FrozenSet, List, Sequence, Tuple, Union
-
-from .errors import NotFound, NotUnique, Refused
-from .lines import Nth, Path, Step, as_bytes, as_string, steps, titles
+from .errors import NotFound, NotUnique
+from .keywords import States, parts_of
+from .light import TYPE_CHECKING, pattern, record
+from .lines import Nth, as_bytes, steps, titles
 from .phrases import listed, quoted, short
 
+if TYPE_CHECKING:
+    from typing import Dict, List, Sequence, Tuple, Union
 
-@dataclass(frozen=True)
-class States:
-    """The keywords of headings: the active ones and the done ones.
+    from .errors import Refused
+    from .kinds import Path, Step
 
-    >>> str(States.parse("TODO WAIT | DONE CANCELLED"))
-    'TODO WAIT | DONE CANCELLED'
-    """
-
-    active: Tuple[str, ...] = ("TODO",)
-    done: Tuple[str, ...] = ("DONE",)
-
-    def __post_init__(self) -> None:
-        words = self.active + self.done
-        if not self.active or not self.done:
-            raise ValueError("states need one active word and one done word at least")
-        if len(words) > 32 or len(set(words)) < len(words):
-            raise ValueError("states are 32 different words at most: %s" % self)
-        for word in words:
-            if not re.fullmatch("[A-Za-z0-9_-]{1,24}", word):
-                raise ValueError("a state is 1 to 24 letters, digits, _ and -, not %r" % word)
-
-    @classmethod
-    def parse(cls, text: str) -> States:
-        """The states of a text as an Org file's `#+TODO:` line has it: without a `|` the last word alone is done, and
-        what stands in parentheses behind a word is passed over.
-
-        >>> States.parse("TODO(t) WAIT(w@/!) DONE(d)")
-        States(active=('TODO', 'WAIT'), done=('DONE',))
-
-        Raises `ValueError` where the words aren't states.
-        """
-        words = re.sub(r"\([^()\s]*\)", " ", text.replace("|", " | ")).split()
-        if words.count("|") > 1:
-            raise ValueError("states have one | at most: %r" % text)
-        bar = words.index("|") if "|" in words else len(words) - 1
-        return cls(tuple(words[:bar]), tuple(word for word in words[bar:] if word != "|"))
-
-    def __str__(self) -> str:
-        return "%s | %s" % (" ".join(self.active), " ".join(self.done))
+__all__ = ["Heading", "States", "headings", "lookup"]
 
 
-@dataclass(frozen=True)
+@record(frozen=True)
 class Heading:
     """A heading of a text, by the store's own rules.
 
@@ -76,33 +39,10 @@ class Heading:
     steps: Tuple[Step, ...]
 
 
-_HEADING = re.compile(rb"^(\*+) ([^\n]*)", re.MULTILINE)
-_PRIORITY = re.compile(rb"\[#[A-Za-z0-9]\]")
-_TAGS = re.compile(rb"(?::[A-Za-z0-9_@#%\x80-\xff]+)+:")
+_HEADING = pattern(rb"(?m)^(\*+) ([^\n]*)")
 
 
-def _parts(rest: bytes, states: FrozenSet[bytes]) -> Tuple[str, str, str, Tuple[str, ...]]:
-    """Keyword, priority, title and tags of what stands behind a heading's stars and their space."""
-    title = rest.lstrip(b" \t").rstrip(b" \t\r")
-    keyword = priority = b""
-    tags: Tuple[str, ...] = ()
-    after_blank = True
-    run = title.partition(b" ")[0].partition(b"\t")[0]
-    if run in states:
-        keyword, title = run, title[len(run):].lstrip(b" \t")
-    found = _PRIORITY.match(title)
-    if found:
-        priority, behind = found[0], title[found.end():]
-        title = behind.lstrip(b" \t")
-        after_blank = len(title) < len(behind)
-    if title.endswith(b":"):
-        start = max(title.rfind(b" "), title.rfind(b"\t")) + 1
-        if (start > 0 or after_blank) and _TAGS.fullmatch(title, start):
-            tags, title = tuple(as_string(title[start + 1:-1]).split(":")), title[:start].rstrip(b" \t")
-    return as_string(keyword), as_string(priority), as_string(title), tags
-
-
-@dataclass
+@record
 class _Node:
     """A heading while its text is read."""
 
@@ -127,7 +67,7 @@ def _nodes(text: bytes, states: States) -> List[_Node]:
             nodes[open_nodes.pop()].end = found.start()
         parent = open_nodes[-1] if open_nodes else -1
         open_nodes.append(len(nodes))
-        nodes.append(_Node(line, level, found.start(), len(text), _parts(found[2], words), parent))
+        nodes.append(_Node(line, level, found.start(), len(text), parts_of(found[2], words), parent))
     return nodes
 
 
@@ -141,13 +81,15 @@ def headings(text: bytes, states: Union[States, str] = States()) -> List[Heading
     3 ('Work', 'Pay rent') TODO () False
     """
     nodes = _nodes(text, States.parse(states) if isinstance(states, str) else states)
-    alike = collections.Counter((node.parent, node.parts[2]) for node in nodes)
-    counts: Dict[Tuple[int, str], int] = collections.Counter()
+    alike: Dict[Tuple[int, str], int] = {}
+    for node in nodes:
+        alike[node.parent, node.parts[2]] = alike.get((node.parent, node.parts[2]), 0) + 1
+    counts: Dict[Tuple[int, str], int] = {}
     found: List[Heading] = []
     for node in nodes:
         keyword, priority, title, tags = node.parts
         key = node.parent, title
-        counts[key] += 1
+        counts[key] = counts.get(key, 0) + 1
         unique = alike[key] == 1
         path: Tuple[str, ...] = (title,)
         steps: Tuple[Step, ...] = (title if unique else Nth(title, counts[key]),)
@@ -167,6 +109,8 @@ def lookup(found: Sequence[Heading], path: Path) -> Heading:
 
     Raises `NotFound`, with what is there, and `NotUnique`, with the headings that have the title.
     """
+    import bisect
+
     starts = [heading.start for heading in found]
     first, last, way = 0, len(found), steps(path)
     for depth, step in enumerate(way):

@@ -2,22 +2,22 @@
 from __future__ import annotations
 
 import os
-from dataclasses import dataclass
-from typing import Callable, List, Optional, Tuple
 
-from .names import is_file_name
+from .light import TYPE_CHECKING, record
+from .names import JOURNAL, is_file_name
 
-JOURNAL = "orgstore.journal"
+if TYPE_CHECKING:
+    from typing import Callable, List, Optional, Tuple
 
-Read = Callable[[str], bytes]
-"""Gives the bytes of a file of the folder; none where it isn't there."""
+    Read = Callable[[str], bytes]
+    """Gives the bytes of a file of the folder; none where it isn't there."""
 
 
 class Damaged(Exception):
     """A journal whose open record can't be read, or doesn't fit the files: opening the folder refuses it."""
 
 
-@dataclass
+@record
 class Record:
     """A journal's record, read from its front on."""
 

@@ -1,37 +1,25 @@
 """The program's command lines: fields with their escapes, paths of titles, moments."""
 from __future__ import annotations
 
-import datetime
-import re
-from dataclasses import dataclass
-from typing import Literal, Optional, Sequence, Tuple, Union
+import time
 
 from .errors import BadLine, NotFound
+from .light import TYPE_CHECKING, pattern, record
 
-Text = Union[str, bytes]
-"""What is put into a file: bytes, or a str, which stands for its UTF-8 (with surrogateescape)."""
+if TYPE_CHECKING:
+    from re import Match
+    from typing import Sequence, Tuple
+
+    from .kinds import Moment, Order, Path, Step, Text
 
 
-@dataclass(frozen=True)
+@record(frozen=True)
 class Nth:
     """One of the headings that have the same title below one parent: the `number`-th in the text, from 1 on."""
 
     title: str
     number: int
 
-
-Step = Union[str, Nth]
-"""A step of a path: a title, which one heading alone must have there, or one of several."""
-
-Path = Union[str, Sequence[Step]]
-"""A heading: its steps from the top level on, as a list, or as a text with `/` between them. In a text `\\s` is a
-slash, `\\t` a tab, `\\\\` a backslash, and `\\#2` at the end of a step the second heading of its title."""
-
-Moment = Optional[datetime.datetime]
-"""A civil minute; one with a time zone is taken in the local one. None is now."""
-
-Order = Literal["first", "last"]
-"""Where among the entries of a heading one is put."""
 
 LINE_LIMIT = 1_048_576
 """Bytes of a line, its newline aside, that the program takes."""
@@ -63,7 +51,8 @@ def path_field(path: Path) -> bytes:
 _ESCAPED = {"n": "\n", "t": "\t", "\\": "\\", "s": "/"}
 
 
-_NUMBERED = re.compile(r"((?:[^\\]|\\.)*)\\#([1-9][0-9]{0,8})", re.DOTALL)
+_NUMBERED = pattern(r"(?s)((?:[^\\]|\\.)*)\\#([1-9][0-9]{0,8})")
+_ESCAPE = pattern(r"(?s)\\(.?)")
 
 
 def titles(path: Path, strict: bool = True) -> Tuple[str, ...]:
@@ -88,7 +77,7 @@ def steps(path: Path, strict: bool = True) -> Tuple[Step, ...]:
     if not isinstance(path, str):
         return tuple(path)
 
-    def meant(found: re.Match[str]) -> str:
+    def meant(found: Match[str]) -> str:
         if found[1] in _ESCAPED:
             return _ESCAPED[found[1]]
         if not strict:
@@ -97,8 +86,10 @@ def steps(path: Path, strict: bool = True) -> Tuple[Step, ...]:
                       "slash, or give a list of titles" % path)
 
     def step(text: str) -> Step:
+        if "\\" not in text:
+            return text
         numbered = _NUMBERED.fullmatch(text)
-        title = re.sub(r"\\(.?)", meant, numbered[1] if numbered else text, flags=re.DOTALL)
+        title = _ESCAPE.sub(meant, numbered[1] if numbered else text)
         return Nth(title, int(numbered[2])) if numbered else title
 
     return tuple(map(step, path.split("/")))
@@ -118,7 +109,9 @@ def _step_text(step: Step) -> str:
 def moment_field(moment: Moment) -> bytes:
     """A moment as a field."""
     if moment is None:
-        moment = datetime.datetime.now()
+        return time.strftime("%Y-%m-%d %H:%M").encode()
+    import datetime  # slow to load
+
     if not isinstance(moment, datetime.datetime):
         raise TypeError("a moment is a datetime, or None for now, not %r" % (moment,))
     if moment.tzinfo is not None:

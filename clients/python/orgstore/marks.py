@@ -3,12 +3,16 @@ from __future__ import annotations
 
 import os
 import stat
-from typing import Dict, Iterable, List, NamedTuple, Optional, Tuple
 
-from .journal import JOURNAL
+from .light import TYPE_CHECKING, record
+from .names import JOURNAL
+
+if TYPE_CHECKING:
+    from typing import Dict, Iterable, List, Optional, Tuple
 
 
-class Mark(NamedTuple):
+@record(frozen=True)
+class Mark:
     """What tells of a file whether it was written: its number, which one that replaces it hasn't, its size, and when it
     was written last, in nanoseconds."""
 
@@ -17,16 +21,12 @@ class Mark(NamedTuple):
     written: int
 
 
-Marks = Dict[str, Mark]
-"""The marks of the Org files of a folder, by their names."""
-
-
 def mark_of(known: os.stat_result) -> Mark:
     """The mark of a file."""
     return Mark(known.st_ino, known.st_size, known.st_mtime_ns)
 
 
-def look(folder: str, only: Optional[Iterable[str]] = None) -> Marks:
+def look(folder: str, only: Optional[Iterable[str]] = None) -> Dict[str, Mark]:
     """The marks of the Org files that are in a folder, or of some of them."""
     marks = {}
     if only is not None:
@@ -57,17 +57,17 @@ def look_at_journal(folder: str) -> Tuple[Optional[Mark], bytes]:
         return None, b""
 
 
-def differing(before: Marks, after: Marks) -> List[str]:
+def differing(before: Dict[str, Mark], after: Dict[str, Mark]) -> List[str]:
     """The files that were written, made, replaced or removed between two looks."""
     return sorted(name for name in {*before, *after} if before.get(name) != after.get(name))
 
 
-def replaced(before: Marks, after: Marks) -> List[str]:
+def replaced(before: Dict[str, Mark], after: Dict[str, Mark]) -> List[str]:
     """The files that were replaced or removed between two looks: a store does neither."""
     return sorted(name for name, mark in before.items() if name not in after or after[name].inode != mark.inode)
 
 
-def doubtful(before: Marks, after: Marks, journal: Optional[Mark]) -> List[str]:
+def doubtful(before: Dict[str, Mark], after: Dict[str, Mark], journal: Optional[Mark]) -> List[str]:
     """The files that another program may have written after a commit did: those that were replaced, and those that were
     written after the journal, which is what a commit writes last."""
     end = journal.written if journal else 0

@@ -1,13 +1,19 @@
 """Names of files: which ones the store takes, and which file an archive belongs to."""
 from __future__ import annotations
 
-import re
-from typing import Optional
-
+from .light import TYPE_CHECKING, pattern
 from .lines import as_bytes
+
+if TYPE_CHECKING:
+    from typing import Optional
 
 ARCHIVE = "_archive"
 """What the name of an archive file has behind that of its file."""
+
+JOURNAL = "orgstore.journal"
+"""The file that makes a command one step."""
+
+_ODD = pattern("[\0-\x1f\x7f\ud800-\udfff]")
 
 
 def is_archive(name: str) -> bool:
@@ -29,9 +35,9 @@ def name_fault(file: str) -> Optional[str]:
     """Why a name is no file name of a store."""
     if "/" in file:
         return "'%s' has a folder: a file is named without one" % file
-    if not re.search(r"\.org(_archive)?\Z", file) or file.startswith("."):
+    if not file.endswith((".org", ".org" + ARCHIVE)) or file.startswith("."):
         return "'%s' is no file name: one ends in .org or .org_archive, and doesn't begin with a dot" % file
-    if re.search("[\0-\x1f\x7f\ud800-\udfff]", file):
+    if not file.isprintable() and _ODD.search(file):
         return "'%s' is no file name: it has control characters, or bytes that are no UTF-8" % ascii(file)[1:-1]
     if len(as_bytes(own_name(file))) > 200:
         return "'%s..' is no file name: it has more than 200 bytes" % file[:40]

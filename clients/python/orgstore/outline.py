@@ -1,46 +1,32 @@
 """The outline of one file: what stands above, in and below each heading, and where it is archived."""
 from __future__ import annotations
 
-import functools
 import itertools
 import os
-import re
-from dataclasses import dataclass
-from typing import Iterator, List
 
-from .heading import Heading, States, headings
-from .lines import as_string
+from .heading import headings
+from .keywords import states_of
+from .light import TYPE_CHECKING, cached, pattern, record
 from .names import ARCHIVE, is_archive
 from .section import BLANKS, properties
 
-TODO_LINE = re.compile(rb"^[ \t]*#\+(?:TODO|SEQ_TODO|TYP_TODO):(.*)$", re.MULTILINE | re.IGNORECASE)
-ARCHIVE_LINE = re.compile(rb"^[ \t]*#\+ARCHIVE:(.*)$", re.MULTILINE | re.IGNORECASE)
+if TYPE_CHECKING:
+    from typing import Iterator, List
+
+    from .heading import Heading
+    from .keywords import States
+
+_ARCHIVE_LINE = pattern(rb"(?im)^[ \t]*#\+ARCHIVE:(.*)$")
+_PLACE = pattern(r"(?s)(\*+) +(.*)")
 
 
-@dataclass(frozen=True)
+@record(frozen=True)
 class Location:
     """Where an entry is archived: a file, and the level and title of a heading, level 0 for the top."""
 
     file: str
     level: int
     title: str
-
-
-def states_of(text: bytes, folder: States) -> States:
-    r"""The states of a file: those of its own `#+TODO:` lines, where it has some that the store takes, else the
-    folder's.
-
-    >>> str(states_of(b"#+SEQ_TODO: NEXT(n) | OK\n#+TODO: BUG | FIXED\n", States()))
-    'NEXT BUG | OK FIXED'
-    """
-    lines = [as_string(line) for line in TODO_LINE.findall(text)] if b"#+" in text else []
-    try:
-        read = [States.parse(line) for line in lines if line.strip()]
-        active = dict.fromkeys(word for states in read for word in states.active)
-        done = dict.fromkeys(word for states in read for word in states.done)
-        return States(tuple(active), tuple(done)) if read else folder
-    except ValueError:
-        return folder
 
 
 class Outline:
@@ -50,7 +36,7 @@ class Outline:
         self.file, self.text, self.states = file, text, states_of(text, states)
         self.headings = headings(text, self.states)
 
-    @functools.cached_property
+    @cached
     def parents(self) -> List[int]:
         """The number of each heading's parent, or -1."""
         parents: List[int] = []
@@ -61,10 +47,10 @@ class Outline:
             parents.append(parent)
         return parents
 
-    @functools.cached_property
+    @cached
     def archive_line(self) -> bytes:
         """The value of the file's first #+ARCHIVE line."""
-        line = ARCHIVE_LINE.search(self.text)
+        line = _ARCHIVE_LINE.search(self.text)
         return line[1].strip(BLANKS) if line else b""
 
     def section(self, number: int) -> List[bytes]:
@@ -93,7 +79,7 @@ class Outline:
         name, colons, place = value.partition("::")
         if not colons:
             return Location(self.file + ARCHIVE, 0, "")
-        stars = re.fullmatch(r"(\*+) +(.*)", place, re.DOTALL)
+        stars = _PLACE.fullmatch(place)
         level, title = (len(stars[1]), stars[2]) if stars else (0, "")
         return Location(name.replace("%s", self.file) or self.file, level, title)
 

@@ -1,7 +1,10 @@
 """How sentences name titles, paths and lists."""
 from __future__ import annotations
 
-from typing import List, Sequence
+from .light import TYPE_CHECKING
+
+if TYPE_CHECKING:
+    from typing import List, Sequence
 
 
 def quoted(path: Sequence[str]) -> str:

@@ -2,13 +2,20 @@
 from __future__ import annotations
 
 import re
-from typing import Callable, Dict, List, Optional
 
 from .errors import Error, NoSuchFile, NotFound, NotUnique, Refused
-from .heading import Heading, States, headings, lookup
-from .lines import Path, as_string, titles
+from .heading import headings, lookup
+from .light import TYPE_CHECKING
+from .lines import as_string, titles
 from .phrases import listed, short
-from .targets import Date, Head, Target, Under
+from .targets import Date, Head, Under
+
+if TYPE_CHECKING:
+    from typing import Callable, Dict, List, Optional
+
+    from .heading import Heading
+    from .keywords import States
+    from .kinds import Path, Target
 
 ADVICE: Dict[int, str] = {
     1: "the store lacks a file that the command, or an archive location, names: check the name, or give it to the "

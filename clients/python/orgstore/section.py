@@ -1,17 +1,19 @@
 """The lines between a heading and the next one: planning, properties, clocks."""
 from __future__ import annotations
 
-import datetime
-import re
-from typing import Dict, List, Optional
+from .light import TYPE_CHECKING, pattern
+
+if TYPE_CHECKING:
+    import datetime
+    from typing import Dict, List, Optional
 
 BLANKS = b" \t\r"
-PLANNING = re.compile(rb"[ \t]*(CLOSED|DEADLINE|SCHEDULED):")
-CLOSED = re.compile(rb"CLOSED:[ \t]*\[(\d{4}-\d\d-\d\d)")
-PROPERTY = re.compile(rb":(\S+):(?:[ \t]+(.*))?", re.DOTALL)
+PLANNING = pattern(rb"[ \t]*(CLOSED|DEADLINE|SCHEDULED):")
+CLOSED = pattern(rb"CLOSED:[ \t]*\[(\d{4}-\d\d-\d\d)")
+PROPERTY = pattern(rb"(?s):(\S+):(?:[ \t]+(.*))?")
 DAY_NAME = rb"[^ \t\n\d+\-\]>]+"
-OPEN_CLOCK = re.compile(rb"[ \t]*CLOCK:[ \t]+\[(\d{4}-\d\d-\d\d)(?:[ \t]+" + DAY_NAME + rb")?[ \t]+(\d?\d:\d\d)"
-                        rb"(?:[ \t]+" + DAY_NAME + rb")?\][ \t\r]*")
+OPEN_CLOCK = pattern(rb"[ \t]*CLOCK:[ \t]+\[(\d{4}-\d\d-\d\d)(?:[ \t]+" + DAY_NAME + rb")?[ \t]+(\d?\d:\d\d)"
+                     rb"(?:[ \t]+" + DAY_NAME + rb")?\][ \t\r]*")
 
 
 def planning(lines: List[bytes]) -> bytes:
@@ -41,6 +43,8 @@ def open_clock(line: bytes) -> Optional[datetime.datetime]:
     read = OPEN_CLOCK.fullmatch(line)
     if not read:
         return None
+    import datetime  # slow to load
+
     try:
         return datetime.datetime.strptime("%s %s" % (read[1].decode(), read[2].decode()), "%Y-%m-%d %H:%M")
     except ValueError:

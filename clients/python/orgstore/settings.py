@@ -2,14 +2,19 @@
 from __future__ import annotations
 
 import os
-import re
-from typing import Dict
+
+from .light import TYPE_CHECKING, pattern
+
+if TYPE_CHECKING:
+    from typing import Dict
 
 SETTINGS = ".orgstore"
 
 
 NAMES = ("states", "capture.file", "capture.todo")
 """The settings that there are, besides `template.NAME`."""
+
+_TEMPLATE = pattern(r"template\.[\w-]+")
 
 
 def settings(folder: str) -> Dict[str, str]:
@@ -29,7 +34,7 @@ def settings(folder: str) -> Dict[str, str]:
         name, equals, value = (part.strip() for part in line.partition("="))
         if name.startswith("#") or not line.strip():
             continue
-        if not equals or name not in NAMES and not re.fullmatch(r"template\.[\w-]+", name):
+        if not equals or name not in NAMES and not _TEMPLATE.fullmatch(name):
             raise ValueError("%s:%d: '%s' is no setting; there are states, capture.file, capture.todo and "
                              "template.NAME, as in: states = TODO | DONE" % (SETTINGS, number, line.strip()))
         found[name] = value

@@ -11,8 +11,10 @@ from __future__ import annotations
 import calendar
 import datetime
 import re
-from dataclasses import dataclass, replace
-from typing import Any, Dict, Iterator, Optional, Tuple
+from .light import TYPE_CHECKING, record
+
+if TYPE_CHECKING:
+    from typing import Any, Dict, Iterator, Optional, Tuple
 
 __all__ = ["Delay", "Repeater", "Stamp", "find", "moved", "ranges"]
 
@@ -47,7 +49,7 @@ def moved(day: datetime.date, count: int, unit: str) -> datetime.date:
     return datetime.date(year, month, min(day.day, calendar.monthrange(year, month)[1]))
 
 
-@dataclass(frozen=True)
+@record(frozen=True)
 class Repeater:
     """When a stamp comes again: every `count` of a `unit` (`h d w m y`), of the kind `+`, `++` or `.+`. `limit` is what
     stands behind a slash, as habits have it."""
@@ -61,7 +63,7 @@ class Repeater:
         return "%s%d%s%s" % (self.kind, self.count, self.unit, "/" + self.limit if self.limit else "")
 
 
-@dataclass(frozen=True)
+@record(frozen=True)
 class Delay:
     """How long before a deadline it is warned of, or how long after its day a scheduled entry is shown. `first` says
     that it holds for the first of the repeats alone (`--`)."""
@@ -83,7 +85,7 @@ class Delay:
         return int(self.count * _DELAY_DAYS[self.unit])
 
 
-@dataclass(frozen=True)
+@record(frozen=True)
 class Stamp:
     """A timestamp. `end` is the second time of a range of times; `start` and `length` are its bytes in the text where
     it was found, or 0."""
@@ -126,7 +128,8 @@ class Stamp:
 
     def repeated_as(self, before: Stamp) -> Stamp:
         """The stamp, with the repeater and the delay of the one before it where it has none of its own."""
-        return replace(self, repeater=self.repeater or before.repeater, delay=self.delay or before.delay)
+        return Stamp(self.day, self.active, self.time, self.end, self.repeater or before.repeater,
+                     self.delay or before.delay, self.start, self.length)
 
     @property
     def moment(self) -> datetime.datetime:

@@ -1,60 +1,34 @@
 """A store: the program, open on one folder."""
 from __future__ import annotations
 
-import collections
-import datetime
 import os
-import re
 import sys
-import threading
 import time
-import warnings
-from types import TracebackType
-from typing import Callable, Deque, Dict, Iterable, Iterator, List, Optional, Set, Tuple, Type, Union, cast
+from _thread import get_ident
 
-from .causes import Why, why_failed, why_not_opened, why_not_written
-from .commands import (Archive, Capture, CaptureTemplate, ClockIn, ClockOut, Command, Done, Edit, Refile, Settle, Show,
-                       Time, Todo, refusal)
-from .errors import (CannotOpen, CannotWrite, Changed, Closed, Died, Error, Fault, Locked, Misused, NoProgram, Refused,
-                     TimedOut)
-from .heading import Heading, States, headings
-from .journal import gate_is_open
-from .lines import Moment, Order, Path, Text, as_bytes, titles
-from .marks import Marks, differing, doubtful, look, look_at_journal, replaced
-from .names import ARCHIVE, is_archive, is_file_name, own_name
+from .commands import (Archive, Capture, CaptureTemplate, ClockIn, ClockOut, Done, Edit, Refile, Settle, Show, Time,
+                       Todo, refusal)
+from .errors import CannotWrite, Changed, Closed, Died, Error, Fault, Locked, Misused, Refused, TimedOut
+from .keywords import States
+from .light import TYPE_CHECKING, cast
+from .lines import titles
+from .marks import differing, doubtful, look_at_journal, replaced
+from .names import is_archive, is_file_name, own_name
+from .opening import Opening, Terms, terms_of
 from .process import Process, Stuck, ended_by, program
-from .refusals import Files
-from .targets import Date, Target, Top, Under
+from .targets import Date, Top, Under
 
-_OPENING: Dict[str, str] = {
-    "Locked": "another store is open on it: try again when that has ended",
-    "BadJournal": "a change was cut short, and the journal is damaged, or another program's. Nothing was changed: "
-                  "copy the folder, look through the files, and take orgstore.journal away",
-    "Device": "a call of the disk failed, or the folder can't be listed",
-    "SameFile": "two names lead to one file: keep one of them",
-    "TooLarge": "a file is past 64 MiB: split it",
-    "TooManyFiles": "it has more than 256 Org files: take some to another folder",
-    "OutOfMemory": "there isn't memory enough",
-}
+if TYPE_CHECKING:
+    import datetime
+    from types import TracebackType
+    from typing import Callable, Dict, Iterable, Iterator, List, Optional, Set, Tuple, Type, Union
 
-
-def cannot_open(folder: str, program: str, status: int, said: str, new: Iterable[str] = ()) -> Error:
-    """Why the program didn't open a folder, with these new files."""
-    if status < 0 or status == 1 and said.startswith("orgstore: "):
-        return Died("orgstore ended while it opened '%s' (%s): open it again, which finishes or forgets what was begun"
-                    % (folder, ended_by(status, said)), said=said, status=status)
-    if status not in (2, 3):
-        return NoProgram("%s isn't orgstore: it ended with %s" % (program, ended_by(status, said)))
-    name = re.sub(r"\Aorgstore: (open: )?", "", said) if said.startswith("orgstore: ") else "usage"
-    why = why_not_opened(folder, new) if name == "Device" else None
-    sentence = why.sentence if why else _OPENING.get(name.split(" ")[0], "its words aren't taken")
-    if name.startswith("bad name"):
-        sentence = "a new file's name ends in .org, and has no folder"
-    kind = Locked if name == "Locked" else CannotOpen
-    return kind("the folder '%s' can't be opened: %s (%s)" % (folder, sentence, said), name=name, said=said,
-                status=status, cause=why.cause if why else "device" if name == "Device" else "",
-                file=why.file if why else "", why=sentence)
-
+    from .causes import Why
+    from .commands import Command
+    from .heading import Heading
+    from .kinds import Moment, Order, Path, Target, Text
+    from .marks import Mark
+    from .refusals import Files
 
 _UNKNOWN = ("a call of the disk failed: close the store, find out what is wrong with the disk, and unmount it or "
             "restart the machine before you open the folder again")
@@ -91,76 +65,55 @@ class Store:
                  whole: bool = False) -> None:
         if not 1 <= group <= 1000:
             raise ValueError("a group has 1 to 1,000 commands, not %d" % group)
-        self.folder = os.fspath(folder)
-        self.states = States.parse(states) if isinstance(states, str) else states
-        self.group = sys.maxsize if whole else group
-        self.whole = whole
+        meant = States.parse(states) if isinstance(states, str) else states
+        self._begin(terms_of(os.fspath(folder), _program_of(program), meant, group, new, only, whole, timeout), wait)
+
+    @classmethod
+    def opened(cls, opening: Opening, wait: float) -> Store:
+        """The store that a program opens which is on its way already."""
+        store = cls.__new__(cls)
+        store._begin(opening.terms, wait, opening)
+        return store
+
+    def _begin(self, terms: Terms, wait: float, opening: Optional[Opening] = None) -> None:
+        """Takes the terms, and opens the folder."""
+        self.folder, self.states, self.whole = terms.folder, terms.states, terms.whole
+        self.group = sys.maxsize if terms.whole else terms.group
         self.accepted = 0
         """How many commands were accepted since the store was opened."""
         self.acknowledged = 0
         """How many of them are on the disk."""
+        self._terms, self._place = terms, terms.place
         self._process: Optional[Process] = None
-        self._owner = os.getpid(), threading.get_ident()
+        self._owner = os.getpid(), get_ident()
         self._busy = self._many = self._broken = self._in_text = self._again = False
         self._why: Optional[Why] = None
-        self._wait, self._timeout = wait, timeout
+        self._wait, self._timeout = wait, terms.timeout
         self._before = 0  # how many commands were accepted by processes before this one
-        self._names = {new} if isinstance(new, str) else set(new)
-        self._new = frozenset(self._names)
-        self._only = None if only is None else sorted(map(own_name, [only] if isinstance(only, str) else only))
-        self._names.update(self._only or ())
-        self._place = os.path.abspath(self.folder)
-        self._program = _program_of(program)
-        self._marks: Marks = {}
+        self._names = {*terms.new, *(terms.only or ())}
+        self._marks: Dict[str, Mark] = {}
         self._journal = look_at_journal(self._place)
         self._sent: Set[str] = set()  # the files that commands named since the last look
         self._writable: Set[str] = set()  # those of them that were seen to be writable
         self._sent_size, self._elsewhere = 0, False
-        self._open()
+        self._open(opening)
 
-    def _open(self) -> None:
+    def _open(self, opening: Optional[Opening] = None) -> None:
         """Opens the folder; one that is locked is tried again."""
         end, pause = time.monotonic() + self._wait, 0.01
         while True:
-            # before the opening: a file that is replaced meanwhile is another program's
-            marks = self._look()
+            opening = opening or Opening(self._terms, self._names, self.acknowledged)
             try:
-                self._process = self._try_open()
-                self._marks, self._journal = marks, look_at_journal(self._place)
-                self._names |= {name for name in marks if not is_archive(name) and is_file_name(name)}
+                self._process = opening.wait()
+                self._marks, self._journal = opening.marks, opening.journal
+                self._names |= {name for name in opening.marks if not is_archive(name) and is_file_name(name)}
                 return
             except Locked:
                 left = end - time.monotonic()
                 if left <= 0:
                     raise
                 time.sleep(min(pause, left))
-                pause = min(2 * pause, 0.2)
-
-    def _try_open(self) -> Process:
-        options = ["--todo=" + ",".join(self.states.active), "--done=" + ",".join(self.states.done),
-                   "--whole" if self.whole else "--group=%d" % self.group]
-        options += ["--only=" + name for name in self._only or ()]
-        options += ["--new=" + name for name in sorted(self._names.difference(self._only or ()).union(self._new))]
-        try:
-            process = Process([self._program, self._place, *map(as_bytes, options)], self._timeout)
-        except OSError as fault:
-            raise NoProgram("the program %s can't be started: %s" % (self._program, fault.strerror)) from fault
-        try:
-            process.send(b"settle\n")
-            reply = process.line()
-            if reply == b"safe 0":
-                return process
-            if reply is None:  # it has ended
-                raise cannot_open(self.folder, self._program, *process.wait(), sorted(self._names))
-        except Stuck:
-            process.kill()
-            raise TimedOut("orgstore didn't open '%s' in %g seconds, and was killed: nothing was given to it" % (
-                self.folder, self._timeout or 0), safe=self.acknowledged) from None
-        except BaseException:
-            process.kill()
-            raise
-        process.kill()
-        raise NoProgram("%s isn't orgstore: it answered %r" % (self._program, reply[:40]))
+                opening, pause = None, min(2 * pause, 0.2)
 
     def _open_again(self) -> None:
         """Opens the folder again, since another program wrote a file; counts go on."""
@@ -179,6 +132,8 @@ class Store:
 
     def __del__(self) -> None:
         if getattr(self, "_process", None) is not None and self._owner[0] == os.getpid():
+            import warnings
+
             warnings.warn("%r is open, and nobody has it any more: close it" % self, ResourceWarning, source=self)
             self.abandon()
 
@@ -293,6 +248,8 @@ class Store:
 
     def time(self, file: str, path: Path) -> datetime.timedelta:
         """The time that was clocked at a heading and below it."""
+        import datetime  # slow to load
+
         reply = self._ask(Time(file, path))
         hours, minutes = reply.split(b":")
         return datetime.timedelta(minutes=60 * int(hours) + int(minutes))
@@ -303,6 +260,8 @@ class Store:
 
     def headings(self, file: str) -> List[Heading]:
         """The headings of a file, by the states of this store."""
+        from .heading import headings  # not needed by a capture
+
         return headings(self.show(file), self.states)
 
     def settle(self) -> int:
@@ -352,15 +311,13 @@ class Store:
 
     # -- other programs -------------------------------------------------------------------------------------------
 
-    def _look(self) -> Marks:
+    def _look(self) -> Dict[str, Mark]:
         """The marks of the files that the store may have."""
-        if self._only is None:
-            return look(self._place)
-        return look(self._place, [name for own in sorted(self._names) for name in (own, own + ARCHIVE)])
+        return self._terms.look(self._names)
 
     def _check_owner(self) -> None:
         """Raises `Misused` in another thread or process than the one that opened the store."""
-        if self._owner != (os.getpid(), threading.get_ident()):
+        if self._owner != (os.getpid(), get_ident()):
             which = "thread" if self._owner[0] == os.getpid() else "process"
             raise Misused("the store on '%s' was opened by another %s, and is used by that alone: open one of your own "
                           "here" % (self.folder, which))
@@ -461,7 +418,12 @@ class Store:
         """Raises `CannotWrite` for a file of the store that can't be written; looks once for each run of commands."""
         if name in self._writable or own_name(name) not in self._names:
             return
-        why = None if os.access(os.path.join(self._place, name), os.W_OK) else why_not_written(self._place, name)
+        if os.access(os.path.join(self._place, name), os.W_OK):
+            self._writable.add(name)
+            return
+        from .causes import why_not_written
+
+        why = why_not_written(self._place, name)
         if why and why.cause != "no-folder":
             path = titles(target.path) if isinstance(target, (Under, Date)) else ()
             raise CannotWrite("%s. The command changed nothing" % why.sentence, cause=why.cause, why=why.sentence,
@@ -470,7 +432,9 @@ class Store:
 
     def _streamed(self, process: Process, commands: Iterable[Command]) -> Iterator[Union[Done, Refused]]:
         """The answers to commands, in their order, each as it comes; some two groups are on the way at once."""
-        due: Deque[Union[Command, Refused]] = collections.deque()
+        from collections import deque  # slow to load
+
+        due: deque[Union[Command, Refused]] = deque()
         for command in commands:
             try:
                 process.send(self._line(command))
@@ -483,13 +447,13 @@ class Store:
 
     def _answer(self, due: Union[Command, Refused]) -> Union[Done, Refused]:
         """The answer to a command that was sent, or that was refused before it was."""
-        return due if isinstance(due, Refused) else cast(Union[Done, Refused], self._reply(due))
+        return due if isinstance(due, Refused) else cast("Union[Done, Refused]", self._reply(due))
 
     def _run(self, command: Command) -> Done:
-        return cast(Done, self._exchange(command))
+        return cast("Done", self._exchange(command))
 
     def _ask(self, command: Command) -> bytes:
-        return cast(bytes, self._exchange(command))
+        return cast("bytes", self._exchange(command))
 
     def _exchange(self, command: Command) -> Union[Done, bytes]:
         """Sends a command and reads its reply; raises the refusal, with what the files say of it. Where another program
@@ -530,7 +494,7 @@ class Store:
         reply = self._reply(Show(file))
         if isinstance(reply, Refused):
             raise reply
-        return cast(bytes, reply)
+        return cast("bytes", reply)
 
     def _reply(self, command: Command, show: Optional[Callable[[str], bytes]] = None) -> Union[Done, Refused, bytes]:
         """The reply to a command that was sent; where it was refused, `show` looks into the files."""
@@ -543,9 +507,9 @@ class Store:
             return Done(self.accepted, self.acknowledged)
         if word == b"refused" and self.whole:
             self._finish()
-            raise refusal(rest, command, Files(self.states))
+            raise refusal(rest, command, self._files(None))
         if word == b"refused":
-            return refusal(rest, command, Files(self.states, show))
+            return refusal(rest, command, self._files(show))
         if word == b"fault":
             raise self._fault(rest.decode())
         if word == b"text":
@@ -555,6 +519,12 @@ class Store:
             self._finish()
             raise Error("the program answered %r, which is no reply of orgstore; the store is closed" % word[:40])
         return rest
+
+    def _files(self, show: Optional[Callable[[str], bytes]]) -> Files:
+        """The files as `show` has them."""
+        from .refusals import Files
+
+        return Files(self.states, show)
 
     def _text(self, length: int) -> bytes:
         """The text of a reply."""
@@ -625,6 +595,9 @@ class Store:
             self._again = untouched and self.accepted == self.acknowledged and not self._many
             self._finish()
             return self._replaced(known[0]) if self._many else self._given_up(known[0])
+        from .causes import why_failed
+        from .journal import gate_is_open
+
         done = False if untouched else gate_is_open(self._place) or None
         self._why = why = why_failed(self._place, self._sent, self._elsewhere, self._sent_size)
         became = {False: "Nothing of it was written", True: "Opening the folder again finishes it",

@@ -1,13 +1,14 @@
 """Where a capture goes."""
 from __future__ import annotations
 
-from dataclasses import dataclass
-from typing import Union
+from .light import TYPE_CHECKING, record
+from .lines import field_of, path_field
 
-from .lines import Path, field_of, path_field
+if TYPE_CHECKING:
+    from .kinds import Path
 
 
-@dataclass(frozen=True)
+@record(frozen=True)
 class Top:
     """A capture goes to the top level of its file."""
 
@@ -16,7 +17,7 @@ class Top:
         return b"top"
 
 
-@dataclass(frozen=True)
+@record(frozen=True)
 class Head:
     """A capture goes below the one heading of this title, at any level; where there is none, it is made at the end."""
 
@@ -27,7 +28,7 @@ class Head:
         return b"head:" + field_of(self.title)
 
 
-@dataclass(frozen=True)
+@record(frozen=True)
 class Under:
     """A capture goes below the heading at a path."""
 
@@ -38,7 +39,7 @@ class Under:
         return b"path:" + path_field(self.path)
 
 
-@dataclass(frozen=True)
+@record(frozen=True)
 class Date:
     """A capture goes below its day in a date tree, which stands at the top level, or below the heading at a path."""
 
@@ -47,7 +48,3 @@ class Date:
     def field(self) -> bytes:
         """The target as a line has it."""
         return b"date" if self.path == () or self.path == [] else b"date:" + path_field(self.path)
-
-
-Target = Union[Top, Head, Under, Date]
-"""Where a capture goes."""

@@ -9,12 +9,13 @@ from __future__ import annotations
 
 import fcntl
 import os
-import re
-from dataclasses import dataclass
-from typing import Callable, Dict, Iterator, List, Sequence, Tuple
 
-from .changes import Change
+from .commands import Change
+from .light import TYPE_CHECKING, pattern, record
 from .lines import as_bytes, as_string, field_of
+
+if TYPE_CHECKING:
+    from typing import Callable, Dict, Iterator, List, Sequence, Tuple
 
 __all__ = ["Log", "Record", "differences", "taken_back"]
 
@@ -22,10 +23,11 @@ __all__ = ["Log", "Record", "differences", "taken_back"]
 _MOST, _SIZE = 100, 16 << 20
 # more lines than this are compared as one
 _LINES = 400
+_ESCAPE = pattern(rb"\\(.)")
 _ESCAPED = {b"n": b"\n", b"t": b"\t", b"\\": b"\\"}
 
 
-@dataclass(frozen=True)
+@record(frozen=True)
 class Record:
     """What a command did: when, what was said of it, and its changes, whose positions are those after the command."""
 
@@ -44,7 +46,7 @@ class Record:
     @classmethod
     def read(cls, line: bytes) -> Record:
         """The record that a line has. Raises `ValueError` where it has none."""
-        fields = [re.sub(rb"\\(.)", lambda found: _ESCAPED.get(found[1], found[0]), field)
+        fields = [_ESCAPE.sub(lambda found: _ESCAPED.get(found[1], found[0]), field)
                   for field in line.rstrip(b"\n").split(b"\t")]
         if len(fields) % 4 != 3 or not line.endswith(b"\n"):
             raise ValueError("no record: %r" % line[:80])
@@ -106,7 +108,7 @@ def _places(old: List[bytes], new: List[bytes]) -> Iterator[Tuple[int, int, int,
     last, to_last = len(old) - behind, len(new) - behind
     if (front, front) == (last, to_last):
         return
-    if last - front + to_last - front > _LINES:
+    if front in (last, to_last) or last - front + to_last - front > _LINES:
         yield front, last, front, to_last
         return
     import difflib  # slow to load

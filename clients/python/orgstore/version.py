@@ -3,6 +3,8 @@ from __future__ import annotations
 
 import os
 
+from .process import here
+
 # ./install writes the version here; a checkout has it in the file VERSION.
 _INSTALLED = ""
 
@@ -26,8 +28,3 @@ def _of_wheel() -> str:
         return importlib.metadata.version("orgstore")
     except importlib.metadata.PackageNotFoundError:
         return "0"
-
-
-def here() -> str:
-    """The folder of this package, links followed."""
-    return os.path.dirname(os.path.realpath(__file__))

@@ -34,7 +34,7 @@ def texts_after(count: int) -> Tuple[bytes, bytes]:
 
 def pid_of(store: Store) -> int:
     assert store._process
-    return store._process._popen.pid
+    return store._process.id
 
 
 class Kills(FolderTest):

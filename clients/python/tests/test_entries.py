@@ -8,8 +8,8 @@ from orgstore import check, clocked, ics
 from orgstore.entry import Entry, entries
 from orgstore.filters import Filter, ordered
 from orgstore.heading import States, headings, lookup
+from orgstore.keywords import states_of
 from orgstore.lines import Nth, path_text, steps
-from orgstore.outline import states_of
 
 STATES = States()
 NOW = datetime.datetime(2026, 7, 1, 10, 5)

@@ -105,7 +105,7 @@ class Many(FolderTest):
     def test_a_kill_while_lines_are_sent(self) -> None:
         folder = self.folder({"a.org": ""})
         store = Store(folder, group=100)
-        pid = store._process._popen.pid if store._process else 0
+        pid = store._process.id if store._process else 0
 
         def kill(answered: int, safe: int) -> None:
             if answered == 250:

@@ -2,9 +2,9 @@
 from __future__ import annotations
 
 import datetime
-from typing import Dict, List, Optional
 
 from ..agenda import Item, agenda, overdue
+from ..light import TYPE_CHECKING
 from .clocks import running_clock
 from .entries import Entry
 from .finding import entries_in
@@ -13,6 +13,9 @@ from .reading import LIST_OPTIONS, day_of, files_to_read, filter_of, coloured, w
 from .report import colours, counted
 from .run import Run, hours
 from .stops import OK, Usage
+
+if TYPE_CHECKING:
+    from typing import Dict, List, Optional
 
 DAYS = ("Monday", "Tuesday", "Wednesday", "Thursday", "Friday", "Saturday", "Sunday")
 MONTHS = ("January", "February", "March", "April", "May", "June", "July", "August", "September", "October", "November",
@@ -129,7 +132,7 @@ TODAY_OPTIONS = (*LIST_OPTIONS,
                  option("--at", metavar="MOMENT", help="the moment that is taken for now"))
 AGENDA_OPTIONS = (*TODAY_OPTIONS,
                   option("--days", metavar="N", default="7", help="how many days (7)"),
-                  option("--from", dest="first", metavar="DATE", help="the first day; else today"))
+                  option("--from", to="first", metavar="DATE", help="the first day; else today"))
 RULES = ("Scheduled entries, deadlines with their warning days, timestamps and their repeats stand on their days, as "
          "in Org's agenda. ")
 

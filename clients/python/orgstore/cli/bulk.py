@@ -1,25 +1,27 @@
 """Commands over many entries, under one lock."""
 from __future__ import annotations
 
-from dataclasses import dataclass, field
-from typing import Callable, Dict, List, Optional, Set, Tuple
 
 from ..commands import Command
 from ..errors import Error, Refused
+from ..light import TYPE_CHECKING, record
 from ..lines import Nth
 from ..names import own_name
 from ..store import Store
 from .entries import Entry
 from .explain import stop_of
 from .report import Progress, ask, at_terminal, counted
-from .run import Run
-from .stops import INTERRUPTED, OK, REFUSED, Stop
-from .waiting import Left, waiting
+from .run import Recording, Run
+from .stops import INTERRUPTED, OK, REFUSED, Left, Stop
+from .waiting import waiting
+
+if TYPE_CHECKING:
+    from typing import Callable, Dict, Iterable, List, Optional, Set, Tuple
 
 BULK_GROUP = 100
 
 
-@dataclass(frozen=True)
+@record(frozen=True)
 class Step:
     """One command of many: the entry, why it is among them, and what is sent."""
 
@@ -28,14 +30,14 @@ class Step:
     command: Command
 
 
-@dataclass
 class Plan:
-    """What a command over many entries will do, and the entries that it leaves, each with the reason."""
+    """What a command over many entries will do, the entries that it leaves, each with the reason, and what other files
+    it writes."""
 
-    steps: List[Step]
-    left: List[Tuple[Entry, str]]
-    others: Set[str] = field(default_factory=set)
-    """What other files it writes."""
+    def __init__(self, others: Iterable[str] = ()) -> None:
+        self.steps: List[Step] = []
+        self.left: List[Tuple[Entry, str]] = []
+        self.others: Set[str] = set(others)
 
 
 def bulk(run: Run, plan: Callable[[Dict[str, bytes]], Plan], names: Optional[List[str]], verb: str, past: str) -> int:
@@ -60,7 +62,7 @@ def carry_out(run: Run, plan: Callable[[Dict[str, bytes]], Plan], shown: Plan, a
     names = [entry.file for entry in [*(step.entry for step in shown.steps), *(entry for entry, _ in shown.left)]]
     others = (name for name in shown.others if folder.has(own_name(name)))
     files = list(dict.fromkeys(map(own_name, [*names, *others])))
-    with folder.open(group=BULK_GROUP, only=files or None) as store, run.recording(files):
+    with folder.open(group=BULK_GROUP, only=files or None) as store, Recording(run, files):
         now = plan({name: folder.read(name) for name in dict.fromkeys(names)})
         if asked:
             agreed = {(step.entry.file, step.entry.heading.steps) for step in shown.steps}

@@ -1,37 +1,37 @@
 """`orgs capture`."""
 from __future__ import annotations
 
-import argparse
-import contextlib
-import io
 import os
-import re
-import shlex
 import sys
-from typing import List, Tuple
 
-from ..causes import why_not_written
 from ..errors import CannotWrite, Refused
-from ..folder import Folder
-from ..heading import States, headings
-from ..lines import Order
+from ..keywords import title_of
+from ..light import TYPE_CHECKING
 from ..names import is_file_name, own_name
-from ..section import BLANKS
 from ..settings import SETTINGS
-from ..store import Store
-from ..targets import Date, Head, Target, Top, Under
-from .entries import Entry, named, names_file
-from .finding import entries_of, file_of
-from .parsing import AT_OPTION, FILE_OPTION, INBOX, Command, command_parser, flag, option
-from .run import Run, check_state, settings_of
-from .stops import Stop, Titles, Usage, cannot_write, refusal
+from ..targets import Date, Head, Top, Under
+from .naming import file_of, named, names_file
+from .parsing import AT_OPTION, COMMON, FILE_OPTION, INBOX, Command, Options, Reader, defaults, flag, option
+from .run import check_state
+from .stops import Usage, cannot_write, refusal
+
+if TYPE_CHECKING:
+    from typing import List, Tuple
+
+    from ..folder import Folder
+    from ..keywords import States
+    from ..kinds import Order, Target
+    from ..store import Store
+    from .entries import Entry
+    from .run import Run
+    from .stops import Stop, Titles
 
 CAPTURE_OPTIONS = (
     FILE_OPTION, AT_OPTION,
     option("-t", "--template", metavar="NAME", help="with the options that .orgstore has for this name"),
     option("--todo", metavar="STATE", help="its state"),
     option("--priority", metavar="A", help="its priority, a letter or digit"),
-    option("--tag", action="append", default=[], metavar="TAG", help="a tag; may be given again"),
+    option("--tag", many=True, metavar="TAG", help="a tag; may be given again"),
     option("--scheduled", metavar="DATE", help="friday, +2w, 'sep 15 10:00', '2026-07-03 9:00-11:00 +1w'"),
     option("--deadline", metavar="DATE", help="likewise"),
     option("--head", metavar="TITLE", help="below the one heading of this title, made where there is none"),
@@ -40,10 +40,10 @@ CAPTURE_OPTIONS = (
     flag("--first", help="before the other entries there, not behind them"),
     option("--body", metavar="TEXT", help="the text below the heading; - is standard input"),
     flag("--indent", help="two blanks before each line of the body"))
-TAG = re.compile(r"[A-Za-z0-9_@#%\x80-\U0010ffff]+")
+_BLANKS = b" \t\r"
 
 
-def body_of(options: argparse.Namespace) -> bytes:
+def body_of(options: Options) -> bytes:
     """--body, standard input where it is '-', with every line indented where that is asked for."""
     if options.body is None:
         return b""
@@ -57,9 +57,11 @@ def title_and_body(run: Run) -> Tuple[str, bytes]:
         title = run.words.pop(0)
     else:
         first, _, body = body.lstrip(b" \t\r\n").partition(b"\n")
-        title = re.sub(r"^\*+ ", "", os.fsdecode(first.rstrip(b"\r")))
+        title = os.fsdecode(first.rstrip(b"\r"))
+        stars, blank, rest = title.partition(" ")
+        title = rest if blank and stars and not stars.strip("*") else title
     body = judged_body(body, given.count(b"\n") - body.count(b"\n"), run.options.indent)
-    if re.search(r"[\n\r]", title):
+    if "\n" in title or "\r" in title:
         raise refusal("BadEntry", "the title has a newline; put what follows its first line into --body")
     title = title.strip(" \t")
     if not title:
@@ -72,11 +74,12 @@ def entry_text(run: Run, title: str, body: bytes, states: States) -> bytes:
     options = run.options
     if options.todo is not None:
         check_state(options.todo, states)
-    if options.priority is not None and not re.fullmatch("[A-Za-z0-9]", options.priority):
+    letter = options.priority
+    if letter is not None and not (len(letter) == 1 and letter.isascii() and letter.isalnum()):
         raise Usage("--priority '%s' isn't one letter or digit" % options.priority)
     tags = [tag for given in options.tag for tag in given.split(":")]
     for tag in tags:
-        if not TAG.fullmatch(tag):
+        if not tag or any(char < "\x80" and not char.isalnum() and char not in "_@#%" for char in tag):
             raise Usage("--tag '%s': a tag is made of letters, digits and _ @ # %%" % tag)
     priority = "[#%s]" % options.priority if options.priority else None
     parts = [options.todo, priority, title, ":%s:" % ":".join(tags) if tags else None]
@@ -100,11 +103,11 @@ def judged_body(body: bytes, above: int, indent: bool) -> bytes:
     """The body as it goes in: indented, or with no line that would begin a second entry. Some lines stood above it."""
     lines = body.split(b"\n")
     if indent:
-        return b"\n".join(b"  " + line if line.strip(BLANKS) else line for line in lines)
+        return b"\n".join(b"  " + line if line.strip(_BLANKS) else line for line in lines)
     for number, line in enumerate(lines, above + 1):
         if line.startswith(b"* "):
             raise refusal("BadEntry", "line %d of the body, '%s', would be an entry of its own; --indent keeps it as "
-                          "text" % (number, os.fsdecode(line.rstrip(BLANKS))[:60]))
+                          "text" % (number, os.fsdecode(line.rstrip(_BLANKS))[:60]))
     return body
 
 
@@ -113,12 +116,14 @@ def capture_file(run: Run) -> Tuple[str, List[str]]:
     given = run.options.file
     if given is None and run.words and names_file(run.words[0]):
         given = run.words.pop(0)
-    name = file_of(run.folder, given or settings_of(run.folder.path).get("capture.file") or INBOX)
+    name = file_of(run.folder, given or run.settings.get("capture.file") or INBOX)
     if not is_file_name(name):
         raise Usage("'%s' can't be a file's name: it ends in .org, and has no slash and no dot in front" % name)
     base = own_name(name)
     if run.folder.has(base):
         return name, []
+    from ..causes import why_not_written  # most captures go into a file that is there
+
     why = why_not_written(run.folder.path, base)
     if why:
         raise cannot_write(CannotWrite(why.sentence, cause=why.cause, why=why.sentence, file=base))
@@ -127,8 +132,7 @@ def capture_file(run: Run) -> Tuple[str, List[str]]:
 
 def take_template(run: Run) -> None:
     """Puts the words of a template, and the folder's defaults, in front of those that were given."""
-    settings = settings_of(run.folder.path)
-    name = run.options.template
+    name, settings = run.options.template, run.settings
     if name is not None:
         words = settings.get("template." + name)
         if words is None:
@@ -141,14 +145,12 @@ def take_template(run: Run) -> None:
 
 def merge(run: Run, name: str, text: str) -> None:
     """Takes the words of a template: options that weren't given, words in front, and %s for the title."""
+    import shlex  # slow to load
+
+    theirs = Options(**defaults(CAPTURE_OPTIONS))
     try:
-        words = shlex.split(text)
-        with contextlib.redirect_stderr(io.StringIO()):
-            parser = command_parser("capture", COMMANDS["capture"])
-            theirs, front = parser.parse_known_args(words)
-        if any(word.startswith("-") for word in front):
-            raise ValueError(front)
-    except (ValueError, SystemExit):
+        front = Reader((*COMMON, *CAPTURE_OPTIONS), theirs).read(shlex.split(text))
+    except (ValueError, Usage):
         raise Usage("the template '%s' in %s has options that capture doesn't take: %s"
                     % (name, SETTINGS, text)) from None
     for known, value in vars(theirs).items():
@@ -172,8 +174,8 @@ def capture(run: Run) -> int:
         raise Usage("--head goes with neither --under nor --date")
     states = run.folder.states_of(file)
     text = entry_text(run, title, body, states)
-    title = headings(text, states)[0].title
-    moment = run.moment
+    title = title_of(text.partition(b"\n")[0], states)
+    moment = run.moment if options.at or options.date else None
     place: Order = "first" if options.first else "last"
 
     def act(store: Store, found: List[Entry]) -> int:
@@ -181,7 +183,7 @@ def capture(run: Run) -> int:
         under = found[0].path(store.states) if found else ()
         target: Target = Under(under) if found else Top()
         if options.date:
-            target, above = Date(under), (*above, moment.strftime("%Y-%m-%d"))
+            target, above = Date(under), (*above, run.moment.strftime("%Y-%m-%d"))
         elif options.head is not None:
             target, above = Head(options.head), head_path(run.folder, file, options.head)
         path = (*above, title)
@@ -198,6 +200,8 @@ def capture(run: Run) -> int:
 
 def head_path(folder: Folder, file: str, title: str) -> Titles:
     """Where a heading of this title is, or will be made."""
+    from .finding import entries_of
+
     found = [entry.heading.path for entry in entries_of(folder, file) if entry.heading.title == title]
     return found[0] if found else (title,)
 

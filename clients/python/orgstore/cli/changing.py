@@ -3,11 +3,11 @@ from __future__ import annotations
 
 import os
 import sys
-from typing import Callable, List, Optional, Tuple
 
 from .. import changes
 from ..changes import Change
 from ..errors import NotThere, Refused
+from ..light import TYPE_CHECKING
 from ..store import Store
 from .entries import Entry
 from .parsing import AT_OPTION, FILE_OPTION, NAMING, Command, flag
@@ -15,8 +15,11 @@ from .report import ask, at_terminal, counted, shown
 from .run import Run
 from .stops import OK, REFUSED, Stop, Usage, refusal
 
-Planned = Tuple[Optional[Change], str]
-"""A change of an entry, where there is one to make, and what is said of it."""
+if TYPE_CHECKING:
+    from typing import Callable, List, Optional, Tuple
+
+    Planned = Tuple[Optional[Change], str]
+    """A change of an entry, where there is one to make, and what is said of it."""
 
 
 def change(run: Run, plan: Callable[[Entry], Planned]) -> int:

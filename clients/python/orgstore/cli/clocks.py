@@ -2,10 +2,10 @@
 from __future__ import annotations
 
 import datetime
-from typing import Dict, List, Optional, Tuple
 
 from ..errors import Refused
 from ..folder import Folder
+from ..light import TYPE_CHECKING
 from ..section import open_clock
 from ..store import Store
 from .entries import Entry
@@ -13,8 +13,11 @@ from .parsing import AT_OPTION, FILE_OPTION, NAMING, Command
 from .run import Run, hours
 from .stops import OK
 
-Clock = Tuple[Entry, datetime.datetime]
-"""Where a clock runs, and since when."""
+if TYPE_CHECKING:
+    from typing import Dict, List, Optional, Tuple
+
+    Clock = Tuple[Entry, datetime.datetime]
+    """Where a clock runs, and since when."""
 
 
 def clock_in(run: Run) -> int:

@@ -6,13 +6,12 @@ each with a tab and a few words on it.
 """
 from __future__ import annotations
 
-import argparse
 from typing import Dict, Iterable, List, Optional, Tuple
 
 from ..folder import Folder
 from ..lines import path_text
 from ..settings import settings
-from .parsing import command_parser, top_parser
+from .parsing import TOP, Option
 from .run import find_folder, read_states
 
 Answer = Tuple[str, List[Tuple[str, str]]]
@@ -35,7 +34,7 @@ def answer(words: List[str]) -> Answer:
     from .main import MODULES, command_of
 
     before, current = words[:-1], words[-1]
-    top = actions(top_parser())
+    top = by_name(TOP)
     name, given, wants, directory = read(before, top, MODULES)
     folder = folder_of(directory)
     if wants is not None:
@@ -44,44 +43,43 @@ def answer(words: List[str]) -> Answer:
         if current.startswith("-"):
             return "words", options(top)
         return "words", [(command, command_of(command).brief) for command in MODULES]
-    parser = command_parser(name, command_of(name))
     if current.startswith("-") and not (command_of(name).signed and given):
-        return "words", options({**top, **actions(parser)})
+        return "words", options(by_name((*TOP, *command_of(name).options)))
     return positional(command_of(name).words, given, folder)
 
 
-def actions(parser: argparse.ArgumentParser) -> Dict[str, argparse.Action]:
-    """The options of a parser by their names."""
-    return {name: action for action in parser._actions for name in action.option_strings}
+def by_name(known: Iterable[Option]) -> Dict[str, Option]:
+    """Options by their names."""
+    return {name: option for option in known for name in option.names}
 
 
-def options(known: Dict[str, argparse.Action]) -> List[Tuple[str, str]]:
+def options(known: Dict[str, Option]) -> List[Tuple[str, str]]:
     """The names of options, with what they are for."""
-    rows = [(name, action.help or "") for name, action in known.items() if name.startswith("--") or name == "-C"]
-    return [(name, "" if says == argparse.SUPPRESS else says) for name, says in rows if name != "--porcelain-2"]
+    return [(name, option.help) for name, option in known.items()
+            if (name.startswith("--") or name == "-C") and name != "--porcelain-2"]
 
 
-def read(words: Iterable[str], top: Dict[str, argparse.Action],
-         names: Iterable[str]) -> Tuple[Optional[str], List[str], Optional[argparse.Action], Optional[str]]:
+def read(words: Iterable[str], top: Dict[str, Option],
+         names: Iterable[str]) -> Tuple[Optional[str], List[str], Optional[Option], Optional[str]]:
     """The command of some words, the words that are no options, the option whose value comes next, and the folder."""
     from .main import command_of
 
     name: Optional[str] = None
     given: List[str] = []
-    wants: Optional[argparse.Action] = None
+    wants: Optional[Option] = None
     directory: Optional[str] = None
     known, plain = dict(top), False
     for word in words:
         if wants is not None:
-            directory = word if wants.dest == "directory" else directory
+            directory = word if wants.to == "directory" else directory
             wants = None
         elif word == "--":
             plain = True
         elif word in known and not plain:
-            wants = known[word] if known[word].nargs != 0 else None
+            wants = known[word] if known[word].metavar is not None else None
         elif name is None and word in names:
             name = word
-            known.update(actions(command_parser(name, command_of(name))))
+            known.update(by_name(command_of(name).options))
         elif plain or not word.startswith("-"):
             given.append(word)
     return name, given, wants, directory
@@ -91,16 +89,16 @@ def folder_of(directory: Optional[str]) -> Optional[Folder]:
     """The folder that is meant, where there is one."""
     try:
         path = find_folder(directory)
-        return Folder(path, read_states(path, None), 0)
+        return Folder(path, read_states(settings(path), None), 0)
     except Exception:
         return None
 
 
-def value(action: argparse.Action, given: List[str], folder: Optional[Folder]) -> Answer:
+def value(option: Option, given: List[str], folder: Optional[Folder]) -> Answer:
     """What the value of an option may be."""
-    if action.choices is not None:
-        return "words", [(str(choice), "") for choice in action.choices]
-    return named(str(action.metavar or action.dest.upper()), given[-1:], folder)
+    if option.choices:
+        return "words", [(choice, "") for choice in option.choices]
+    return named(str(option.metavar), given[-1:], folder)
 
 
 def positional(pattern: str, given: List[str], folder: Optional[Folder]) -> Answer:

@@ -5,17 +5,21 @@ import os
 import shlex
 import subprocess
 import tempfile
-from typing import List
 
 from .. import changes
 from ..errors import Error
+from ..light import TYPE_CHECKING
 from ..store import Store
 from .changing import carry_out
-from .entries import Entry, Place
+from .entries import Entry
+from .naming import Place
 from .explain import stop_of
 from .parsing import FILE_OPTION, NAMING, Command
 from .run import Run
 from .stops import OK, REFUSED, Stop
+
+if TYPE_CHECKING:
+    from typing import List
 
 
 def edit(run: Run) -> int:

@@ -1,28 +1,16 @@
-"""Headings as the shell names them: a path, a part of a title, FILE:LINE, a line of `ls` or `grep -n`."""
+"""Headings as lists and messages have them."""
 from __future__ import annotations
 
-import os
-import re
-from dataclasses import dataclass
-from typing import Callable, List, Optional, Sequence, Tuple
-
 from .. import entry as fields
-from ..heading import Heading
-from ..lines import Nth, Step, path_text, steps
-from ..names import is_file_name
+from ..light import TYPE_CHECKING
+from ..lines import Nth, path_text
 from . import streams
+from .naming import Place, named
 from .report import ask, shown
-from .stops import Stop, refusal
+from .stops import CODES, REFUSED, Stop
 
-# FILE:LINE, as editors and grep -n print it with a column or the line's text behind it, and as ls does
-FILE_LINE = re.compile(r"(.*?\.org(?:_archive)?):([0-9]+)(?::(?:[0-9]+(?::|$))?(.*)|[ ]+([^ ].*))?", re.DOTALL)
-# a line of `orgs ls --porcelain`
-LISTED = re.compile(r"([^\t]*\.org(?:_archive)?):[0-9]+\t[0-9]+\t[^\t]*\t[^\t]*\t[^\t]*\t([^\t]*)")
-
-
-def named(file: str, path: Sequence[Step]) -> str:
-    """A heading as messages name it."""
-    return "%s: %s" % (file, shown(path_text(path)))
+if TYPE_CHECKING:
+    from typing import List, Optional
 
 
 def headline(entry: fields.Entry, state: Optional[str] = None) -> str:
@@ -67,69 +55,15 @@ class Entry(fields.Entry):
         return "\t".join(fields)
 
 
-def names_file(word: str) -> bool:
-    """Whether a word is a file's name, or the way to one."""
-    way, name = os.path.split(word)
-    return is_file_name(name) and (not way or os.path.isdir(way))
-
-
-@dataclass(frozen=True)
-class Place:
-    """Where a heading is looked for: in a file or in all, by a text, by its path, or by a line: with what `grep`
-    printed of it, what `ls` did, or alone."""
-
-    file: Optional[str]
-    text: str = ""
-    line: Optional[int] = None
-    stood: str = ""
-    listed: str = ""
-    path: Optional[Tuple[Step, ...]] = None
-
-    def among(self, found: List[Entry]) -> List[Entry]:
-        """The headings that are meant: those at the path, else of the title, else whose title has the text in it."""
-        if self.path is not None:
-            return [entry for entry in found if leads_to(self.path, entry.heading)]
-        exact, text = steps(self.text, strict=False), self.text.casefold()
-        ways: List[Callable[[Heading], bool]] = [
-            lambda heading: leads_to(exact, heading), lambda heading: heading.title == self.text,
-            lambda heading: text in heading.title.casefold(), lambda heading: reaches(heading, text)]
-        fitting = ([entry for entry in found if fits(entry.heading)] for fits in ways)
-        return next(filter(None, fitting), [])
-
-
-def leads_to(path: Sequence[Step], heading: Heading) -> bool:
-    """Whether a path leads to a heading; a step without a number leads to all of its title."""
-    def fits(wanted: Step, step: Step) -> bool:
-        if isinstance(wanted, Nth):
-            return wanted == step or wanted.number == 1 and wanted.title == step
-        return wanted == (step.title if isinstance(step, Nth) else step)
-
-    return len(path) == len(heading.steps) and all(map(fits, path, heading.steps))
-
-
-def reaches(heading: Heading, text: str) -> bool:
-    """Whether a part of a path, with slashes, is in the heading's path and ends in its own title."""
-    if "/" not in text:
-        return False
-    whole = path_text(heading.path).casefold()
-    at = whole.rfind(text)
-    return at >= 0 and at + len(text) > whole.rfind("/") + 1
-
-
-class Ambiguous(Exception):
-    """Several headings fit what was asked for."""
+class Ambiguous(Stop):
+    """Several headings fit what was asked for: the refusal has all of them."""
 
     def __init__(self, place: Place, found: List[Entry]) -> None:
-        super().__init__(place.text)
-        self.place = place
-        self.found = found
-
-    def refused(self) -> Stop:
-        """The refusal, with all that fit."""
-        lines = ["'%s' fits %d headings; name one by its FILE:LINE:" % (self.place.text, len(self.found))]
-        lines += ["  " + entry.line() for entry in self.found]
-        return refusal("NotUnique", "\n".join(lines), self.place.file,
-                       candidates=[entry.fields() for entry in self.found])
+        lines = ["'%s' fits %d headings; name one by its FILE:LINE:" % (place.text, len(found))]
+        lines += ["  " + entry.line() for entry in found]
+        super().__init__(REFUSED, "\n".join(lines), reply="refused", code=CODES["NotUnique"], name="NotUnique",
+                         file=place.file, candidates=[entry.fields() for entry in found])
+        self.place, self.found = place, found
 
 
 def choose(several: Ambiguous) -> Place:
@@ -139,6 +73,6 @@ def choose(several: Ambiguous) -> Place:
         streams.tell("%3d  %s\n" % (number, entry.line()))
     answer = ask("'%s' fits %d headings. Which one? " % (several.place.text, len(several.found)))
     if not answer.isdigit() or not 1 <= int(answer) <= len(offered):
-        raise several.refused()
+        raise several
     entry = offered[int(answer) - 1]
     return Place(entry.file, several.place.text, path=entry.heading.steps)

@@ -2,7 +2,8 @@
 from __future__ import annotations
 
 from ..errors import CannotOpen, CannotRead, CannotWrite, Changed, Error, Fault, NoProgram, Refused, TimedOut
-from ..journal import JOURNAL, holder
+from ..journal import holder
+from ..names import JOURNAL
 from .stops import FAULT, REFUSED, Stop, cannot, cannot_write, refusal
 
 
@@ -21,7 +22,7 @@ def stop_of(fault: Error, folder: str) -> Stop:
         return cannot("NoProgram", str(fault))
     if isinstance(fault, Changed):
         return changed(fault)
-    counts = "the first %d commands of this run are safe" % (safe or 0)
+    counts = safe_words(safe or 0)
     if isinstance(fault, Fault):
         return Stop(FAULT, "%s: %s; %s" % (folder, of_machine(fault), counts), reply="fault", name=name, safe=safe,
                     cause=fault.cause or None, file=fault.file or None, done=fault.done)
@@ -39,8 +40,15 @@ def changed(fault: Changed) -> Stop:
                "is in it, and give the command again where its change isn't"
     else:
         says = "another program wrote it in the middle, so the rest was given up; give the same command again"
-    return Stop(REFUSED, "%s: %s; the first %d commands of this run are safe" % (fault.file, says, fault.safe),
+    return Stop(REFUSED, "%s: %s; %s" % (fault.file, says, safe_words(fault.safe)),
                 reply="changed", file=fault.file, safe=fault.safe, lost=fault.lost)
+
+
+def safe_words(safe: int) -> str:
+    """How many commands of a run are on the disk."""
+    if safe == 0:
+        return "no command of this run was reported safe"
+    return "the first command of this run is safe" if safe == 1 else "the first %d commands of this run are safe" % safe
 
 
 def of_machine(fault: Fault) -> str:

@@ -2,20 +2,26 @@
 from __future__ import annotations
 
 import os
-import re
-from typing import Iterable, List, Optional
 
-from ..folder import Folder
+from ..light import TYPE_CHECKING, pattern
 from ..lines import path_text, titles
 from ..names import is_file_name
-from ..outline import Outline
-from .entries import FILE_LINE, Ambiguous, Entry, Place
+from .entries import Ambiguous, Entry
+from .naming import FILE_LINE, no_file
 from .report import counted, shown
-from .stops import Stop, refusal
+from .stops import refusal
+
+if TYPE_CHECKING:
+    from typing import Iterable, List, Optional
+
+    from ..folder import Folder
+    from ..outline import Outline
+    from .naming import Place
+    from .stops import Stop
 
 
 # what `find` and `ls --sort due` print behind a heading
-LISTED_NOTE = re.compile(r"  (?:\| .*|\d{4}-\d\d-\d\d)\Z", re.DOTALL)
+LISTED_NOTE = pattern(r"(?s)  (?:\| .*|\d{4}-\d\d-\d\d)\Z")
 
 
 def entries_in(outlines: Iterable[Outline]) -> List[Entry]:
@@ -27,34 +33,6 @@ def entries_of(folder: Folder, file: Optional[str]) -> List[Entry]:
     """The headings of a file, else of all files but the archives."""
     names = [file] if file else folder.names(archives=False)
     return entries_in(folder.outline(name) for name in names)
-
-
-def file_of(folder: Folder, word: str) -> str:
-    """A file's name, where it is given with the way to it."""
-    way, name = os.path.split(word)
-    if way:
-        try:
-            same = os.path.samefile(way, folder.path)
-        except OSError:
-            same = False
-        if not same:
-            raise refusal("NoSuchFile", "%s isn't in the folder %s; name its folder with -C DIR"
-                          % (word, folder.path), word)
-    return name
-
-
-def existing(folder: Folder, word: str) -> str:
-    """The name of a file that has to be there."""
-    name = file_of(folder, word)
-    if not folder.has(name):
-        raise no_file(folder, name)
-    return name
-
-
-def no_file(folder: Folder, name: str) -> Stop:
-    """The refusal of a file that isn't there."""
-    return refusal("NoSuchFile", "%s isn't in the folder %s; `orgs ls --files` lists what is, and `orgs capture %s "
-                   "TITLE` makes it" % (name, folder.path, name), name)
 
 
 def find(folder: Folder, place: Place) -> Entry:

@@ -10,10 +10,11 @@ from ..importing import Task, from_taskwarrior, from_todo_txt
 from ..names import is_file_name
 from ..store import Store
 from .entries import Entry
-from .finding import entries_of, file_of
+from .finding import entries_of
+from .naming import file_of
 from .parsing import INBOX, Command, flag, option
 from .report import counted
-from .run import Run, settings_of
+from .run import Run
 from .stops import OK, REFUSED, Stop, Usage
 
 
@@ -23,7 +24,7 @@ def import_tasks(run: Run) -> int:
         raise Usage("no file to import; - is standard input")
     source = run.words.pop(0)
     run.no_more_words()
-    file = file_of(run.folder, run.options.file or settings_of(run.folder.path).get("capture.file") or INBOX)
+    file = file_of(run.folder, run.options.file or run.settings.get("capture.file") or INBOX)
     if not is_file_name(file):
         raise Usage("'%s' can't be a file's name: it ends in .org, and has no slash and no dot in front" % file)
     tasks, known = new_tasks(run, read_tasks(run, source))
@@ -93,6 +94,6 @@ COMMANDS = {
         "notes and repeats are taken along; a task of Taskwarrior whose ID an entry has is left out.",
         "orgs import todo.txt\ntask export | orgs import - --dry-run",
         (option("-f", "--file", metavar="FILE", help="the file to put them into"),
-         option("--format", choices=["todo.txt", "taskwarrior"], help="else it is told from the text"),
+         option("--format", choices=("todo.txt", "taskwarrior"), help="else it is told from the text"),
          flag("-n", "--dry-run", help="only print what would be put in"))),
 }

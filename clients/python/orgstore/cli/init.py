@@ -25,7 +25,7 @@ def init(run: Run) -> int:
     except OSError as fault:
         raise cannot("Device", "%s: %s" % (path, fault.strerror)) from None
     old = settings_of(path).get("states")
-    states = read_states(path, options.states)
+    states = read_states(settings_of(path), options.states)
     if old is not None and str(States.parse(old)) != str(states):
         raise refusal("UnknownState", "%s has the states %s already; edit it" % (os.path.join(path, SETTINGS), old))
     folder = Folder(path, states, options.wait)
@@ -42,8 +42,8 @@ def init(run: Run) -> int:
 def show(run: Run, path: str) -> int:
     """`orgs init --show`: what holds in a folder, by its .orgstore and else."""
     found = settings_of(path)
-    rows = {"states": str(read_states(path, run.options.states)), "capture.file": INBOX, "capture.todo": "", **found}
-    rows["states"] = str(read_states(path, run.options.states))
+    rows = {"states": "", "capture.file": INBOX, "capture.todo": "", **found}
+    rows["states"] = str(read_states(found, run.options.states))
     text = "\n".join("%s = %s" % row for row in rows.items())
     run.report.say(text, reply="settings", folder=os.path.abspath(path), settings=rows)
     return OK

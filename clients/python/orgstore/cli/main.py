@@ -1,21 +1,20 @@
 """The command `orgs`: reads its words, runs a subcommand, and says how that ended."""
 from __future__ import annotations
 
-import argparse
-import importlib
 import sys
-from typing import Dict, List, Optional
 
 from ..errors import Error
-from ..version import version
+from ..light import TYPE_CHECKING
 from . import streams
-from .entries import Ambiguous
-from .explain import stop_of
-from .parsing import USAGE_LINE, Command, command_parser, top_parser, words_of
+from .parsing import TOP, USAGE_LINE, Options, Reader, defaults, usage, words_of
 from .report import Report
 from .run import Run
-from .stops import FAULT, INTERRUPTED, OK, Stop, Usage
-from .waiting import Left
+from .stops import FAULT, INTERRUPTED, OK, USAGE, Left, Stop, Usage
+
+if TYPE_CHECKING:
+    from typing import Dict, List, Optional
+
+    from .parsing import Command
 
 MODULES = {
     "capture": "capture", "import": "importing", "refile": "moving", "done": "states", "todo": "states",
@@ -46,7 +45,9 @@ opened, 4 a fault of the disk."""
 
 def command_of(name: str) -> Command:
     """A subcommand by its name."""
-    commands: Dict[str, Command] = importlib.import_module("." + MODULES[name], __package__).COMMANDS
+    module = "%s.%s" % (__package__, MODULES[name])
+    __import__(module)  # importlib, which has a function for this, is slow to load
+    commands: Dict[str, Command] = sys.modules[module].COMMANDS
     return commands[name]
 
 
@@ -57,32 +58,45 @@ def about() -> str:
 
 def help_on(name: Optional[str]) -> str:
     """The help on a subcommand, else on `orgs`."""
-    return command_parser(name, command_of(name)).format_help().rstrip() if name in MODULES else about()
+    if name not in MODULES:
+        return about()
+    from .helping import help_of  # slow to load
+
+    return help_of(name, command_of(name))
 
 
-def execute(options: argparse.Namespace, report: Report) -> int:
-    """Runs the subcommand that the options name."""
+def execute(options: Options, given: List[str], report: Report) -> int:
+    """Runs the subcommand that the options name, with these words."""
     command = command_of(options.command)
-    parser = command_parser(options.command, command)
-    run = Run(options, words_of(parser, options, options.rest, command.signed), report)
-    report.as_json, report.quiet = options.json, options.quiet
     where = options.directory or "."
     try:
+        run = Run(options, words_of(command, options, given), report)
+        report.as_json, report.quiet = options.json, options.quiet
+        if options.help:
+            report.print(help_on(options.command) + "\n")
+            return OK
         if not command.begins:
             where = run.folder.path
         return command.act(run)
     except Usage as fault:
-        parser.error(str(fault))
+        return misused(options.command, fault)
     except Stop as stop:
         return report.stopped(stop)
-    except Ambiguous as several:
-        return report.stopped(several.refused())
     except Error as fault:
+        from .explain import stop_of  # faults are rare
+
         return report.stopped(stop_of(fault, where))
     except Left:
         says = "interrupted: the disk hasn't answered, and the change is done whole or not at all; the next command " \
                "finishes or forgets it, look then"
         return report.stopped(Stop(INTERRUPTED, says, reply="interrupted"))
+
+
+def misused(name: str, fault: Usage) -> int:
+    """Says what is wrong with the words of a command, or of `orgs` itself, and answers the status."""
+    command = command_of(name) if name in MODULES else None
+    streams.tell("%s%s: error: %s\n" % (usage(name, command), "orgs " + name if command else "orgs", fault))
+    return USAGE
 
 
 def run_words(arguments: List[str], report: Report) -> int:
@@ -92,23 +106,23 @@ def run_words(arguments: List[str], report: Report) -> int:
 
         report.print(complete(arguments[2:] if arguments[1:2] == ["--"] else arguments[1:]))
         return OK
-    parser = top_parser()
-    options = argparse.Namespace(directory=None, states=None, json=False, wait=5.0, quiet=False, at=None)
-    # A '--' directly behind the command would be taken for the end of the options before it.
-    cut = arguments.index("--") if "--" in arguments else len(arguments)
-    parser.parse_args(arguments[:cut], options)
-    options.rest += arguments[cut:]
-    report.as_json = options.json
+    options = Options(**{**defaults(TOP), "wait": 5.0, "at": None})
+    try:
+        name, *given = Reader(TOP, options).read(arguments, first=True) or [""]
+    except Usage as fault:
+        return misused("", fault)
+    options.command, report.as_json = name, options.json
     if options.version:
+        from ..version import version
+
         report.print("orgs %s\n" % version())
         return OK
-    if options.help or options.command == "help":
-        report.print(help_on(options.rest[0] if options.rest else None) + "\n")
+    if options.help or name == "help":
+        report.print(help_on(given[0] if given else None) + "\n")
         return OK
-    if options.command not in MODULES:
-        given = "no command '%s'" % options.command if options.command else "no command"
-        parser.error(given + "; `orgs --help` lists them")
-    return execute(options, report)
+    if name not in MODULES:
+        return misused("", Usage("no command%s; `orgs --help` lists them" % (" '%s'" % name if name else "")))
+    return execute(options, given, report)
 
 
 def main(arguments: Optional[List[str]] = None) -> int:
@@ -120,8 +134,6 @@ def main(arguments: Optional[List[str]] = None) -> int:
         if arguments is None:
             streams.in_utf_8()
         status = run_words(sys.argv[1:] if arguments is None else arguments, report)
-    except SystemExit as ended:  # argparse, of a help or a usage
-        status = ended.code if isinstance(ended.code, int) else OK
     except OSError as fault:
         report.unheard, status = fault, OK
     except KeyboardInterrupt:

@@ -2,31 +2,34 @@
 from __future__ import annotations
 
 import datetime
-import re
-from typing import Dict, List, Optional
 
 from ..commands import Archive, Refile
 from ..errors import Refused
 from ..folder import Folder
 from ..heading import States
-from ..lines import Order
+from ..kinds import Order
+from ..light import TYPE_CHECKING, pattern
 from ..outline import Outline
 from ..section import CLOSED, planning
 from ..stamps import moved
 from ..store import Store
 from .bulk import Plan, Step, bulk
-from .entries import Entry, Place
+from .entries import Entry
 from .finding import find
+from .naming import Place
 from .parsing import AT_OPTION, BULK_OPTIONS, FILE_OPTION, NAMING, Command, flag, option
 from .run import Run
 from .stops import Usage
+
+if TYPE_CHECKING:
+    from typing import Dict, List, Optional
 
 REFILE_OPTIONS = (FILE_OPTION, flag("--first", help="before the target's other entries"),
                   option("--all-matching", metavar="TEXT", help="all headings whose title has TEXT"), *BULK_OPTIONS)
 ARCHIVE_OPTIONS = (FILE_OPTION, AT_OPTION, flag("--done", help="all done entries"),
                    option("--older", metavar="AGE", help="only those closed so long ago: 30d, 6w, 3m, 1y"),
                    *BULK_OPTIONS)
-AGE = re.compile(r"(\d{1,4})([dwmy]?)")
+AGE = pattern(r"(\d{1,4})([dwmy]?)")
 
 
 def refile(run: Run) -> int:
@@ -88,7 +91,7 @@ def archive_all(run: Run) -> int:
     run.no_more_words()
 
     def plan(texts: Dict[str, bytes]) -> Plan:
-        whole = Plan([], [])
+        whole = Plan()
         for name, text in texts.items():
             part = plan_archive(run.folder.outline(name, text), run.folder.states, oldest, moment)
             whole.steps += part.steps
@@ -113,7 +116,7 @@ def oldest_day(age: str, moment: datetime.datetime) -> datetime.date:
 def plan_archive(outline: Outline, states: States, oldest: Optional[datetime.date],
                  moment: datetime.datetime) -> Plan:
     """The outermost done headings with nothing open below them, closed on a day or before it."""
-    plan, taken = Plan([], []), 0
+    plan, taken = Plan(), 0
     for number, heading in enumerate(outline.headings):
         if heading.start < taken or heading.keyword not in outline.states.done or outline.is_archived(number):
             continue
@@ -143,7 +146,7 @@ def refile_all(run: Run) -> int:
     exact = Place(under.file, target.text, path=under.heading.steps)
 
     def plan(texts: Dict[str, bytes]) -> Plan:
-        whole, goal = Plan([], [], {exact.file or ""}), find(run.folder, exact)
+        whole, goal = Plan([exact.file or ""]), find(run.folder, exact)
         for name, text in texts.items():
             part = plan_refile(run.folder, name, text, options.all_matching.casefold(), goal, options.first)
             whole.steps += part.steps
@@ -155,7 +158,7 @@ def refile_all(run: Run) -> int:
 
 def plan_refile(folder: Folder, file: str, text: bytes, wanted: str, goal: Entry, first: bool) -> Plan:
     """The outermost headings whose title has the text, without the target, what holds it, and what is in it already."""
-    plan, taken = Plan([], []), 0
+    plan, taken = Plan(), 0
     outline = folder.outline(file, text)
     for number, heading in enumerate(outline.headings):
         if heading.start < taken or wanted not in heading.title.casefold():

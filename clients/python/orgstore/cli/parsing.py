@@ -1,42 +1,76 @@
-"""The command line of `orgs`."""
+"""The command line of `orgs`: what options there are, and how words are read.
+
+Words are read as `argparse` reads them, without abbreviations, and without the time that it takes to load. `helping`
+has the help.
+"""
 from __future__ import annotations
 
-import argparse
-import re
-import sys
-from dataclasses import dataclass
-from typing import IO, TYPE_CHECKING, Any, Callable, Dict, List, Optional, Tuple
-
-from . import streams
+from ..light import TYPE_CHECKING, pattern, record
+from .stops import Usage
 
 if TYPE_CHECKING:
+    from typing import Any, Callable, Dict, Iterable, List, Optional, Sequence, Tuple, Union
+
     from .run import Run
 
 
-@dataclass(frozen=True)
+class Options:
+    """What the options of a run say, by their names."""
+
+    def __init__(self, **given: Any) -> None:
+        self.__dict__.update(given)
+
+    if TYPE_CHECKING:
+        def __getattr__(self, name: str) -> Any:
+            """What an option says."""
+
+        def __setattr__(self, name: str, value: Any) -> None:
+            """Takes something else for what it says."""
+
+
+@record(frozen=True)
+class Option:
+    """An option: its names, under which name its value is kept, and what help calls that; a flag has none.
+
+    One that is `many` may be given again, and keeps a list. Help says nothing of one that is `hidden`.
+    """
+
+    names: Tuple[str, ...]
+    to: str
+    metavar: Optional[str] = None
+    help: str = ""
+    choices: Tuple[str, ...] = ()
+    default: Union[None, bool, str] = None
+    many: bool = False
+    hidden: bool = False
+    number: bool = False
+
+
+def option(*names: str, metavar: str = "", help: str = "", to: str = "", choices: Tuple[str, ...] = (),
+           default: Optional[str] = None, many: bool = False) -> Option:
+    """An option with a value."""
+    return Option(names, to or names[-1].lstrip("-").replace("-", "_"), metavar, help, choices, default, many)
+
+
+def flag(*names: str, help: str = "", hidden: bool = False) -> Option:
+    """An option without a value."""
+    return Option(names, names[-1].lstrip("-").replace("-", "_"), None, help, (), False, False, hidden)
+
+
+@record(frozen=True)
 class Command:
-    """A subcommand: its words, one line on it, more on it, examples, and what does it."""
+    """A subcommand: its words, one line on it, what does it, more on it, examples, and its options."""
 
     words: str
     brief: str
     act: Callable[[Run], int]
     more: str
     example: str
-    options: Tuple[Callable[[argparse.ArgumentParser], object], ...] = ()
+    options: Tuple[Option, ...] = ()
     begins: bool = False
     """Whether it begins a folder, and so needs none."""
     signed: bool = False
     """Whether a word may begin with a minus and a letter, and be no option."""
-
-
-def option(*names: str, **kind: Any) -> Callable[[argparse.ArgumentParser], object]:
-    """An option of a subcommand, as argparse takes it."""
-    return lambda parser: parser.add_argument(*names, **kind)
-
-
-def flag(*names: str, help: str) -> Callable[[argparse.ArgumentParser], object]:
-    """An option without a value."""
-    return option(*names, action="store_true", help=help)
 
 
 INBOX = "inbox.org"
@@ -49,90 +83,113 @@ NAMING = ("HEADING is a path (Work/Pay rent), a part of a title that only one he
           "of ls, find or grep -n. Without FILE it is looked for in all files.")
 READS = "Reads the files alone: it works while a store is open."
 
+COMMON = (
+    Option(("-C",), "directory", "DIR", hidden=True), Option(("--states",), "states", "STATES", hidden=True),
+    Option(("--wait",), "wait", "WAIT", hidden=True, number=True),
+    flag("--json", hidden=True), flag("-q", "--quiet", hidden=True),
+    flag("-h", "--help", help="show this help message and exit", hidden=True))
+"""The options of every command, which may stand before it and behind it."""
 
-def add_common(parser: argparse.ArgumentParser) -> None:
-    """The options of every command, which may stand before it and behind it."""
-    unsaid: Dict[str, Any] = {"default": argparse.SUPPRESS, "help": argparse.SUPPRESS}
-    parser.add_argument("-C", dest="directory", metavar="DIR", **unsaid)
-    parser.add_argument("--states", **unsaid)
-    parser.add_argument("--wait", type=float, **unsaid)
-    parser.add_argument("--json", action="store_true", **unsaid)
-    parser.add_argument("-q", "--quiet", action="store_true", **unsaid)
-
-
-class Parser(argparse.ArgumentParser):
-    """A parser whose faults go where somebody takes them."""
-
-    def _print_message(self, message: str, file: Optional[IO[str]] = None) -> None:
-        if file is sys.stdout:
-            streams.write(message)
-        else:
-            streams.tell(message)
-
-
-class Help(argparse.HelpFormatter):
-    """Fills the description, and keeps the lines of the example."""
-
-    def _fill_text(self, text: str, width: int, indent: str) -> str:
-        return text if text.startswith("example:") else super()._fill_text(text, width, indent)
-
-
-def command_parser(name: str, command: Command) -> argparse.ArgumentParser:
-    """Reads the options of a subcommand, and has its help."""
-    example = "example:\n" + "".join("    %s\n" % line for line in command.example.split("\n"))
-    parser = Parser(prog="orgs " + name, usage=" ".join(["orgs", name, command.words, "[options]"]),
-                    description="%s. %s" % (command.brief.capitalize(), command.more), epilog=example,
-                    formatter_class=Help, allow_abbrev=False)
-    for add in command.options:
-        add(parser)
-    add_common(parser)
-    return parser
-
-
+TOP = (*COMMON, flag("--version", hidden=True))
 USAGE_LINE = "orgs [-C DIR] [--states STATES] [--json] COMMAND .."
 
-
-def top_parser() -> argparse.ArgumentParser:
-    """Reads what stands before the subcommand."""
-    parser = Parser(prog="orgs", usage=USAGE_LINE, add_help=False, allow_abbrev=False)
-    add_common(parser)
-    parser.add_argument("-h", "--help", action="store_true")
-    parser.add_argument("--version", action="store_true")
-    parser.add_argument("command", nargs="?")
-    parser.add_argument("rest", nargs=argparse.REMAINDER)
-    return parser
-
-
-# what argparse sees in front of a word that begins with a minus and is no option
-_KEPT = "\0"
 # a date or a moment that begins with a minus, and the options that take one
-_BACK = re.compile(r"--?(?:\d+(?:[dwmyh]|min)?|\d*(?:mon|tue|wed|thu|fri|sat|sun)[a-z]*)(?: .*)?", re.IGNORECASE)
+_BACK = pattern(r"(?i)--?(?:\d+(?:[dwmyh]|min)?|\d*(?:mon|tue|wed|thu|fri|sat|sun)[a-z]*)(?: .*)?")
 _DATED = ("--at", "--from", "--before", "--after", "--scheduled", "--deadline")
+_NEGATIVE = pattern(r"-\d+|-\d*\.\d+")
+_SIGNED = pattern(r"-[^-]|--\d")
 
 
-def prepared(words: List[str], signed: bool) -> List[str]:
-    """The words as argparse takes them for what they are: `--porcelain=2` as an option of its own, a date that begins
-    with a minus behind the equals sign of its option; where it is signed, no other word with a minus is an option."""
-    found: List[str] = []
-    for word in words:
-        if found and found[-1] in _DATED and _BACK.fullmatch(word):
-            found[-1] += "=" + word
-        elif word in ("--porcelain=1", "--porcelain=2"):
-            found.append("--porcelain" if word.endswith("1") else "--porcelain-2")
-        elif signed and re.match(r"-[^-]|--\d", word) and word not in ("-f", "-C", "-q", "-h"):
-            found.append(_KEPT + word)
-        else:
-            found.append(word)
-    return found
+class Reader:
+    """Reads words: options, which go into `into`, and others, which are answered."""
+
+    def __init__(self, options: Sequence[Option], into: Options, signed: bool = False) -> None:
+        self._known = {name: option for option in options for name in option.names}
+        self._into, self._signed = into, signed
+
+    def read(self, words: Iterable[str], first: bool = False) -> List[str]:
+        """The words that are no options, up to a `--` and all behind it; where only the first is asked for, it and
+        all behind it. Raises `Usage` for an option that there isn't, and for one without its value."""
+        plain: List[str] = []
+        left = list(words)[::-1]
+        while left:
+            word = left.pop()
+            if word == "--" or first and not self._is_option(word):
+                return plain + ([] if word == "--" and not first else [word]) + left[::-1]
+            if self._is_option(word):
+                self._take(word, left)
+            else:
+                plain.append(word)
+        return plain
+
+    def _is_option(self, word: str) -> bool:
+        """Whether a word is an option: one with a blank is none, nor is a number, or a word with a sign where it may
+        have one."""
+        if not word.startswith("-") or word == "-":
+            return False
+        if word in self._known:
+            return word in ("-f", "-C", "-q", "-h") or not self._signed or not _SIGNED.match(word)
+        if self._signed and _SIGNED.match(word):
+            return False
+        return word.partition("=")[0] in self._known or " " not in word and not _NEGATIVE.fullmatch(word)
+
+    def _take(self, word: str, left: List[str]) -> None:
+        """Takes an option, and its value from the words that are left."""
+        name, equals, value = word.partition("=")
+        if word in self._known:
+            name, equals = word, ""
+        elif word.startswith("--porcelain="):
+            name, equals = {"1": "--porcelain", "2": "--porcelain-2"}.get(value, name), ""
+        elif not word.startswith("--"):
+            name, equals, value = word[:2], word[2:3], word[2:].removeprefix("=")
+        option = self._known.get(name)
+        if option is None:
+            raise Usage("unknown option %s" % word)
+        if option.metavar is not None:
+            self._keep(option, value if equals else self._value(option, name, left))
+            return
+        setattr(self._into, option.to, True)
+        if equals and word.startswith("--"):
+            raise Usage("argument %s: it takes no value" % name)
+        if equals:
+            left.append("-" + word[2:])
+
+    def _value(self, option: Option, name: str, left: List[str]) -> str:
+        """The value of an option from the words behind it."""
+        word = left[-1] if left else "--"
+        if word != "--" and (not self._is_option(word) or name in _DATED and _BACK.fullmatch(word)):
+            return left.pop()
+        raise Usage("argument %s: expected one argument" % "/".join(option.names))
+
+    def _keep(self, option: Option, value: str) -> None:
+        """Keeps the value of an option."""
+        if option.choices and value not in option.choices:
+            raise Usage("argument %s: invalid choice: '%s' (choose from %s)"
+                        % ("/".join(option.names), value, ", ".join(option.choices)))
+        kept: Any = value
+        if option.number:
+            try:
+                kept = float(value)
+            except ValueError:
+                raise Usage("argument %s: '%s' is no number" % ("/".join(option.names), value)) from None
+        if option.many:
+            kept = [*getattr(self._into, option.to), value]
+        setattr(self._into, option.to, kept)
 
 
-def words_of(parser: argparse.ArgumentParser, options: argparse.Namespace, given: List[str],
-             signed: bool = False) -> List[str]:
+def defaults(options: Iterable[Option]) -> Dict[str, Any]:
+    """What options say that aren't given."""
+    return {option.to: [] if option.many else option.default for option in options}
+
+
+def words_of(command: Command, options: Options, given: Sequence[str]) -> List[str]:
     """Reads the options of a subcommand, wherever they stand before a '--', and answers the words that are left. Where
-    it is signed, a minus begins none but -f, -C, -q and -h."""
-    cut = given.index("--") if "--" in given else len(given)
-    _, words = parser.parse_known_args(prepared(given[:cut], signed), options)
-    unknown = [word for word in words if word.startswith("-") and word != "-"]
-    if unknown:
-        parser.error("unknown option %s" % unknown[0])
-    return [word[len(_KEPT):] if word.startswith(_KEPT) else word for word in words] + given[cut + 1:]
+    it is signed, a minus begins none but -f, -C, -q and -h. Raises `Usage`."""
+    for name, value in defaults(command.options).items():
+        setattr(options, name, value)
+    return Reader((*COMMON, *command.options), options, command.signed).read(given)
+
+
+def usage(name: str, command: Optional[Command]) -> str:
+    """The line on how a subcommand is called, or `orgs` itself."""
+    return "usage: %s\n" % (" ".join(["orgs", name, command.words, "[options]"]) if command else USAGE_LINE)

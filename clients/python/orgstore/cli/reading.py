@@ -1,40 +1,46 @@
 """`orgs ls`, `orgs find` and `orgs show`."""
 from __future__ import annotations
 
-import argparse
-import datetime
 import os
-from typing import Dict, List, Optional, Tuple
 
-from ..entry import Entry as AnyEntry
 from ..filters import Filter, due, ordered
-from ..outline import Outline
+from ..light import TYPE_CHECKING
 from ..section import BLANKS
-from ..store import Store
-from .entries import Entry, Place, headline
+from .entries import headline
 from .finding import choice, entries_in
 from .parsing import FILE_OPTION, NAMING, READS, Command, flag, option
 from .report import colours, shown
-from .run import Run
-from .stops import OK, REFUSED, Titles, Usage
+from .stops import OK, REFUSED, Usage
+
+if TYPE_CHECKING:
+    import datetime
+    from typing import Dict, List, Optional, Tuple
+
+    from ..entry import Entry as AnyEntry
+    from ..outline import Outline
+    from ..store import Store
+    from .entries import Entry
+    from .naming import Place
+    from .run import Run
+    from .stops import Titles
 
 LIST_OPTIONS = (
     FILE_OPTION,
     flag("--todo", help="only headings in an active state"),
     flag("--done", help="only headings in a done state"),
-    option("--state", action="append", default=[], metavar="STATE", help="only in this state; may be given again"),
-    option("--tag", action="append", default=[], metavar="TAG", help="only with this tag, own or inherited; -TAG: not"),
-    option("--priority", action="append", default=[], metavar="A", help="only of this priority; may be given again"),
-    option("--prop", action="append", default=[], metavar="NAME=VALUE", help="only with this property; or NAME alone"),
+    option("--state", many=True, metavar="STATE", help="only in this state; may be given again"),
+    option("--tag", many=True, metavar="TAG", help="only with this tag, own or inherited; -TAG: not"),
+    option("--priority", many=True, metavar="A", help="only of this priority; may be given again"),
+    option("--prop", many=True, metavar="NAME=VALUE", help="only with this property; or NAME alone"),
     option("--before", metavar="DATE", help="only what is due before: its deadline, or when it is scheduled"),
     option("--after", metavar="DATE", help="only what is due after"),
     flag("-a", "--archives", help="archive files too"))
 READ_OPTIONS = (
     *LIST_OPTIONS,
-    option("--sort", choices=["due", "priority", "file"], default="file", help="the order; else that of the files"),
+    option("--sort", choices=("due", "priority", "file"), default="file", help="the order; else that of the files"),
     flag("--porcelain", help="FILE:LINE LEVEL STATE PRIORITY TAGS PATH, tabs between; --porcelain=2 adds SCHEDULED "
          "DEADLINE CLOSED ID"),
-    option("--porcelain-2", action="store_true", help=argparse.SUPPRESS))
+    flag("--porcelain-2", hidden=True))
 
 
 def pretty(run: Run, entry: Entry, width: int) -> str:
@@ -53,13 +59,17 @@ def coloured(entry: AnyEntry) -> str:
 
 def say_entries(run: Run, entries: List[Entry], notes: Optional[List[str]] = None) -> None:
     """Lists headings, each with its note."""
-    width = max((len(entry.place) for entry in entries), default=0)
-    for number, entry in enumerate(entries):
-        if (run.options.porcelain or run.options.porcelain_2) and not run.report.as_json:
-            run.report.print(entry.porcelain(2 if run.options.porcelain_2 else 1) + "\n")
-        else:
-            note = notes[number] if notes else ""
-            run.report.say(pretty(run, entry, width) + note, reply="heading", **entry.fields())
+    if run.report.as_json:
+        for entry in entries:
+            run.report.print_object({"reply": "heading", **entry.fields()})
+    elif run.options.porcelain or run.options.porcelain_2:
+        version = 2 if run.options.porcelain_2 else 1
+        run.report.print("".join(entry.porcelain(version) + "\n" for entry in entries))
+    else:
+        width = max((len(entry.place) for entry in entries), default=0)
+        behind = notes or [""] * len(entries)
+        rows = (pretty(run, entry, width) + note + "\n" for entry, note in zip(entries, behind))
+        run.report.print("".join(rows))
 
 
 def filter_of(run: Run) -> Filter:
@@ -75,7 +85,9 @@ def day_of(name: str, text: Optional[str]) -> Optional[datetime.date]:
     """The day that an option names."""
     if text is None:
         return None
-    from ..dates import read  # rarely needed, and slow to load
+    import datetime  # rarely needed, and slow to load
+
+    from ..dates import read
 
     try:
         return read(text, datetime.datetime.now()).day

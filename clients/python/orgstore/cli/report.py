@@ -2,33 +2,36 @@
 from __future__ import annotations
 
 import os
-import re
-import signal
 import sys
-from dataclasses import dataclass, field
-from typing import Any, Dict, Optional, Union
 
+from ..light import TYPE_CHECKING, pattern, signals
 from . import streams
-from .stops import FAULT, OK, Stop
+from .stops import FAULT, OK
+
+if TYPE_CHECKING:
+    from typing import Any, Dict, Optional, Union
+
+    from .stops import Stop
+
+_CONTROL = pattern(r"[\x00-\x08\x0a-\x1f\x7f-\x9f]")
 
 
 def shown(text: str) -> str:
     """A text of a file for people: a terminal gets no control characters from it."""
-    if sys.stdout.isatty() or sys.stderr.isatty():
-        return re.sub(r"[\x00-\x08\x0a-\x1f\x7f-\x9f]", "?", text)
-    return text
+    if text.isprintable() or not (sys.stdout.isatty() or sys.stderr.isatty()):
+        return text
+    return _CONTROL.sub("?", text)
 
 
-@dataclass
 class Report:
     """Says what happened: lines for people, or with --json one object a line on standard output."""
 
-    as_json: bool
-    quiet: bool = False
-    acknowledged: bool = False
-    """Whether a command of this run is on the disk: then the run has done its work, whoever hears of it."""
-    unheard: Optional[OSError] = None
-    """Why standard output takes no more."""
+    def __init__(self, as_json: bool, quiet: bool = False) -> None:
+        self.as_json, self.quiet = as_json, quiet
+        self.acknowledged = False
+        """Whether a command of this run is on the disk: then the run has done its work, whoever hears of it."""
+        self.unheard: Optional[OSError] = None
+        """Why standard output takes no more."""
 
     def print(self, text: Union[str, bytes]) -> None:
         """Writes to standard output, as long as that takes it."""
@@ -81,7 +84,7 @@ class Report:
         if self.unheard is None or self.acknowledged or status != OK:
             return status
         if isinstance(self.unheard, BrokenPipeError):
-            return 128 + signal.SIGPIPE
+            return 128 + signals.SIGPIPE
         streams.tell("orgs: %s\n" % self.unheard)
         return FAULT
 
@@ -118,13 +121,11 @@ def colours() -> bool:
     return sys.stdout.isatty() and not os.environ.get("NO_COLOR")
 
 
-@dataclass
 class Progress:
     """A bar on standard error, at a terminal alone."""
 
-    verb: str
-    total: int
-    shown: bool = field(default_factory=lambda: sys.stderr.isatty())
+    def __init__(self, verb: str, total: int) -> None:
+        self.verb, self.total, self.shown = verb, total, sys.stderr.isatty()
 
     def show(self, done: int, safe: int) -> None:
         """Draws how many are done, and how many of them are safe."""

@@ -1,34 +1,40 @@
 """One run of a command of `orgs`: its options, its words, and where it works."""
 from __future__ import annotations
 
-import argparse
-import contextlib
-import datetime
-import functools
 import os
-from dataclasses import dataclass
-from typing import Any, Callable, Dict, Iterable, Iterator, List, Optional, Sequence, Tuple, TypeVar
+import time
 
-from ..commands import Done
-from ..errors import CannotRead, CannotWrite, Refused
+from ..errors import CannotRead, CannotWrite
 from ..folder import Folder
-from ..heading import States
-from ..journal import JOURNAL
+from ..keywords import States
+from ..light import TYPE_CHECKING, cached
 from ..lines import steps
-from ..names import ARCHIVE, own_name
+from ..names import ARCHIVE, JOURNAL, own_name
 from ..settings import SETTINGS, settings
-from ..store import Store
-from .entries import FILE_LINE, LISTED, Ambiguous, Entry, Place, choose, named, names_file
-from .finding import existing, file_of, find
-from .report import Report, at_terminal, shown
-from .stops import OK, Stop, Titles, Usage, cannot, cannot_write, refusal
+from .naming import FILE_LINE, LISTED, Place, existing, file_of, named, names_file
+from .report import at_terminal, shown
+from .stops import OK, Usage, cannot, cannot_write, refusal
 from .waiting import waiting
 
-Result = TypeVar("Result")
+if TYPE_CHECKING:
+    import datetime
+    from typing import Any, Callable, Dict, Iterable, List, Optional, Sequence, Tuple, TypeVar
+
+    from ..commands import Done
+    from ..errors import Refused
+    from ..store import Store
+    from .entries import Entry
+    from .parsing import Options
+    from .report import Report
+    from .stops import Stop, Titles
+
+    Result = TypeVar("Result")
 
 
 def moment_of(text: Optional[str]) -> datetime.datetime:
     """--at, else this minute."""
+    import datetime  # slow to load, and not needed by a capture
+
     now = datetime.datetime.now().replace(second=0, microsecond=0)
     if text is None:
         return now
@@ -69,23 +75,30 @@ def advice(refused: Refused, entry: str, states: States, more: str = "") -> str:
     return says[refused.name] % (entry, more)
 
 
-@dataclass
 class Run:
     """One run of a command: its options, the words that are left, and where it works."""
 
-    options: argparse.Namespace
-    words: List[str]
-    report: Report
-    said: str = ""
-    """What was said of the command that is done."""
+    def __init__(self, options: Options, words: List[str], report: Report) -> None:
+        self.options, self.words, self.report = options, words, report
+        self.said = ""
+        """What was said of the command that is done."""
 
-    @functools.cached_property
+    @cached
+    def path(self) -> str:
+        """The folder that is meant."""
+        return find_folder(self.options.directory)
+
+    @cached
+    def settings(self) -> Dict[str, str]:
+        """What the folder's .orgstore says."""
+        return settings_of(self.path)
+
+    @cached
     def folder(self) -> Folder:
         """The folder that is meant, with its states."""
-        path = find_folder(self.options.directory)
-        return Folder(path, read_states(path, self.options.states), self.options.wait)
+        return Folder(self.path, read_states(self.settings, self.options.states), self.options.wait)
 
-    @functools.cached_property
+    @cached
     def moment(self) -> datetime.datetime:
         """--at, else this minute."""
         return moment_of(self.options.at)
@@ -104,6 +117,8 @@ class Run:
         """A place from one word: FILE:LINE, a line of `ls --porcelain`, or a text."""
         if not word:
             raise Usage("an empty HEADING; name one that has no title by its FILE:LINE")
+        if ".org" not in word:
+            return Place(file, word)
         line, listed = FILE_LINE.fullmatch(word), LISTED.fullmatch(word)
         found = listed or line
         if found and names_file(found[1]) and self.folder.has(file_of(self.folder, found[1])):
@@ -155,35 +170,35 @@ class Run:
             states = found[0].outline.states if found else self.folder.states
             only = names or self.folder.names(archives=False)[:1] or None  # a clock that doesn't run is in no file
             with self.folder.open(new=new, states=states, only=only, whole=whole) as store:
-                now = [find(self.folder, Place(entry.file, path=entry.heading.steps)) for entry in found]
+                now = self.find_again(found)
                 missed = [name for name in map(own_name, also(now)) if name not in names and self.folder.has(name)]
                 if missed or now and now[0].outline.states != states:
                     continue  # another program wrote in between
-                with waiting(store), self.recording(names):
+                with waiting(store), Recording(self, names):
                     return act(store, now)
+
+    def find_again(self, found: List[Entry]) -> List[Entry]:
+        """The headings, as the files have them now."""
+        if not found:
+            return []
+        from .finding import find
+
+        return [find(self.folder, Place(entry.file, path=entry.heading.steps)) for entry in found]
 
     def choose_headings(self, places: List[Place]) -> List[Entry]:
         """The headings at places; where several fit one, it asks at a terminal."""
+        if not places:
+            return []
+        from .entries import Ambiguous, choose  # what only captures finds no heading
+        from .finding import find
+
         while True:
             try:
                 return [find(self.folder, place) for place in places]
             except Ambiguous as several:
                 if not at_terminal():
-                    raise several.refused() from None
+                    raise
                 places = [choose(several) if place == several.place else place for place in places]
-
-    @contextlib.contextmanager
-    def recording(self, names: Iterable[str]) -> Iterator[None]:
-        """Keeps what is changed within it in some files and their archives, for `orgs undo`."""
-        if self.options.command in ("show", "time"):
-            yield
-            return
-        files = [file for name in names for file in (name, name + ARCHIVE)]
-        before = {file: self.folder.read(file) for file in files}
-        try:
-            yield
-        finally:
-            self.keep(before)
 
     def keep(self, before: Dict[str, bytes]) -> None:
         """Keeps what became of files since they had these bytes, for `orgs undo`."""
@@ -196,7 +211,7 @@ class Run:
         from ..undo import Log, Record, differences  # not needed by what only reads
 
         changes = [change for file in before for change in differences(file, before[file], after[file])]
-        at = datetime.datetime.now().strftime("%Y-%m-%d %H:%M")
+        at = time.strftime("%Y-%m-%d %H:%M")
         Log(self.folder.path).add(Record(at, self.options.command, self.said, changes))
 
     def done(self, done: Done, text: str, **fields: Any) -> int:
@@ -206,6 +221,22 @@ class Run:
         self.report.say(text, reply="ok", command=self.options.command, accepted=done.accepted, safe=done.safe,
                         **fields)
         return OK
+
+
+class Recording:
+    """Keeps what is changed within it in some files and their archives, for `orgs undo`."""
+
+    def __init__(self, run: Run, names: Iterable[str]) -> None:
+        self._run = run
+        self._files = [] if run.options.command in ("show", "time") else [
+            file for name in names for file in (name, name + ARCHIVE)]
+        self._before: Dict[str, bytes] = {}
+
+    def __enter__(self) -> None:
+        self._before = {file: self._run.folder.read(file) for file in self._files}
+
+    def __exit__(self, *ended: object) -> None:
+        self._run.keep(self._before)
 
 
 def find_folder(given: Optional[str]) -> str:
@@ -225,9 +256,9 @@ def find_folder(given: Optional[str]) -> str:
         at = os.path.dirname(at)
 
 
-def read_states(folder: str, given: Optional[str]) -> States:
+def read_states(settings: Dict[str, str], given: Optional[str]) -> States:
     """--states, else $ORGSTORE_STATES, else the folder's settings, else TODO and DONE."""
-    text = given or os.environ.get("ORGSTORE_STATES") or settings_of(folder).get("states") or "TODO | DONE"
+    text = given or os.environ.get("ORGSTORE_STATES") or settings.get("states") or "TODO | DONE"
     try:
         return States.parse(text)
     except ValueError as fault:

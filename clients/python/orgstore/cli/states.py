@@ -3,17 +3,21 @@ from __future__ import annotations
 
 import os
 import sys
-from typing import Any, Dict, List, Optional, Tuple
 
 from ..commands import Todo
 from ..errors import CannotRead, Refused
 from ..folder import Folder
+from ..light import TYPE_CHECKING
 from ..section import BLANKS, planning
 from ..store import Store
-from .entries import Entry, Place
+from .entries import Entry
+from .naming import Place
 from .parsing import AT_OPTION, FILE_OPTION, NAMING, Command
 from .run import Run, check_state
 from .stops import OK, Stop, Usage
+
+if TYPE_CHECKING:
+    from typing import Any, Dict, List, Optional, Tuple
 
 
 def change_state(run: Run, place: Place, wanted: Optional[str]) -> int:

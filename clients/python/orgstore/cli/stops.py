@@ -1,19 +1,27 @@
 """How a run of `orgs` ends early: its status, and what it says."""
 from __future__ import annotations
 
-from typing import Any, Optional, Tuple
+from ..errors import REFUSALS
+from ..light import TYPE_CHECKING
 
-from ..errors import REFUSALS, CannotWrite
+if TYPE_CHECKING:
+    from typing import Any, Optional, Tuple
+
+    from ..errors import CannotWrite
+
+    Titles = Tuple[str, ...]
 
 OK, REFUSED, USAGE, CANNOT_OPEN, FAULT, INTERRUPTED = 0, 1, 2, 3, 4, 130
 
 CODES = {kind.name: code for code, kind in REFUSALS.items()}
 
-Titles = Tuple[str, ...]
-
 
 class Usage(Exception):
     """The words of the command line make no command."""
+
+
+class Left(Exception):
+    """A run was ended while a command was on its way: whether that is done isn't known."""
 
 
 class Stop(Exception):

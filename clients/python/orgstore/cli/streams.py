@@ -4,7 +4,11 @@ from __future__ import annotations
 import io
 import os
 import sys
-from typing import Union
+
+from ..light import TYPE_CHECKING
+
+if TYPE_CHECKING:
+    from typing import Union
 
 
 def prepare() -> None:
@@ -25,11 +29,11 @@ def prepare() -> None:
 
 def in_utf_8() -> None:
     """Begins the process anew in Python's UTF-8 mode, where the locale has another code: files' names are UTF-8."""
-    if sys.getfilesystemencoding() == "utf-8" or os.environ.get("PYTHONUTF8") == "1":
+    if sys.getfilesystemencoding() == "utf-8" or sys.flags.utf8_mode:
         return
     with open("/proc/self/cmdline", "rb") as file:
-        words = file.read().split(b"\0")[:-1]
-    os.execve(sys.executable, words, {**os.environb, b"PYTHONUTF8": b"1"})
+        words = file.read().split(b"\0")[1:-1]
+    os.execv(sys.executable, [os.fsencode(sys.executable), b"-Xutf8", *words])
 
 
 def write(text: Union[str, bytes]) -> None:

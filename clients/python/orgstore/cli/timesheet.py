@@ -2,15 +2,18 @@
 from __future__ import annotations
 
 import datetime
-from typing import List, Tuple
 
 from ..clocked import Share, by_day, by_heading, shares
+from ..light import TYPE_CHECKING
 from .agenda import DAYS
 from .finding import choice, entries_in
 from .parsing import FILE_OPTION, NAMING, READS, Command, flag, option
 from .reading import day_of, files_to_read, coloured, warn_of_halves
 from .run import Run, hours
 from .stops import OK, Usage
+
+if TYPE_CHECKING:
+    from typing import List, Tuple
 
 
 def clock(run: Run) -> int:
@@ -86,9 +89,9 @@ COMMANDS = {
         NAMING + " A heading's own time is shown, and below HEADING that of each. A clock that runs counts until now. "
         + READS, "orgs clock --week --by day\norgs clock --from mon work.org Work",
         (FILE_OPTION, flag("--week", help="this week, from Monday; else today"),
-         option("--from", dest="first", metavar="DATE", help="from this day until today"),
+         option("--from", to="first", metavar="DATE", help="from this day until today"),
          option("--days", metavar="N", help="so many days from then on"),
-         option("--by", choices=["day", "heading"], default="heading", help="what the time is summed by"),
+         option("--by", choices=("day", "heading"), default="heading", help="what the time is summed by"),
          flag("-a", "--archives", help="archive files too"),
          option("--at", metavar="MOMENT", help="the moment that is taken for now"))),
 }

@@ -1,9 +1,9 @@
 """`orgs undo`."""
 from __future__ import annotations
 
-from typing import Dict, List
 
 from ..errors import NotThere
+from ..light import TYPE_CHECKING
 from ..names import own_name
 from ..undo import Log, Record, taken_back
 from .changing import changed_meanwhile
@@ -12,6 +12,9 @@ from .report import counted
 from .run import Run
 from .stops import OK, Usage, refusal
 from .waiting import waiting
+
+if TYPE_CHECKING:
+    from typing import Dict, List
 
 
 def undo(run: Run) -> int:

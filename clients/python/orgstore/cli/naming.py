@@ -1,0 +1,106 @@
+"""Names of files and headings on a command line: a path, a part of a title, FILE:LINE, a line of `ls` or `grep -n`."""
+from __future__ import annotations
+
+import os
+
+from ..light import TYPE_CHECKING, pattern, record
+from ..lines import Nth, path_text, steps
+from ..names import is_file_name
+from .report import shown
+from .stops import refusal
+
+if TYPE_CHECKING:
+    from typing import Callable, List, Optional, Sequence, Tuple
+
+    from ..folder import Folder
+    from ..heading import Heading
+    from ..kinds import Step
+    from .entries import Entry
+    from .stops import Stop
+
+# FILE:LINE, as editors and grep -n print it with a column or the line's text behind it, and as ls does
+FILE_LINE = pattern(r"(?s)(.*?\.org(?:_archive)?):([0-9]+)(?::(?:[0-9]+(?::|$))?(.*)|[ ]+([^ ].*))?")
+# a line of `orgs ls --porcelain`
+LISTED = pattern(r"([^\t]*\.org(?:_archive)?):[0-9]+\t[0-9]+\t[^\t]*\t[^\t]*\t[^\t]*\t([^\t]*)")
+
+
+def named(file: str, path: Sequence[Step]) -> str:
+    """A heading as messages name it."""
+    return "%s: %s" % (file, shown(path_text(path)))
+
+
+def file_of(folder: Folder, word: str) -> str:
+    """A file's name, where it is given with the way to it."""
+    way, name = os.path.split(word)
+    if way:
+        try:
+            same = os.path.samefile(way, folder.path)
+        except OSError:
+            same = False
+        if not same:
+            raise refusal("NoSuchFile", "%s isn't in the folder %s; name its folder with -C DIR"
+                          % (word, folder.path), word)
+    return name
+
+
+def existing(folder: Folder, word: str) -> str:
+    """The name of a file that has to be there."""
+    name = file_of(folder, word)
+    if not folder.has(name):
+        raise no_file(folder, name)
+    return name
+
+
+def no_file(folder: Folder, name: str) -> Stop:
+    """The refusal of a file that isn't there."""
+    return refusal("NoSuchFile", "%s isn't in the folder %s; `orgs ls --files` lists what is, and `orgs capture %s "
+                   "TITLE` makes it" % (name, folder.path, name), name)
+
+
+def names_file(word: str) -> bool:
+    """Whether a word is a file's name, or the way to one."""
+    way, name = os.path.split(word)
+    return is_file_name(name) and (not way or os.path.isdir(way))
+
+
+@record(frozen=True)
+class Place:
+    """Where a heading is looked for: in a file or in all, by a text, by its path, or by a line: with what `grep`
+    printed of it, what `ls` did, or alone."""
+
+    file: Optional[str]
+    text: str = ""
+    line: Optional[int] = None
+    stood: str = ""
+    listed: str = ""
+    path: Optional[Tuple[Step, ...]] = None
+
+    def among(self, found: List[Entry]) -> List[Entry]:
+        """The headings that are meant: those at the path, else of the title, else whose title has the text in it."""
+        if self.path is not None:
+            return [entry for entry in found if leads_to(self.path, entry.heading)]
+        exact, text = steps(self.text, strict=False), self.text.casefold()
+        ways: List[Callable[[Heading], bool]] = [
+            lambda heading: leads_to(exact, heading), lambda heading: heading.title == self.text,
+            lambda heading: text in heading.title.casefold(), lambda heading: reaches(heading, text)]
+        fitting = ([entry for entry in found if fits(entry.heading)] for fits in ways)
+        return next(filter(None, fitting), [])
+
+
+def leads_to(path: Sequence[Step], heading: Heading) -> bool:
+    """Whether a path leads to a heading; a step without a number leads to all of its title."""
+    def fits(wanted: Step, step: Step) -> bool:
+        if isinstance(wanted, Nth):
+            return wanted == step or wanted.number == 1 and wanted.title == step
+        return wanted == (step.title if isinstance(step, Nth) else step)
+
+    return len(path) == len(heading.steps) and all(map(fits, path, heading.steps))
+
+
+def reaches(heading: Heading, text: str) -> bool:
+    """Whether a part of a path, with slashes, is in the heading's path and ends in its own title."""
+    if "/" not in text:
+        return False
+    whole = path_text(heading.path).casefold()
+    at = whole.rfind(text)
+    return at >= 0 and at + len(text) > whole.rfind("/") + 1

@@ -1,0 +1,125 @@
+"""Stand-ins for modules of the standard library that take longer to load than a command of `orgs` takes.
+
+`record` is `dataclasses.dataclass`, `pattern` is `re.compile` and `cached` is `functools.cached_property`, as far as
+this package uses them; `signals` is `signal` without its enumerations. Type checkers see the originals. What a command
+seldom needs is imported where it is needed.
+"""
+from __future__ import annotations
+
+__all__ = ["TYPE_CHECKING", "cached", "cast", "pattern", "record", "signals"]
+
+TYPE_CHECKING = False
+if TYPE_CHECKING:
+    from dataclasses import dataclass as record
+    from functools import cached_property as cached
+    from re import compile as pattern
+    from typing import cast
+    import signal as signals
+else:
+    import _signal as signals
+
+    def cast(kind, value):
+        """The value, which is of this kind."""
+        return value
+
+    class pattern:
+        """A regular expression that is compiled when it is used first. Flags stand in the text, as `(?m)`."""
+
+        def __init__(self, text):
+            self._text = text
+
+        def __getattr__(self, name):
+            import re
+
+            compiled = re.compile(self._text)
+            for method in ("findall", "finditer", "fullmatch", "match", "search", "split", "sub"):
+                setattr(self, method, getattr(compiled, method))
+            return getattr(compiled, name)
+
+    class cached:
+        """A property that is read once."""
+
+        def __init__(self, read):
+            self._read, self.__doc__ = read, read.__doc__
+
+        def __set_name__(self, owner, name):
+            self._name = name
+
+        def __get__(self, instance, owner=None):
+            if instance is None:
+                return self
+            value = instance.__dict__[self._name] = self._read(instance)
+            return value
+
+    def record(kind=None, *, frozen=False):
+        """Makes a class one of values: it is made of its annotated fields, shown by them, and equal by them."""
+        if kind is None:
+            return lambda kind: record(kind, frozen=frozen)
+        before = getattr(kind, "__match_args__", ())
+        kind.__match_args__ = (*before, *(name for name in getattr(kind, "__annotations__", ()) if name not in before))
+        for method in (_make, _show, _equals, *((_hash, _refuse, _refuse_delete) if frozen else ())):
+            if method.__name__ not in kind.__dict__:
+                setattr(kind, method.__name__, method)
+        if not frozen:
+            kind.__hash__ = None
+        kind.__signature__, kind.__dataclass_fields__ = _Like("signature"), _Like("fields")
+        return kind
+
+    def _make(self, *values, **named):
+        names = self.__match_args__
+        if len(values) > len(names):
+            raise TypeError("%s has %d fields, not %d" % (type(self).__name__, len(names), len(values)))
+        fields = self.__dict__
+        fields.update(zip(names, values))
+        for name, value in named.items():
+            if name in fields or name not in names:
+                raise TypeError("%s: the field %r is given twice, or there is none" % (type(self).__name__, name))
+            fields[name] = value
+        if len(fields) < len(names):
+            for name in names:
+                if name not in fields:
+                    if not hasattr(type(self), name):
+                        raise TypeError("%s: the field %r is missing" % (type(self).__name__, name))
+                    fields[name] = getattr(type(self), name)
+        after = getattr(self, "__post_init__", None)
+        if after:
+            after()
+
+    def _values(made):
+        return tuple(made.__dict__[name] for name in made.__match_args__)
+
+    def _show(self):
+        fields = zip(self.__match_args__, _values(self))
+        return "%s(%s)" % (type(self).__qualname__, ", ".join("%s=%r" % field for field in fields))
+
+    def _equals(self, other):
+        return _values(self) == _values(other) if type(other) is type(self) else NotImplemented
+
+    def _hash(self):
+        return hash(_values(self))
+
+    def _refuse(self, name, value):
+        raise AttributeError("cannot assign to field %r" % name)
+
+    def _refuse_delete(self, name):
+        raise AttributeError("cannot delete field %r" % name)
+
+    for _method, _name in ((_make, "__init__"), (_show, "__repr__"), (_equals, "__eq__"), (_hash, "__hash__"),
+                           (_refuse, "__setattr__"), (_refuse_delete, "__delattr__")):
+        _method.__name__ = _name
+
+    class _Like:
+        """What `inspect` and `dataclasses` ask a record for, made when they ask."""
+
+        def __init__(self, what):
+            self._what = what
+
+        def __get__(self, instance, owner):
+            import dataclasses
+            import inspect
+
+            rows = []
+            for name in owner.__match_args__:
+                rows.append((name, "object", getattr(owner, name)) if hasattr(owner, name) else (name, "object"))
+            like = dataclasses.make_dataclass(owner.__name__, rows)
+            return inspect.signature(like) if self._what == "signature" else like.__dataclass_fields__
