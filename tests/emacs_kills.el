@@ -124,11 +124,14 @@
   (let ((trouble (getenv "KILLS_TROUBLE")))
     (pcase trouble
       ("full" (write-region "full 1\n" nil (getenv "KILLS_PLAN") nil 'quiet))
+      ("read-only" (set-file-modes (kills-file "b.org") #o444))
       ("writer"
        (write-region "* Box\nwritten by another\n" nil (kills-file "b.org") nil 'quiet)
        (set-file-times (kills-file "b.org") (time-add nil 60))
        (push (cons "b.org" "* Box\nwritten by another\n") kills-before)))
-    (cl-letf (((symbol-function 'yes-or-no-p) #'ignore)
+    ;; Not even the buffer shall be read-only.
+    (cl-letf (((symbol-function 'y-or-n-p) #'ignore)
+              ((symbol-function 'yes-or-no-p) #'ignore)
               ((symbol-function 'userlock--ask-user-about-supersession-threat) #'ignore))
       (kills-go "a.org" "E00")
       (condition-case err (org-refile nil nil (kills-box "b.org"))

@@ -11,6 +11,7 @@
 
 (require 'org)
 (require 'org-archive)
+(require 'seq)
 (require 'orgstore-step)
 
 (defvar org-element--cache-interrupt-C-g) ; Else Org 9.7 takes a quit for its own.

@@ -12,8 +12,6 @@
 
 ;;; Code:
 
-(require 'seq)
-
 (defconst orgstore--piece 250000
   "The greatest number of bytes that one line takes away, and that it puts in.
 Four times as many, all escaped, are less than the program's limit of a line.")
@@ -99,15 +97,16 @@ AT, or 0, is the position of OLD in its file."
                        (- (length new) (length old)))
                      edits)))
 
-(defun orgstore--patched (bytes edits)
-  "Return BYTES after EDITS, or nil where they don't fit."
+(defun orgstore--patched (bytes edits &optional at)
+  "Return BYTES after EDITS, or nil where they don't fit.
+AT, or 0, is the position of BYTES in their file."
   (with-temp-buffer
     (set-buffer-multibyte nil)
     (insert bytes)
     (and (seq-every-p
-          (pcase-lambda (`(,at ,old ,new))
-            (let* ((from (1+ at)) (to (+ from (length old))))
-              (when (and (<= to (point-max))
+          (pcase-lambda (`(,from ,old ,new))
+            (let* ((from (- (1+ from) (or at 0))) (to (+ from (length old))))
+              (when (and (<= 1 from to (point-max))
                          (string= old (buffer-substring from to)))
                 (delete-region from to)
                 (goto-char from)

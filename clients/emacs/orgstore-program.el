@@ -11,9 +11,9 @@
 
 ;;; Code:
 
-(require 'seq)
+;; In Emacs 28 cl-lib and seq take 40 ms: not at the start, where nothing needs them.
 (require 'subr-x)
-(eval-when-compile (require 'rx))
+(eval-when-compile (require 'cl-lib) (require 'rx))
 
 (defgroup orgstore nil
   "Org's changes as crash-safe steps."
@@ -55,27 +55,27 @@ whose names begin with a dot."
 
 (defun orgstore--root-p (dir)
   "Whether DIR, a true name that ends in a slash, is a served folder."
-  (seq-some (lambda (it)
-              (unless (file-remote-p it)
-                (let ((top (file-name-as-directory (file-truename it))))
-                  (and (string-prefix-p top dir)
-                       (not (string-match-p
-                             "\\`\\.\\|/\\." (substring dir (length top))))))))
-            (ensure-list orgstore-directory)))
+  (let (found)
+    (dolist (it (ensure-list orgstore-directory) found)
+      (unless (or found (file-remote-p it))
+        (let ((top (file-name-as-directory (file-truename it))))
+          (setq found (and (string-prefix-p top dir)
+                           (not (string-match-p
+                                 "\\`\\.\\|/\\."
+                                 (substring dir (length top)))))))))))
 
 (defun orgstore--file-place (file)
   "Return (ROOT . NAME) where FILE is served, else nil.
 A link is of the folder that it leads to, else of that in which it stands."
   (when (and file orgstore-directory (not (file-remote-p file)))
-    (let ((file (expand-file-name file)))
-      (seq-some (lambda (it)
-                  (let ((dir (file-name-directory it))
-                        (name (file-name-nondirectory it)))
-                    (and (orgstore--name-p name) (orgstore--root-p dir)
-                         (cons dir name))))
-                (list (file-truename file)
-                      (concat (file-truename (file-name-directory file))
-                              (file-name-nondirectory file)))))))
+    (let* ((file (expand-file-name file))
+           (name (file-name-nondirectory file))
+           (true (file-truename file)))
+      (cl-flet ((place (dir name) (and (orgstore--name-p name)
+                                       (orgstore--root-p dir)
+                                       (cons dir name))))
+        (or (place (file-name-directory true) (file-name-nondirectory true))
+            (place (file-truename (file-name-directory file)) name))))))
 
 (defun orgstore--place (&optional buffer)
   "Return (ROOT . NAME) where BUFFER, or this one, visits a served file."
@@ -106,9 +106,9 @@ With FROM and TO those between these positions alone."
 
 (defun orgstore--arguments (root names)
   "Return the program's arguments, for the files NAMES of the folder ROOT."
-  (let ((names (seq-uniq (mapcar (lambda (it)
-                                   (string-remove-suffix "_archive" it))
-                                 names))))
+  (let ((names (delete-dups (mapcar (lambda (it)
+                                      (string-remove-suffix "_archive" it))
+                                    names))))
     (mapcar (lambda (it) (encode-coding-string it 'utf-8-unix t))
             (cons (directory-file-name root)
                   (cons "--whole"
@@ -130,21 +130,20 @@ nor other processes are served meanwhile: one might write a file of the store."
 (defun orgstore--run-once (program root names lines)
   "Run PROGRAM at ROOT for the files NAMES over LINES, bytes.
 Return (STATUS . OUTPUT); STATUS is of `orgstore--await', or the symbol quit."
-  (let ((default-directory temporary-file-directory)
-        (input (make-temp-file "orgstore-"))
-        (write-region-inhibit-fsync t)
-        (coding-system-for-write 'no-conversion)
-        process status)
+  (let* ((default-directory temporary-file-directory)
+         (write-region-inhibit-fsync t)
+         (coding-system-for-write 'no-conversion)
+         (input (make-temp-file "orgstore-"))
+         process status)
     (with-temp-buffer
       (set-buffer-multibyte nil)
       (unwind-protect
           (progn
             (write-region lines nil input nil 'quiet)
             (setq process (make-process
-                           :name "orgstore" :buffer (current-buffer)
-                           :noquery t :connection-type 'pipe
-                           :coding 'no-conversion :sentinel #'ignore
-                           :command
+                           :name "orgstore" :buffer (current-buffer) :noquery t
+                           :connection-type 'pipe :coding 'no-conversion
+                           :sentinel #'ignore :command
                            `("/bin/sh" "-c"
                              "in=$1; shift; exec \"$0\" \"$@\" <\"$in\""
                              ,program ,input

@@ -15,8 +15,7 @@
 
 ;;; Code:
 
-(require 'cl-lib)
-(require 'seq)
+(eval-when-compile (require 'cl-lib))
 (require 'orgstore-program)
 (require 'orgstore-diff)
 
@@ -99,10 +98,6 @@ This is the first of `after-change-functions'."
     (remove-hook 'after-change-functions #'orgstore--after-change t)
     (kill-local-variable 'orgstore--watch)))
 
-(defun orgstore--span ()
-  "Return a new span of this buffer."
-  (cons (buffer-size) (buffer-size)))
-
 (defun orgstore--edges (span)
   "Return (FROM . TO): between these positions this widened buffer changed.
 SPAN says so."
@@ -122,7 +117,7 @@ SPAN says so."
                ;; Raw bytes are longer in Emacs.
                (= size (1- (save-restriction
                              (widen) (position-bytes (point-max)))))
-               (orgstore--span)))))
+               (cons (buffer-size) (buffer-size))))))
 
 (defun orgstore--stamp (file)
   "Return the size of FILE, and when it was written."
@@ -235,9 +230,10 @@ Emacs itself writes it, to another file of the same name."
 (cl-defstruct (orgstore--entry (:constructor orgstore--entry-make)
                                (:copier nil))
   "What the save of a buffer writes: PLACE and FILE, AT, NEW and TAIL as in
-`orgstore--changed-bytes', the file's STAMP then, EDITS for it; BEFORE, edits
-since a step began, or nil where that is the same; DONE once it is written."
-  place file at new tail stamp edits before done)
+`orgstore--changed-bytes', the file's STAMP then, EDITS for it; LATER, those of
+them since the step began, or t for all, and EARLIER, those before; DONE once it
+is written."
+  place file at new tail stamp edits later earlier done)
 
 (cl-defstruct (orgstore--batch (:constructor orgstore--batch-make)
                                (:copier nil))
@@ -276,16 +272,17 @@ FAILED is the error that ended it, LATE one after the write."
   "Return ENTRIES as lists of those that are one record: of one folder.
 The one that gains most text comes first: so a crash between two of them
 doubles text and never loses it."
-  (orgstore--sorted
-   (mapcan (lambda (group)
-             ;; The program takes 256 names at once.
-             (seq-partition (orgstore--sorted
-                             (cdr group)
-                             (lambda (it) (orgstore--entries-gain (list it))))
-                            256))
-           (seq-group-by (lambda (it) (car (orgstore--entry-place it)))
-                         entries))
-   #'orgstore--entries-gain))
+  (let (records)
+    (pcase-dolist (`(,_ . ,rest)
+                   (seq-group-by (lambda (it) (car (orgstore--entry-place it)))
+                                 (orgstore--sorted
+                                  entries (lambda (it)
+                                            (orgstore--entries-gain (list it))))))
+      ;; The program takes 256 names at once.
+      (while rest
+        (push (seq-take rest 256) records)
+        (setq rest (nthcdr 256 rest))))
+    (orgstore--sorted (nreverse records) #'orgstore--entries-gain)))
 
 (defun orgstore--find-edits (entry)
   "Set the edits of ENTRY, by what its file has now."
@@ -296,11 +293,16 @@ doubles text and never loses it."
     (unless (equal stamp (orgstore--entry-stamp entry))
       (orgstore--fail "Nothing is saved: %s changed on the disk meanwhile"
                       (abbreviate-file-name file)))
-    (setf (orgstore--entry-edits entry)
-          (orgstore--edits (orgstore--bytes
-                            file at
-                            (- (car stamp) (orgstore--entry-tail entry)))
-                           (orgstore--entry-new entry) at))))
+    (let* ((old (orgstore--bytes file at (- (car stamp)
+                                            (orgstore--entry-tail entry))))
+           (new (orgstore--entry-new entry))
+           (later (orgstore--entry-later entry))
+           (begun (and (listp later)
+                       (orgstore--patched new (orgstore--reversed later) at))))
+      (setf (orgstore--entry-edits entry) (orgstore--edits old new at))
+      (if begun
+          (setf (orgstore--entry-earlier entry) (orgstore--edits old begun at))
+        (setf (orgstore--entry-later entry) (orgstore--entry-edits entry))))))
 
 (defun orgstore--entry-size (entry)
   "Return the size of the file of ENTRY once that is written."
@@ -355,16 +357,16 @@ files the store is opened once more."
       (setf (orgstore--entry-done it) t))))
 
 (defun orgstore--remember (entries)
-  "Note in `orgstore--history' what ENTRIES changed."
-  (when-let* ((orgstore--keep-history)
-              (step (seq-filter
-                     #'cdr
-                     (mapcar (lambda (it)
-                               (cons (orgstore--entry-file it)
-                                     (or (orgstore--entry-before it)
-                                         (orgstore--entry-edits it))))
-                             entries))))
-    (push (cons (current-time) step) orgstore--history)
+  "Note in `orgstore--history' what ENTRIES changed.
+What was changed before their step began can be taken back behind it."
+  (when orgstore--keep-history
+    (dolist (edits '(orgstore--entry-earlier orgstore--entry-later))
+      (when-let* ((step (seq-filter
+                         #'cdr (mapcar (lambda (it)
+                                         (cons (orgstore--entry-file it)
+                                               (funcall edits it)))
+                                       entries))))
+        (push (cons (current-time) step) orgstore--history)))
     (setq orgstore--history
           (seq-take orgstore--history orgstore-undo-limit))))
 
@@ -454,7 +456,7 @@ Return the modes that the file is to have afterwards, or nil."
 
 (defun orgstore--edits-since (text bytes)
   "Return edits for what changed since this buffer's text was TEXT.
-BYTES are of `orgstore--changed-bytes'."
+BYTES are of `orgstore--changed-bytes'.  If it isn't known, return t."
   (pcase-let ((`(,at ,new ,tail ,coding) bytes)
               (watch (orgstore--look)))
     (save-restriction
@@ -471,8 +473,8 @@ BYTES are of `orgstore--changed-bytes'."
                                 (car edges) (cdr edges))
                                coding)
            (1- (position-bytes (car edges))))
-        (and (= at tail 0)
-             (orgstore--edits (encode-coding-string text coding) new))))))
+        (or (< 0 (+ at tail))
+            (orgstore--edits (encode-coding-string text coding) new))))))
 
 (defun orgstore--make-entry (batch place bytes)
   "Return what the save of this buffer writes at PLACE, as a part of BATCH.
@@ -483,7 +485,7 @@ BYTES are of `orgstore--changed-bytes'."
     (orgstore--entry-make
      :place place :file buffer-file-name :at at :new new :tail tail
      :stamp (orgstore--stamp buffer-file-name)
-     :before (and text (orgstore--edits-since text bytes)))))
+     :later (or (null text) (orgstore--edits-since text bytes)))))
 
 (defun orgstore--write ()
   "Write this buffer's file by the store, where it is served.

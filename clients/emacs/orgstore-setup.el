@@ -50,16 +50,13 @@ It is looked for as `orgstore-program', and where it is installed."
                   (expand-file-name "~/.local/bin/orgstore")
                   "/usr/local/bin/orgstore")))
 
-(defconst orgstore--init-head ";; orgstore: Org's changes as crash-safe steps."
-  "The first of the lines for the init file.")
-
 (defun orgstore--init-lines (program dir)
   "Return the lines for the init file that serve DIR by PROGRAM."
-  (concat orgstore--init-head "\n"
+  (concat ";; orgstore: Org's changes as crash-safe steps.\n"
           (format "(add-to-list 'load-path %S)\n"
                   (abbreviate-file-name (directory-file-name orgstore--lisp)))
-          "(require 'orgstore)\n"
-          (format "(setq orgstore-directory %S\n" (abbreviate-file-name dir))
+          (format "(require 'orgstore)\n(setq orgstore-directory %S\n"
+                  (abbreviate-file-name dir))
           (format "      orgstore-program %S)\n" (abbreviate-file-name program))
           "(orgstore-global-mode 1)\n"))
 
@@ -118,7 +115,7 @@ All of your settings and hooks stay as they are.  New is:
       (require 'orgstore)
       (orgstore-global-mode 1)
       (message "%s is served now%s" (abbreviate-file-name dir)
-               (if file (format ", and from %s on" (abbreviate-file-name file))
+               (if file (format ", later by %s" (abbreviate-file-name file))
                  "; the lines for the init file are in *orgstore setup*")))))
 
 ;;;; Status

@@ -13,8 +13,7 @@
 
 ;;; Code:
 
-(require 'cl-lib)
-(require 'seq)
+(eval-when-compile (require 'cl-lib))
 (require 'orgstore-save)
 
 (defvar org-capture-mode)
@@ -78,7 +77,7 @@ What a capture that is open put into a buffer is part of the step."
         (with-current-buffer it
           (push (cons it (orgstore--text)) texts)
           (setf (orgstore--watch-step (orgstore--start-watch))
-                (orgstore--span)))))
+                (cons (buffer-size) (buffer-size))))))
     (orgstore--step-make :marks marks :texts texts :depth (recursion-depth))))
 
 (defun orgstore--renew (step)
@@ -141,6 +140,12 @@ It is written with the command then, by the step of `org-store-log-note'."
 
 ;;;; Calling a step
 
+(defun orgstore--save-quietly (buffers &optional texts)
+  "Do `orgstore--save-together' with BUFFERS and TEXTS.
+What the command said stays in the echo area."
+  (let ((save-silently (or save-silently (current-message))))
+    (orgstore--save-together buffers texts)))
+
 (defun orgstore--end (step)
   "Write what STEP changed."
   (save-match-data
@@ -155,7 +160,7 @@ It is written with the command then, by the step of `org-store-log-note'."
                  (null (orgstore--step-saves step))
                  (equal buffers (list (orgstore--base)))))
            (t (orgstore--save-gainers step)
-              (orgstore--save-together buffers (orgstore--step-texts step))
+              (orgstore--save-quietly buffers (orgstore--step-texts step))
               (setq whole t)))
         (unless whole (orgstore--abandon step))))))
 
@@ -242,7 +247,8 @@ at a prompt of the step writes all that it changed by then."
      ((null orgstore--step)
       (orgstore--save-together (list base)))
      (t
-      (cl-pushnew base (orgstore--step-saves orgstore--step))
+      (unless (memq base (orgstore--step-saves orgstore--step))
+        (push base (orgstore--step-saves orgstore--step)))
       (with-current-buffer base (orgstore--make-empty))
       (when (orgstore--typed-p)
         (orgstore--end orgstore--step)
@@ -259,16 +265,17 @@ changed on the disk, of which Emacs will ask, aren't part of the step."
         (let* ((saves (reverse (orgstore--step-saves step)))
                (these (seq-filter #'verify-visited-file-modtime saves)))
           (orgstore--save-together these)
-          (dolist (it (seq-difference saves these #'eq))
+          (dolist (it (seq-remove (lambda (it) (memq it these)) saves))
             (orgstore--save-together (list it))))))))
 
 (defun orgstore--kill-query ()
-  "Whether this buffer may be killed now: its save may have been put off."
+  "Whether this buffer may be killed now: its save may have been put off.
+That is done even where Org takes it for unmodified, as one of an aborted
+capture."
   (not (and orgstore--step
             (memq (current-buffer) (orgstore--step-saves orgstore--step))
-            (buffer-modified-p)
-            (cl-pushnew (current-buffer)
-                        (orgstore--step-kills orgstore--step)))))
+            (push (current-buffer) (orgstore--step-kills orgstore--step))
+            (prog1 t (set-buffer-modified-p t)))))
 
 ;;;; Other commands
 
@@ -288,12 +295,12 @@ changed on the disk, of which Emacs will ask, aren't part of the step."
   "Note how things are before a command."
   (let ((depth (recursion-depth)))
     (unless orgstore--step (setq orgstore--pending nil))
+    ;; Commands that were quit are forgotten.
+    (while (and orgstore--commands (>= (caar orgstore--commands) depth))
+      (pop orgstore--commands))
+    (push (list depth) orgstore--commands)
     (setq orgstore--failed nil
-          orgstore--kill (car kill-ring)
-          orgstore--commands
-          (cons (list depth)
-                (seq-filter (lambda (it) (< (car it) depth))
-                            orgstore--commands)))))
+          orgstore--kill (car kill-ring))))
 
 (defun orgstore--command-error (&rest _)
   "Note that the command ended in an error or a quit."
@@ -337,8 +344,7 @@ They may have been undone too."
   "Save BUFFERS, which one command changed, or bind them where that fails."
   (if orgstore--failed (orgstore--bond buffers)
     ;; An error would take the function off the hook.
-    (condition-case err
-        (orgstore--save-together buffers)
+    (condition-case err (orgstore--save-quietly buffers)
       ((error quit)
        (orgstore--bond (seq-filter #'buffer-modified-p buffers))
        (message "%s" (error-message-string err))))))
@@ -367,9 +373,8 @@ They may have been undone too."
       (widen)
       (pcase-let ((`(,front . ,back) (orgstore--trim (orgstore--text) text))
                   (inhibit-read-only t))
-        (narrow-to-region (+ (point-min) front) (- (point-max) back))
         (replace-region-contents
-         (point-min) (point-max)
+         (+ (point-min) front) (- (point-max) back)
          (lambda () (substring text front (- (length text) back)))
          1)))))
 

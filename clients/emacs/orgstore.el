@@ -25,12 +25,9 @@
 ;;   in one and pasted into the other, are bound: none is saved without the others.
 ;;
 ;; In Lisp, `orgstore-as-step' makes a step of any function.
-;;
-;; The URL in the head is of a domain that is reserved for examples.
 
 ;;; Code:
 
-(require 'seq)
 (require 'orgstore-program)
 (require 'orgstore-save)
 (require 'orgstore-step)
@@ -87,9 +84,9 @@
 (defun orgstore--before-ids (&optional files &rest _)
   "Have the folders of FILES, and of those with IDs, be whole.
 `org-id-update-id-locations' reads files by itself."
-  (dolist (it (seq-uniq (mapcar #'file-name-directory
-                                (append files
-                                        (bound-and-true-p org-id-files)))))
+  (dolist (it (delete-dups (mapcar #'file-name-directory
+                                   (append files
+                                           (bound-and-true-p org-id-files)))))
     (orgstore--before-read (expand-file-name "a.org" it))))
 
 (defconst orgstore--advice

@@ -238,6 +238,13 @@
   (ost-capture "n" "x")
   (unless ost-plain (should (= 1 (length (ost-modified))))))
 
+;; What Org made for the target stays when the capture is given up.
+(ost-scenario capture-abort-of-new-target ost-ab
+  (setq org-capture-templates `(("h" "" entry (file+headline ,(ost-path "b.org") "Made") "* Call %?")
+                                ("d" "" entry (file+olp+datetree ,(ost-path "a.org")) "* %?")))
+  (dolist (key '("h" "d"))
+    (org-capture nil key) (insert "Ann") (ost-cmd 1 (org-capture-kill))))
+
 (ost-scenario capture-attach ost-ab
   (setq org-capture-templates `(("c" "" entry (file+headline ,(ost-path "b.org") "Last") "* Doc %?")))
   (write-region "pdf" nil (expand-file-name "doc.pdf" ost-beside) nil 'quiet)

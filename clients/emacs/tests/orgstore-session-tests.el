@@ -93,15 +93,20 @@
         ost-entry 0)
   (let ((i -1))
     (mapcar (lambda (name)
-              ;; The newline that a save adds isn't taken back.
               (ost-session-bytes name (setq i (1+ i))
-                                 (if (memq (ost-session-kind number) '(undo undo-last)) "* Last of it\n"
-                                   "* Last of it")))
+                                 (if (ost-session-unended number) "* Last of it"
+                                   "* Last of it\n")))
             ost-session-names)))
 
 (defun ost-session-kind (number)
   "Return what comes in the session NUMBER, or how it is undone, or nil."
   (pcase (mod number 5) (0 'second) ((or 1 2) 'undo) (3 'undo-last)))
+
+(defun ost-session-unended (number)
+  "Whether files of the session NUMBER may end without a newline.
+That which a save adds isn't taken back, and a save in the middle of a command
+adds it there, where a step does so at its end."
+  (memq (mod number 10) '(0 4)))
 
 ;;;; A second Emacs
 
@@ -171,6 +176,10 @@
 (defvar ost-wrong nil "What was wrong in the session, newest first.")
 
 (defvar ost-fails nil "The hook that fails in this command, or nil.")
+
+(defvar ost-timers nil "Whether timers save in this session.")
+
+(defvar ost-killed nil "The files whose buffers Org killed, with what they could undo.")
 
 (defvar ost-failed nil "Whether a hook failed, which may leave an entry twice.")
 
@@ -367,7 +376,7 @@ Return nil where there is none."
              (not (eq kind 'undo-last))
              (ost-one-of '(org-after-todo-state-change-hook org-after-refile-insert-hook org-archive-hook
                            org-clock-out-hook org-capture-before-finalize-hook))))
-  (when (= 0 (ost-random 5))
+  (when (and (= 0 (ost-random 5)) ost-timers)
     ;; A timer that saves; it runs in a command, where a hook waits.
     (run-at-time 0 nil (lambda ()
                             (let (debug-on-error)
@@ -391,7 +400,8 @@ Return nil where there is none."
     (21 (when (ost-some-entry)
           (end-of-line)
           (insert "\ntyped ü " (number-to-string (ost-random 99)))
-          (when (eq kind 'undo-last) (ost-do 'save #'save-buffer))))
+          ;; Plain Org saves it with the next command, and adds the newline then.
+          (when (or (eq kind 'undo-last) (not ost-timers)) (ost-do 'save #'save-buffer))))
     ;; Within a command of plain Org, a save that fails cuts it in two; a step is whole.
     (22 (setq ost-fails (ost-one-of '(nil nil before-save-hook after-save-hook)))
         (ost-do 'save-all #'org-save-all-org-buffers))
@@ -445,14 +455,16 @@ Return nil where there is none."
       (when (memq kind '(undo undo-last))
         (when undone
           (pcase-dolist (`(,name ,got ,_) (ost-differ (list (ost-tree ost-dir)) (list files)))
-            (push (list kind name got) ost-wrong)))
+            (unless (and (eq kind 'undo) (member (ost-path name) ost-killed))
+              (push (list kind name got) ost-wrong))))
         ;; These are compared with plain Org's.
         (ost-close)
         (pcase-dolist (`(,name . ,bytes) tree) (ost-write name bytes))))))
 
 (defun ost-session (number files)
   "Do the session NUMBER over FILES."
-  (setq ost-wrong nil ost-fails nil ost-failed nil)
+  (setq ost-wrong nil ost-fails nil ost-failed nil ost-killed nil
+        ost-timers (not (ost-session-unended number)))
   (ost-session-templates)
   (let* ((kind (ost-session-kind number))
          (wait (lambda (&rest _) (sleep-for 0.001)))
@@ -474,6 +486,8 @@ Return nil where there is none."
          (org-archive-hook (list (ost-failing 'org-archive-hook)))
          (org-clock-out-hook (list (ost-failing 'org-clock-out-hook)))
          (org-capture-before-finalize-hook (list (ost-failing 'org-capture-before-finalize-hook)))
+         ;; Org 9.7 kills the buffer that was made for a capture which is given up.
+         (kill-buffer-hook (list (lambda () (when buffer-file-name (push buffer-file-name ost-killed)))))
          (before-save-hook (list (ost-failing 'before-save-hook)))
          (after-save-hook (list (ost-failing 'after-save-hook)))
          (was-undo-limit (bound-and-true-p orgstore-undo-limit)))

@@ -171,7 +171,39 @@
     (ost-cmd 1 (orgstore-undo-last))
     (should (equal (ost-disk "a.org") typed))
     (should (equal (ost-disk "b.org") (cdr (assoc "b.org" ost-ab))))
+    (ost-cmd 1 (orgstore-undo-last))
+    (should (equal (ost-disk "a.org") (cdr (assoc "a.org" ost-ab))))
     (should-error (orgstore-undo-last))))
+
+;; A cut that wasn't saved yet is saved with the command, and taken back behind it.
+(ost-alone undo-last-of-what-was-bound ost-ab
+  (let ((before (ost-tree ost-dir)) between)
+    (ost-open "a.org" "One") (ost-keys "C-c C-x C-w")
+    (ost-open "b.org" "Last") (ost-keys "C-c C-x C-y")
+    (ost-open "a.org" "Two")
+    (ost-cmd 1 (org-todo "TODO"))
+    (should (string-search "* One" (ost-disk "b.org")))
+    (ost-cmd 1 (orgstore-undo-last))
+    (setq between (ost-tree ost-dir))
+    (should (string-search "* Two" (ost-disk "a.org")))
+    (should (string-search "* One" (ost-disk "b.org")))
+    (should-not (string-search "* One" (ost-disk "a.org")))
+    (ost-cmd 1 (orgstore-undo-last))
+    (should (equal before (ost-tree ost-dir)))
+    (should-not (equal before between))))
+
+;; Else `Wrote..' takes the place of what Org said.
+(ost-alone said-by-the-command ost-ab
+  (let* (silent
+         (after-save-hook (list (lambda () (push save-silently silent)))))
+    (ost-open "a.org" "One")
+    (cl-letf (((symbol-function 'current-message) (lambda () "Said")))
+      (ost-cmd 1 (org-todo "TODO")))
+    (ost-cmd 1 (org-todo "DONE"))
+    (insert "x")
+    (cl-letf (((symbol-function 'current-message) (lambda () "Said")))
+      (ost-cmd 1 (save-buffer)))
+    (should (equal silent '(nil nil "Said")))))
 
 (ost-alone torn-folder ost-ab
   (let ((at 0))
@@ -187,6 +219,60 @@
     (should-not (orgstore--gate-open-p ost-dir))
     (should (string-search "*** One" (buffer-string))))
   (should-not (string-search "One" (ost-disk "a.org"))))
+
+(defun ost-tear ()
+  "Leave a step over both files that was cut short, one of them being written."
+  (let ((at 0))
+    (while (not (and (orgstore--gate-open-p ost-dir)
+                     (equal "* NEW" (substring (ost-disk "a.org") 0 5))))
+      (when (> (cl-incf at) 200) (error "Never half written"))
+      ;; Emacs itself would ask where it visits one.
+      (call-process "sh" nil nil nil "-c" "cd \"$0\"; rm -f orgstore.journal; echo '* OLD' | tee a.org > b.org" ost-dir)
+      (ost-plan "kill" at)
+      (orgstore--run-once (ost-program-file) ost-dir '("a.org" "b.org")
+                          "edit\ta.org\t2\tOLD\tNEW\nedit\tb.org\t2\tOLD\tNEW\nsettle\n"))
+    (should (equal "* OLD\n" (ost-disk "b.org")))))
+
+;; Whatever reads a file of the folder finds the step done.
+(pcase-dolist (`(,name . ,reads)
+               '((revert . (lambda () (with-current-buffer "a.org" (revert-buffer t t))))
+                 (auto-revert . (lambda () (with-current-buffer "a.org"
+                                             (let (auto-revert-use-notify)
+                                               (auto-revert-mode 1)
+                                               (auto-revert-buffers)))))
+                 (agenda . (lambda () (ost-close) (org-tags-view nil "LEVEL=1")))
+                 (org-id . (lambda () (org-id-update-id-locations (list (ost-path "b.org")) t)))))
+  (unless ost-plain
+    (ert-set-test
+     (intern (format "store/torn-folder-%s" name))
+     (make-ert-test
+      :name (intern (format "store/torn-folder-%s" name))
+      :body (lambda ()
+              (ost-run '(("a.org" . "* OLD\n") ("b.org" . "* OLD\n"))
+                       (lambda ()
+                         (ost-open "a.org")
+                         (ost-tear)
+                         ;; Files of one moment and one size look the same to Emacs.
+                         (set-file-times (ost-path "a.org") (encode-time '(0 0 0 1 1 2027 nil nil nil)))
+                         (funcall reads)
+                         (should-not (orgstore--gate-open-p ost-dir))
+                         (should (equal "* NEW\n" (ost-disk "b.org")))
+                         (when (get-buffer "a.org")
+                           (with-current-buffer "a.org"
+                             (revert-buffer t t)
+                             (should (equal "* NEW\n" (buffer-string))))))))))))
+
+(ost-alone version-control ost-ab
+  (skip-unless (executable-find "git"))
+  (let ((default-directory ost-dir))
+    (dolist (it '(("init" "-q") ("add" "a.org")
+                  ("-c" "user.name=T" "-c" "user.email=t@example.org" "commit" "-qm" "A")))
+      (should (equal 0 (apply #'call-process "git" nil nil nil it)))))
+  (ost-open "a.org" "One")
+  (should (string-prefix-p " Git-" vc-mode))
+  (ost-cmd 1 (org-todo "TODO"))
+  (should (string-prefix-p " Git:" vc-mode))
+  (should (eq 'edited (vc-state (ost-path "a.org")))))
 
 (ost-alone two-folders-crash '(("a.org" . "* A\n* B\n") ("sub/c.org" . "* C\n"))
   ;; The second run is killed: the entry stands twice, not nowhere.
