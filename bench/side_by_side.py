@@ -167,12 +167,15 @@ def whole_reply(reply, settles):
 class Bench:
     """A place for folders, the program, and the bare loop, built."""
 
-    def __init__(self, folder, program):
-        self.program = program
+    def __init__(self, folder, program, beside=None):
+        self.program, self.beside = program, beside
         self.room = tempfile.mkdtemp(prefix="bench.", dir=folder)
         self.memory = tempfile.mkdtemp(prefix="bench.", dir="/dev/shm" if os.path.isdir("/dev/shm") else folder)
         self.loop = os.path.join(self.room, "loop")
-        subprocess.run(["cc", "-O2", "-o", self.loop, os.path.join(TOP, "bench", "bare.c")], check=True)
+        if beside:
+            print("The columns of the bare loop are those of " + beside)
+        else:
+            subprocess.run(["cc", "-O2", "-o", self.loop, os.path.join(TOP, "bench", "bare.c")], check=True)
 
     def __enter__(self):
         return self
@@ -182,9 +185,9 @@ class Bench:
         shutil.rmtree(self.memory, ignore_errors=True)
 
     def words(self, who, folder, case, script=None):
-        if who == "bare":
+        if who == "bare" and self.beside is None:
             return [self.loop, folder, str(case.group), script]
-        words = [self.program, folder]
+        words = [self.beside if who == "bare" else self.program, folder]
         for name in case.files:
             words += ["--new", name]
         return words + (["--group", str(case.group)] if case.group != 1 else [])
@@ -395,6 +398,8 @@ def options(about):
     parser = argparse.ArgumentParser(description=about)
     parser.add_argument("folder", help="lies on the disk to measure; the files are made in a new folder in it")
     parser.add_argument("--program", help="the program; without it the one of ./run, built where need be")
+    parser.add_argument("--beside", metavar="PROGRAM", type=runnable,
+                        help="another program, as one of an older commit, in the place of the bare loop")
     parser.add_argument("--rounds", type=int, default=5, help="by turns of both, of which the medians are told (5)")
     parser.add_argument("--quick", action="store_true", help="small counts and sizes, to try the script; no figures")
     return parser
@@ -409,6 +414,11 @@ def program_of(chosen):
         chosen = found.stdout.rstrip("\n")
         if "/out/unproved/" in chosen:
             print("This program isn't proved, and checks indexes and overflows as it runs: ./test proves one without.")
-    if not os.access(chosen, os.X_OK):
-        fail("no program " + chosen)
-    return os.path.realpath(chosen)
+    return runnable(chosen)
+
+
+def runnable(program):
+    """Where a program that may be run lies."""
+    if not os.access(program, os.X_OK):
+        fail("no program " + program)
+    return os.path.realpath(program)
