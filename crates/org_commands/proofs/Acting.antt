@@ -3,7 +3,7 @@ use Rattle.std.proofs.Common.{◌≡◌, inl, inr, ℕ, ◌+◌, false, List, []
 use Rattle.org_disk.specs.declared.disk.Disk.{Ghosts}
 use Rattle.std.specs.Prelude.{◌↔◌, IsErrOf, IsTrue}
 use Rattle.std.proofs.lemmas.Bool.{false≢true}
-use Rattle.org_disk.specs.Accounts.{LooksOver}
+use Rattle.org_disk.specs.CountsFailures.{LooksOver}
 use Rattle.org_disk.specs.Disk.{FileState, AreImages}
 use Rattle.org_outline.specs.States.{Keywords}
 use Rattle.org_journal.specs.Recovered.{Image, contents}

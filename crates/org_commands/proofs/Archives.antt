@@ -25,7 +25,7 @@ use Rattle.org_texts.specs.Texts.{Holding, TextSet, bytes_or, text_of}
 use Rattle.org_texts.proofs.Looking.{not_equal, the_value}
 use Rattle.org_move.specs.declared.fault.MoveFault.{MoveFault}
 use Rattle.org_move.specs.declared.fault.MoveFault.TheVariants as fault
-use Rattle.org_move.specs.Answers.{Gives, GivesPlace}
+use Rattle.org_move.specs.Answers.{IsMadeAs, IsPlaceAs}
 use Rattle.org_move.specs.Archive.{archive_across, archive_across_at, archive_within, archive_within_at}
 use Rattle.org_move.specs.Location.{Destination, location, location_at}
 use Rattle.org_move.specs.Refile.{Moved, fault_of, with_found}
@@ -150,8 +150,8 @@ module _ (s : Session) (file : List ℕ) (path : List Step) (moment : Moment) wh
 
   -- an archiving without a location
   pub place_refused : (text seen : List ℕ) (result : Result Destination MoveFault) (why : MoveFault) → s.broken ≡ false → text_at s.names s.files file ≡ Some text → seen ≡ terminated text → result ≡ Err why
-      → GivesPlace (location s.states file path seen) result → Steps s told (Err (fault_of_move why)) s
-  place_refused text seen result why unbroken at stays_terminated was gives = go why (subst (GivesPlace said) was gives)
+      → IsPlaceAs (location s.states file path seen) result → Steps s told (Err (fault_of_move why)) s
+  place_refused text seen result why unbroken at stays_terminated was gives = go why (subst (IsPlaceAs said) was gives)
     where
       said : Result Destination MoveFault
       said = location s.states file path seen
@@ -159,12 +159,12 @@ module _ (s : Session) (file : List ℕ) (path : List Step) (moment : Moment) wh
       refuses : (w : MoveFault) → said ≡ Err w → told ≡ Refuses (refusal_of_move w)
       refuses w none = told_at text seen at stays_terminated ∙ ap (archive_at s file path moment text) none
 
-      go : (w : MoveFault) → GivesPlace said (Err w) → Steps s told (Err (fault_of_move w)) s
+      go : (w : MoveFault) → IsPlaceAs said (Err w) → Steps s told (Err (fault_of_move w)) s
       go fault.OutOfMemory gives = (unbroken, refl)
       go w gives = (unbroken, refuses w gives, refl)
 
   -- .. and one with a location
-  pub place_found : (text seen : List ℕ) (to : Destination) → text_at s.names s.files file ≡ Some text → seen ≡ terminated text → GivesPlace (location s.states file path seen) (Ok to) → told ≡ told_to text to
+  pub place_found : (text seen : List ℕ) (to : Destination) → text_at s.names s.files file ≡ Some text → seen ≡ terminated text → IsPlaceAs (location s.states file path seen) (Ok to) → told ≡ told_to text to
   place_found text seen to at stays_terminated found = told_at text seen at stays_terminated ∙ ap (archive_at s file path moment text) found
 
   -- its file is none of the store's
@@ -215,11 +215,11 @@ module _ {D : Type 0} (g : Ghosts D) (states : Keywords) (files : OpenFiles D) (
       let store = store_text g states files tally s (file ∷ []) file refl ready (one_name file) there in
       within_is s file path moment text seen to i at (same_terminated text store.0 seen (sym at ∙ store.1) store.2) own found
 
-  pub within_fails : text_at s.names s.files file ≡ Some text → find_path states (tree text) path ≡ Ok i → (result : Result Plan MoveFault) {why : MoveFault} (answer : Result Plan RunFault) → result ≡ Err why → Gives said (MakesDocument file seen) result → IsErrAnd answer (λ y. y ≡ fault_of_move why)
+  pub within_fails : text_at s.names s.files file ≡ Some text → find_path states (tree text) path ≡ Ok i → (result : Result Plan MoveFault) {why : MoveFault} (answer : Result Plan RunFault) → result ≡ Err why → IsMadeAs said (MakesDocument file seen) result → IsErrAnd answer (λ y. y ≡ fault_of_move why)
       → Plans s told_within answer files.held s
   within_fails at found result answer was gives handed = move_fails files.held (text_within file) said (MakesDocument file seen) result answer unbroken refl (told_within_is at found) was gives handed
 
-  pub within_planned : text_at s.names s.files file ≡ Some text → find_path states (tree text) path ≡ Ok i → (plan : Plan) → Gives said (MakesDocument file seen) (Ok plan) → Plans s told_within (Ok plan) files.held s
+  pub within_planned : text_at s.names s.files file ≡ Some text → find_path states (tree text) path ≡ Ok i → (plan : Plan) → IsMadeAs said (MakesDocument file seen) (Ok plan) → Plans s told_within (Ok plan) files.held s
   within_planned at found plan (new, is, makes) = move_planned files.held (text_within file) said new plan refl (told_within_is at found) is (within_texts plan files.held file new makes ready)
 
 -- Two files are ready, of which the second one is the location's: they were `old` before that one
@@ -256,7 +256,7 @@ module _ {D : Type 0} {g : Ghosts D} {states : Keywords} {old new : OpenFiles D}
   pub target_is_ready : IsReady to.file new.held
   target_is_ready = is_ready (to.file ∷ file ∷ []) new.held to.file both.ready (first_name to.file (file ∷ []))
 
-  pub across_fits : (plan : Plan) → Gives made Makes (Ok plan) → IsPlanFor new.names new.held plan
+  pub across_fits : (plan : Plan) → IsMadeAs made Makes (Ok plan) → IsPlanFor new.names new.held plan
   across_fits plan (d, is, makes) = documents_planned plan new.held file to.file d both.apart makes both.ready new.names both.named both.also
 
   module _ (tally : Tally) (honest : g.honest new.disk) (text : List ℕ) (at : text_at (session_in g states old tally).names (session_in g states old tally).files file ≡ Some text) (found : find_path states (tree text) path ≡ Ok i) where
@@ -270,9 +270,9 @@ module _ {D : Type 0} {g : Ghosts D} {states : Keywords} {old new : OpenFiles D}
         let other = store_text g states new tally before (to.file ∷ file ∷ []) to.file read both.ready (first_name to.file (file ∷ [])) both.also in
         across_is before file path moment text (held_bytes new.held file) other.0 (held_bytes new.held to.file) to i other.1 (same_terminated text own.0 (held_bytes new.held file) (sym at ∙ own.1) own.2) other.2 both.apart found
 
-    pub across_fails : (result : Result Plan MoveFault) {why : MoveFault} (answer : Result Plan RunFault) → old.broken ≡ false → result ≡ Err why → Gives made Makes result → IsErrAnd answer (λ y. y ≡ fault_of_move why)
+    pub across_fails : (result : Result Plan MoveFault) {why : MoveFault} (answer : Result Plan RunFault) → old.broken ≡ false → result ≡ Err why → IsMadeAs made Makes result → IsErrAnd answer (λ y. y ≡ fault_of_move why)
         → Plans before (told_to before file path moment text to) answer new.held (session_in g states new tally)
     across_fails result answer unbroken was gives handed = move_fails new.held (texts_across file to.file) made Makes result answer unbroken (both.reads tally honest) told_across was gives handed
 
-    pub across_planned : (plan : Plan) → Gives made Makes (Ok plan) → Plans before (told_to before file path moment text to) (Ok plan) new.held (session_in g states new tally)
+    pub across_planned : (plan : Plan) → IsMadeAs made Makes (Ok plan) → Plans before (told_to before file path moment text to) (Ok plan) new.held (session_in g states new tally)
     across_planned plan (d, is, makes) = move_planned new.held (texts_across file to.file) made d plan (both.reads tally honest) told_across is (across_texts plan new.held file to.file d both.apart makes both.ready)

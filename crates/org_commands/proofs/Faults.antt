@@ -2,7 +2,7 @@
 use Rattle.std.proofs.Common.{◌≡◌, ◌∙◌, Bool, false, true, Result, Ok, Err, refl, sym, subst}
 use Rattle.org_disk.specs.declared.disk.Disk.{Ghosts}
 use Rattle.std.specs.Prelude.{◌↔◌, IfOk, IsErrOf, IsTrue}
-use Rattle.org_disk.specs.Accounts.{Accounts}
+use Rattle.org_disk.specs.CountsFailures.{CountsFailures}
 use Rattle.org_disk.proofs.Accounting.{accounts_fine, accounts_none, accounts_then}
 use Rattle.org_commands.specs.declared.command.RunFault.{RunFault}
 use Rattle.org_commands.specs.declared.command.Refusal.{Refusal}
@@ -62,13 +62,13 @@ whole_behind answer x device false is breaks = refl
 
 module _ {D : Type 0} {g : Ghosts D} {old mid new : D} where
   -- the accounts of a call behind one whose answer is Ok
-  pub accounts_behind : {A Failed : Type 0} (answer : Result A RunFault) (x : A) → answer ≡ Ok x → Accounts g old mid (IsErrOf answer Device) → Accounts g mid new Failed
-      → Accounts g old new Failed
+  pub accounts_behind : {A Failed : Type 0} (answer : Result A RunFault) (x : A) → answer ≡ Ok x → CountsFailures g old mid (IsErrOf answer Device) → CountsFailures g mid new Failed
+      → CountsFailures g old new Failed
   accounts_behind answer x is first second = accounts_then (accounts_fine (λ fell. fine_is_no_fault answer x Device is fell) first) second
 
   -- the accounts of a call, where another answer fails just where its own does, and the disk stays behind it
-  pub accounts_as : {Failed Fails : Type 0} → new ≡ mid → (Fails → Failed) → (Failed → Fails) → Accounts g old mid Failed → Accounts g old new Fails
-  accounts_as {Fails = Fails} same back on call = subst (λ disk. Accounts g old disk Fails) (sym same) (record {
+  pub accounts_as : {Failed Fails : Type 0} → new ≡ mid → (Fails → Failed) → (Failed → Fails) → CountsFailures g old mid Failed → CountsFailures g old new Fails
+  accounts_as {Fails = Fails} same back on call = subst (λ disk. CountsFailures g old disk Fails) (sym same) (record {
     was_honest = call.was_honest;
     stays_honest = call.stays_honest;
     no_less = call.no_less;
@@ -78,9 +78,9 @@ module _ {D : Type 0} {g : Ghosts D} {old mid new : D} where
 
   -- the accounts of a call whose fault is handed on, behind which the disk stays
   pub accounts_handed : {A B : Type 0} (first : Result A RunFault) (second : Result B RunFault) (fault : RunFault) → first ≡ Err fault → second ≡ Err fault → new ≡ mid
-      → Accounts g old mid (IsErrOf first Device) → Accounts g old new (IsErrOf second Device)
+      → CountsFailures g old mid (IsErrOf first Device) → CountsFailures g old new (IsErrOf second Device)
   accounts_handed first second fault was given same call = accounts_as same (fault_of_first first second fault Device was given) (fault_of_first second first fault Device given was) call
 
 -- the accounts of a call in memory
-pub accounts_memory : {D Fails : Type 0} {g : Ghosts D} {old new : D} → new ≡ old → (Fails → ⊥) → Accounts g old new Fails
+pub accounts_memory : {D Fails : Type 0} {g : Ghosts D} {old new : D} → new ≡ old → (Fails → ⊥) → CountsFailures g old new Fails
 accounts_memory {g = g} {old = old} same fine = accounts_as same (λ fails. absurd (fine fails)) (λ no. absurd no) (accounts_none g old)

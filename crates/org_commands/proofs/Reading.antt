@@ -3,7 +3,7 @@ use Rattle.std.proofs.Common.{◌≡◌, ◌∙◌, ◌⊎◌, inr, ⊎_elim, Bo
 use Rattle.org_disk.specs.declared.disk.Disk.{Ghosts}
 use Rattle.std.specs.Prelude.{◌↔◌, IsErrOf, IsTrue}
 use Rattle.std.proofs.lemmas.Bool.{false≢true}
-use Rattle.org_disk.specs.Accounts.{Accounts, Looks, LooksOver}
+use Rattle.org_disk.specs.CountsFailures.{CountsFailures, Looks, LooksOver}
 use Rattle.org_disk.proofs.Accounting.{accounts_fine, accounts_none, accounts_then, looks_none, looks_then}
 use Rattle.org_fileset.specs.declared.fault.SetFault.{SetFault}
 use Rattle.org_fileset.specs.declared.fault.SetFault.TheVariants as set
@@ -22,7 +22,7 @@ use Rattle.org_commands.proofs.Sessions.{reads_fault}
 
 -- the accounts of a call, where another answer fails just where its own does
 accounts_as : {D : Type 0} {g : Ghosts D} {old new : D} {Failed Fails : Type 0} → (Fails → Failed) → (Failed → Fails)
-    → Accounts g old new Failed → Accounts g old new Fails
+    → CountsFailures g old new Failed → CountsFailures g old new Fails
 accounts_as back on call = record {
   was_honest = call.was_honest;
   stays_honest = call.stays_honest;
@@ -57,7 +57,7 @@ only_reads_undone {D = D} {g = g} {old = old} {answer = answer} memory before ca
   dirty_files = ap (λ (s : TextSet). s.dirty) before ∙ call.dirty_files;
   works = call.works;
   breaks = subst (λ (b : Bool). IsErrOf answer Device ↔ IsTrue b) (sym memory.broken) call.breaks;
-  accounts = subst (λ (disk : D). Accounts g old.disk disk (IsErrOf answer Device)) (sym memory.disk) call.accounts;
+  accounts = subst (λ (disk : D). CountsFailures g old.disk disk (IsErrOf answer Device)) (sym memory.disk) call.accounts;
 }
 
 -- a call of the set of files that only looks at the disk, and an answer that is the device's fault
@@ -65,7 +65,7 @@ only_reads_undone {D = D} {g = g} {old = old} {answer = answer} memory before ca
 pub only_reads_set : {D X A : Type 0} {g : Ghosts D} {old new : OpenFiles D} {answer : Result A RunFault}
     (result : Result X SetFault) → (IsErrOf answer Broken → ⊥) → (IsErrOf answer Device → IsErrOf result set.Device) → (IsErrOf result set.Device → IsErrOf answer Device)
     → old.broken ≡ false → new.names ≡ old.names → new.held.before.dirty ≡ old.held.before.dirty → (g.honest new.disk → LooksOver g old.disk new.disk)
-    → IsTrue new.broken ↔ (IsTrue old.broken ⊎ IsErrOf result set.Device) → Accounts g old.disk new.disk (IsErrOf result set.Device)
+    → IsTrue new.broken ↔ (IsTrue old.broken ⊎ IsErrOf result set.Device) → CountsFailures g old.disk new.disk (IsErrOf result set.Device)
     → OnlyReads g old new answer
 only_reads_set result works back on unbroken names dirty_files looks breaks accounts = record {
   looks = looks;

@@ -17,7 +17,7 @@ use Rattle.org_texts.specs.declared.plan.Plan.{Plan}
 use Rattle.org_texts.specs.Texts.{Holding}
 use Rattle.org_move.specs.declared.fault.MoveFault.{MoveFault}
 use Rattle.org_move.specs.declared.fault.MoveFault.TheVariants as fault
-use Rattle.org_move.specs.Answers.{Gives}
+use Rattle.org_move.specs.Answers.{IsMadeAs}
 use Rattle.org_move.specs.Refile.{Moved, refile_across, refile_within}
 use Rattle.org_commands.specs.declared.command.Refusal.TheVariants.{NoSuchFile}
 use Rattle.org_commands.specs.declared.command.RunFault.{RunFault}
@@ -62,18 +62,18 @@ across_is {D} {g} {states} {old} {file = file} {to_file = to_file} {seen = seen}
 
 -- a subtree that isn't moved
 move_refused : {A B : Type 0} (s : Session) (texts : B → List (List ℕ × List ℕ)) (told : Outcome) (said : Result B MoveFault) (Fits : B → A → Type 0) (result : Result A MoveFault) (why : MoveFault)
-    → s.broken ≡ false → told ≡ with_moved s texts said → result ≡ Err why → Gives said Fits result → Steps s told (Err (fault_of_move why)) s
-move_refused {A} {B} s texts told said Fits result why unbroken is was gives = go why (subst (Gives said Fits) was gives)
+    → s.broken ≡ false → told ≡ with_moved s texts said → result ≡ Err why → IsMadeAs said Fits result → Steps s told (Err (fault_of_move why)) s
+move_refused {A} {B} s texts told said Fits result why unbroken is was gives = go why (subst (IsMadeAs said Fits) was gives)
   where
     refuses : (w : MoveFault) → said ≡ Err w → told ≡ Refuses (refusal_of_move w)
     refuses w none = is ∙ ap (with_moved s texts) none
 
-    go : (w : MoveFault) → Gives said Fits (Err w) → Steps s told (Err (fault_of_move w)) s
+    go : (w : MoveFault) → IsMadeAs said Fits (Err w) → Steps s told (Err (fault_of_move w)) s
     go fault.OutOfMemory gives = (unbroken, refl)
     go w gives = (unbroken, refuses w gives, refl)
 
 -- .. so nothing is planned
-pub move_fails : {B : Type 0} {s t : Session} {told : Outcome} (held : Holding) (texts : B → List (List ℕ × List ℕ)) (said : Result B MoveFault) (Fits : B → Plan → Type 0) (result : Result Plan MoveFault) {why : MoveFault} (answer : Result Plan RunFault) → s.broken ≡ false → t ≡ s → told ≡ with_moved s texts said → result ≡ Err why → Gives said Fits result → IsErrAnd answer (λ y. y ≡ fault_of_move why)
+pub move_fails : {B : Type 0} {s t : Session} {told : Outcome} (held : Holding) (texts : B → List (List ℕ × List ℕ)) (said : Result B MoveFault) (Fits : B → Plan → Type 0) (result : Result Plan MoveFault) {why : MoveFault} (answer : Result Plan RunFault) → s.broken ≡ false → t ≡ s → told ≡ with_moved s texts said → result ≡ Err why → IsMadeAs said Fits result → IsErrAnd answer (λ y. y ≡ fault_of_move why)
     → Plans s told answer held t
 move_fails {s = s} {t = t} {told = told} held texts said Fits result {why} answer unbroken read is was gives handed =
     plans_not_fit s t told held (fault_of_move why) answer handed read (move_refused s texts told said Fits result why unbroken is was gives)

@@ -1,7 +1,7 @@
 -- What runs commands, as callers see it, and what a command makes of it.
 use Rattle.std.specs.Prelude.{◌≡◌, ◌↔◌, ◌+◌, ◌<◌, ◌^◌, false, [], Result, IsErrOf, IsTrue}
 use Rattle.org_disk.specs.declared.disk.Disk.{Ghosts}
-use Rattle.org_disk.specs.Accounts.{Accounts}
+use Rattle.org_disk.specs.CountsFailures.{CountsFailures}
 use Rattle.org_journal.specs.Recovered.{contents}
 use Rattle.org_commands.specs.declared.command.Command.{Command}
 use Rattle.org_commands.specs.declared.command.Reply.{Reply}
@@ -50,7 +50,7 @@ pub record AnswersQuestion {D : Type 0} (g : Ghosts D) (old : Executor D) (quest
   pub dirty_files : DirtiesAtMost g old question answer new
   pub tally : new.tally ≡ old.tally
   pub unedited : IsUnedited new
-  pub accounts : Accounts g old.files.disk new.files.disk (IsErrOf answer Device)
+  pub accounts : CountsFailures g old.files.disk new.files.disk (IsErrOf answer Device)
 
 -- One more command can be counted: the files work, what it edited can be committed, and there is a
 -- number for it.

@@ -7,7 +7,7 @@ use Rattle.std.specs.Option.{option_map}
 use Rattle.std.specs.Str.{bytes_eq}
 use Rattle.org_disk.specs.Names.{journal_name}
 use Rattle.org_splice.specs.Texts.{terminated_text}
-use Rattle.org_disk.specs.Accounts.{LeavesOver}
+use Rattle.org_disk.specs.CountsFailures.{LeavesOver}
 use Rattle.org_journal.specs.Recovered.{Image, IsRecoverable, SameFiles, contents}
 use Rattle.org_fileset.specs.declared.fault.SetFault.{SetFault}
 use Rattle.org_fileset.specs.declared.fault.SetFault.TheVariants as set_fault

@@ -1,7 +1,7 @@
 -- What every call says of its disk that reads files where they aren't held, said once.
 use Rattle.std.specs.Prelude.{◌≡◌, ◌↔◌, Result, IsErrOf, IsTrue}
 use Rattle.org_disk.specs.declared.disk.Disk.{Ghosts}
-use Rattle.org_disk.specs.Accounts.{Accounts, Looks}
+use Rattle.org_disk.specs.CountsFailures.{CountsFailures, Looks}
 use Rattle.org_outline.specs.States.{Keywords}
 use Rattle.org_commands.specs.declared.command.RunFault.{RunFault}
 use Rattle.org_commands.specs.declared.command.RunFault.TheVariants.{Device, Broken}
@@ -22,7 +22,7 @@ pub record OnlyReads {D A : Type 0} (g : Ghosts D) (old new : OpenFiles D)
   pub works : IsErrOf answer Broken → ⊥
   -- .. and it is the device's fault exactly where they are broken afterwards
   pub breaks : IsErrOf answer Device ↔ IsTrue new.broken
-  pub accounts : Accounts g old.disk new.disk (IsErrOf answer Device)
+  pub accounts : CountsFailures g old.disk new.disk (IsErrOf answer Device)
 
 -- .. and no text changes by it: what was held is held as it was, and a store over the files is as
 -- it was, unless the disk failed.

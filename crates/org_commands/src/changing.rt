@@ -3,7 +3,7 @@
 //! A planner edits nothing. From the first edit to the count a command can be taken back, which
 //! takes no memory.
 ghost use Rattle.std.specs.Prelude.{◌≡◌, ℕ, List, [], IsErrOf, false};
-ghost use Rattle.org_disk.specs.Accounts.{Accounts};
+ghost use Rattle.org_disk.specs.CountsFailures.{CountsFailures};
 ghost use Rattle.org_commands.specs.Executing.{CanCount, Executes, ExecutesAs, IsUnedited, KeepsOrSettles, DirtiesAtMost};
 ghost use Rattle.org_commands.specs.Files.{AreReadyForCommand, AreSmallToWrite, IsPlanFor, files_of, new_texts, texts_now};
 ghost use Rattle.org_commands.specs.Kinds.{changing};
@@ -58,7 +58,7 @@ impl<D: Disk> Executor<D> {
         ensures dirty_files { DirtyAfterCounted (fills_tally self.old.tally) self.old.files.held
             result self.new.files.held }
         ensures unedited { IsUnedited self.new }
-        ensures accounts { Accounts D.Disk self.old.files.disk self.new.files.disk
+        ensures accounts { CountsFailures D.Disk self.old.files.disk self.new.files.disk
             (IsErrOf result RunFault.Device) }
     {
         if !self.tally.fills() {
@@ -99,7 +99,7 @@ impl<D: Disk> Executor<D> {
         ensures dirty_files { DirtyAfterCounted (fills_tally self.old.tally) self.old.files.held
             result self.new.files.held }
         ensures unedited { IsUnedited self.new }
-        ensures accounts { Accounts D.Disk self.old.files.disk self.new.files.disk
+        ensures accounts { CountsFailures D.Disk self.old.files.disk self.new.files.disk
             (IsErrOf result RunFault.Device) }
     {
         if self.tally.accepted == u64::MAX {
@@ -120,7 +120,7 @@ impl<D: Disk> Executor<D> {
         ensures dirty_files { DirtyAfterAccepted (fills_tally self.old.tally) (files_of plan.entry)
             self.old.files.held result self.new.files.held }
         ensures unedited { IsUnedited self.new }
-        ensures accounts { Accounts D.Disk self.old.files.disk self.new.files.disk
+        ensures accounts { CountsFailures D.Disk self.old.files.disk self.new.files.disk
             (IsErrOf result RunFault.Device) }
     {
         self.files.put(&plan)?;
@@ -135,7 +135,7 @@ impl<D: Disk> Executor<D> {
         ensures dirty_files { DirtyAfterAccepted (fills_tally self.old.tally) [] self.old.files.held
             result self.new.files.held }
         ensures unedited { IsUnedited self.new }
-        ensures accounts { Accounts D.Disk self.old.files.disk self.new.files.disk
+        ensures accounts { CountsFailures D.Disk self.old.files.disk self.new.files.disk
             (IsErrOf result RunFault.Device) }
     {
         self.files.undo();
@@ -156,7 +156,7 @@ impl<D: Disk> Executor<D> {
         ensures dirty_files { D.honest self.new.files.disk
             → DirtiesAtMost D.Disk self.old (changing asked.now) result self.new }
         ensures unedited { IsUnedited self.new }
-        ensures accounts { Accounts D.Disk self.old.files.disk self.new.files.disk
+        ensures accounts { CountsFailures D.Disk self.old.files.disk self.new.files.disk
             (IsErrOf result RunFault.Device) }
     {
         match plan(&mut self.files, &self.states, asked) {

@@ -7,7 +7,7 @@ ghost use Rattle.std.specs.List.{All};
 ghost use Rattle.std.specs.Map.{lookup};
 ghost use Rattle.std.specs.Option.{ForSome, option_map};
 ghost use Rattle.std.specs.Str.{bytes_eq};
-ghost use Rattle.org_disk.specs.Accounts.{Accounts};
+ghost use Rattle.org_disk.specs.CountsFailures.{CountsFailures};
 ghost use Rattle.org_disk.specs.Names.{IsOrgFile};
 ghost use Rattle.org_fileset.specs.Opening.{Opens};
 ghost use Rattle.org_fileset.specs.Names.{limit};
@@ -300,7 +300,7 @@ impl<D: Disk> Files<D> {
             ⊎ AreSmallToWrite self.old.held.now }
         ensures commits { CommitsHeld D.Disk self.old self.new result }
         ensures keeps { KeepsFiles self.old self.new result }
-        ensures accounts { Accounts D.Disk self.old.disk self.new.disk
+        ensures accounts { CountsFailures D.Disk self.old.disk self.new.disk
             (IsErrOf result SetFault.Device) }
     {
         self.set.commit(&self.texts)?;

@@ -3,14 +3,14 @@ use Rattle.std.proofs.Common.{◌≡◌, refl, sym, true, false, true≢false, �
 use Rattle.std.specs.Prelude.{Result, Ok, Err, IsErr, ◌≤◌}
 use Rattle.org_disk.specs.declared.disk.DiskFault.{DiskFault}
 use Rattle.org_disk.specs.Disk.{FileState, AreImages, HasRisen, IsCounted}
-use Rattle.org_disk.specs.Accounts.{Accounts}
+use Rattle.org_disk.specs.CountsFailures.{CountsFailures}
 use Rattle.org_disk.specs.Calls.{AccountsOfCall, LooksInCall}
 use Rattle.org_disk.specs.declared.disk.Disk.{Ghosts}
 use Rattle.org_disk.proofs.Moments.{passes_none, passes_then}
 
 -- no call
 pub accounts_none : {D : Type 0} (g : Ghosts D) (disk : D)
-    → Accounts g disk disk ⊥
+    → CountsFailures g disk disk ⊥
 accounts_none g disk = record {
   was_honest = λ h. h;
   stays_honest = λ truthful h. h;
@@ -26,7 +26,7 @@ counted_up {before} {now} counted = ⊎_elim {C = (before ≤ now) × HasRisen b
 
 -- one call
 pub accounts_call : {D : Type 0} {A : Type 0} {g : Ghosts D} {old new : D} (result : Result A DiskFault)
-    → AccountsOfCall g.truthful g.honest g.failures old new result → Accounts g old new (IsErr result)
+    → AccountsOfCall g.truthful g.honest g.failures old new result → CountsFailures g old new (IsErr result)
 accounts_call (Ok done) call = record {
   was_honest = call.was_honest;
   stays_honest = call.stays_honest;
@@ -44,7 +44,7 @@ accounts_call (Err fault) call = record {
 
 -- a call that didn't fail
 pub accounts_fine : {D : Type 0} {g : Ghosts D} {old new : D} {Failed : Type 0} → (Failed → ⊥)
-    → Accounts g old new Failed → Accounts g old new ⊥
+    → CountsFailures g old new Failed → CountsFailures g old new ⊥
 accounts_fine fine call = record {
   was_honest = call.was_honest;
   stays_honest = call.stays_honest;
@@ -55,16 +55,16 @@ accounts_fine fine call = record {
 
 -- the same by the test of an answer that is Ok
 pub accounts_ok : {D : Type 0} {g : Ghosts D} {old new : D}
-    → Accounts g old new (false ≡ true) → Accounts g old new ⊥
+    → CountsFailures g old new (false ≡ true) → CountsFailures g old new ⊥
 accounts_ok call = accounts_fine (λ failed. true≢false (sym failed)) call
 
 pub accounts_call_ok : {D : Type 0} {A : Type 0} {x : A} {g : Ghosts D} {old new : D}
-    → AccountsOfCall g.truthful g.honest g.failures old new (Ok x) → Accounts g old new ⊥
+    → AccountsOfCall g.truthful g.honest g.failures old new (Ok x) → CountsFailures g old new ⊥
 accounts_call_ok {x = x} call = accounts_ok (accounts_call (Ok x) call)
 
 -- calls that didn't fail, and others after them
 pub accounts_then : {D : Type 0} {g : Ghosts D} {old mid new : D} {Failed : Type 0}
-    → Accounts g old mid ⊥ → Accounts g mid new Failed → Accounts g old new Failed
+    → CountsFailures g old mid ⊥ → CountsFailures g mid new Failed → CountsFailures g old new Failed
 accounts_then {g = g} {new = new} first second = record {
   was_honest = λ h. first.was_honest (second.was_honest h);
   stays_honest = λ truthful h. second.stays_honest truthful (first.stays_honest truthful h);

@@ -6,7 +6,7 @@ use Rattle.std.proofs.lemmas.Bool.{cases_Bool, and_right, ne_eqb}
 use Rattle.org_splice.specs.Overwritten.{overwritten}
 use Rattle.org_disk.specs.Disk.{FileState, IsImage, IsStable, AreImages}
 use Rattle.org_disk.specs.Names.{journal_name}
-use Rattle.org_disk.specs.Accounts.{PassesOver}
+use Rattle.org_disk.specs.CountsFailures.{PassesOver}
 use Rattle.org_disk.specs.declared.disk.DiskFault.{DiskFault}
 use Rattle.org_disk.proofs.Images.{only_image}
 use Rattle.org_disk.proofs.Moments.{passes_as, passes_then}
@@ -19,7 +19,7 @@ use Rattle.org_journal.proofs.Journal.{begins_again}
 use Rattle.org_journal.specs.Recovered.{Image, SameFiles, RecoversTo, replayed, contents}
 use Rattle.org_fileset.specs.Replay.{TakesTo, AreApplicableTo, EachTakes, IsOpenOver, IsAtRest, IsBeforeOrAfter, WritesRecord}
 use Rattle.org_fileset.specs.Writes.{LeavesAlone, IsUnwritten}
-use Rattle.org_fileset.proofs.Armed.{on_ok_both}
+use Rattle.org_fileset.proofs.OpenGate.{on_ok_both}
 use Rattle.org_fileset.proofs.Writes.{alone_journal, alone_then}
 use Rattle.org_fileset.proofs.Recovers.{recovers_open, recovers_closed, takes-replayed, replayed-takes, all_fit-takes}
 
@@ -68,10 +68,10 @@ module _ (entries : List Entry) (files : List ℕ → FileState) (can : AreAppli
     }
 
   -- the body stands behind the gate
-  module _ (gate : HasClosedGate (files journal_name)) (body : List ℕ) (begins : BeginsWith body entries) (mid : List ℕ → FileState) (armed : (mid journal_name).content ≡ overwritten 1 body (contents files journal_name))
+  module _ (gate : HasClosedGate (files journal_name)) (body : List ℕ) (begins : BeginsWith body entries) (mid : List ℕ → FileState) (over_record : (mid journal_name).content ≡ overwritten 1 body (contents files journal_name))
       (same : (other : List ℕ) → other ≢ journal_name → mid other ≡ files other) where
     behind : drop 1 (mid journal_name).content ≡ body ++ drop (1 + length body) (contents files journal_name)
-    behind = ap (λ (l : List ℕ). drop 1 l) armed ∙ drop-overwritten body (contents files journal_name) gate.nonempty
+    behind = ap (λ (l : List ℕ). drop 1 l) over_record ∙ drop-overwritten body (contents files journal_name) gate.nonempty
 
     told : (text : List ℕ) → drop 1 text ≡ drop 1 (mid journal_name).content → journal_at (drop 1 text) ≡ Some entries
     told text is = ap journal_at (is ∙ behind) ∙ begins_again body entries begins (drop (1 + length body) (contents files journal_name))
@@ -110,9 +110,9 @@ module _ {D : Type 0} (g : Ghosts D) (old : D) (journal : List ℕ) (name_is : j
   arming_alone new r time puts =
       alone_journal g journal (IsUnwritten entries) (LeavesClosed journal (g.files old)) old new name_is (λ name is. is.apart) puts.others time (λ image left. left.others)
 
-  pub armed_writes : (new : D) (r told : Result (Unit {0}) DiskFault) → PassesOver g old new (LeavesClosed journal (g.files old)) → {content : List ℕ} → Puts journal content (g.files old) (g.files new) r
+  pub open_writes : (new : D) (r told : Result (Unit {0}) DiskFault) → PassesOver g old new (LeavesClosed journal (g.files old)) → {content : List ℕ} → Puts journal content (g.files old) (g.files new) r
       → OnOk told (IsOpenOver entries (g.files new)) → WritesRecord g entries old new told
-  armed_writes new r told time puts opened = record {
+  open_writes new r told time puts opened = record {
     opened = opened;
     any_moment = arming new time;
     others = subst (λ (n : List ℕ). (other : List ℕ) → other ≢ n → g.files new other ≡ g.files old other) name_is puts.others;
@@ -124,13 +124,13 @@ module _ {D : Type 0} (g : Ghosts D) (old : D) (journal : List ℕ) (name_is : j
       → PassesOver g mid new (LeavesBody journal (g.files mid)) → Puts journal (1 ∷ drop 1 (g.files mid journal).content) (g.files mid) (g.files new) r
       → WritesRecord g entries old new r
   opened_writes gate body begins mid new r arm_time arms opening opens =
-      let armed = subst (λ (n : List ℕ). Puts n (overwritten 1 body (g.files old n).content) (g.files old) (g.files mid) (Ok tt)) name_is arms in
+      let over_record = subst (λ (n : List ℕ). Puts n (overwritten 1 body (g.files old n).content) (g.files old) (g.files mid) (Ok tt)) name_is arms in
       let opened = subst (λ (n : List ℕ). Puts n (1 ∷ drop 1 (g.files mid n).content) (g.files mid) (g.files new) r) name_is opens in
       record {
-        opened = on_ok_both r opened.stable opened.is (opened_over entries (g.files old) can gate body begins (g.files mid) armed.is armed.others (g.files new));
+        opened = on_ok_both r opened.stable opened.is (opened_over entries (g.files old) can gate body begins (g.files mid) over_record.is over_record.others (g.files new));
         any_moment = λ rest. passes_then (arming mid arm_time rest) opening (λ image left.
-            while_opening entries (g.files old) can gate body begins (g.files mid) armed.is armed.others rest image (subst (λ (n : List ℕ). LeavesBody n (g.files mid) image) name_is left));
-        others = λ name not. opened.others name not ∙ armed.others name not;
+            while_opening entries (g.files old) can gate body begins (g.files mid) over_record.is over_record.others rest image (subst (λ (n : List ℕ). LeavesBody n (g.files mid) image) name_is left));
+        others = λ name not. opened.others name not ∙ over_record.others name not;
         alone = alone_then g (IsUnwritten entries) old mid new (arming_alone mid (Ok tt) arm_time arms)
             (alone_journal g journal (IsUnwritten entries) (LeavesBody journal (g.files mid)) mid new name_is (λ name is. is.apart) opens.others opening (λ image left. left.others));
       }

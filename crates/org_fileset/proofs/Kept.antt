@@ -26,7 +26,7 @@ use Rattle.org_fileset.proofs.Patching.{may_leave, takes_write, takes_cut}
 use Rattle.org_fileset.proofs.Takes.{entry-TakesTo, named_apart, applicable_at}
 use Rattle.org_fileset.proofs.Replaying.{not_journal, entry_takes}
 use Rattle.org_fileset.proofs.Recovers.{recovers_open, open_recovers, all_fit-takes}
-use Rattle.org_fileset.proofs.Recovering.{armed_takes, formed_applicable}
+use Rattle.org_fileset.proofs.Recovering.{open_takes, formed_applicable}
 
 -- Applying again
 
@@ -50,19 +50,19 @@ module _ (entries : List Entry) (texts : Image) (files : List ℕ → FileState)
 
   over : IsOpenOver entries files
   over = record {
-    stable = is.armed.stable;
-    opened = is.armed.opened;
-    found = is.armed.found ∙ ap (λ (l : List Entry). let o : Option (List Entry) = Some l in o) is.same_entries;
+    stable = is.over_record.stable;
+    opened = is.over_record.opened;
+    found = is.over_record.found ∙ ap (λ (l : List Entry). let o : Option (List Entry) = Some l in o) is.same_entries;
   }
 
   stand : (image : Image) → AreImages files image → RecoversTo texts image
-  stand image left = subst (λ (t : Image). RecoversTo t image) is.same_texts (is.armed.same image left)
+  stand image left = subst (λ (t : Image). RecoversTo t image) is.same_texts (is.over_record.same image left)
 
   fit : all_fit entries (contents files) ≡ true
   fit = all_fit-takes entries (contents files) texts applicable (open_recovers entries texts (contents files) over.opened over.found (stand (contents files) own))
 
   takes : EachTakes entries texts files
-  takes = subst (λ (t : Image). EachTakes entries t files) is.same_texts (armed_takes files own entries applicable over fit is.armed)
+  takes = subst (λ (t : Image). EachTakes entries t files) is.same_texts (open_takes files own entries applicable over fit is.over_record)
 
   -- of its file the entry makes one text, whatever a crash leaves of it
   pub here : EachPatchedTo (pairs_of entry.patches) entry.length (texts entry.name) (files entry.name)
@@ -86,17 +86,17 @@ module _ (entries : List Entry) (texts : Image) (files : List ℕ → FileState)
           | inr other ↦ takes.each name not (image name) (left.others name other.0)
         ])
 
-    armed_after : (new : List ℕ → FileState) (result : Result (Unit {0}) DiskFault) → Changes effect entry.name files new result → IsArmedFor entries texts new
-    armed_after new result changes =
+    open_after : (new : List ℕ → FileState) (result : Result (Unit {0}) DiskFault) → Changes effect entry.name files new result → IsArmedFor entries texts new
+    open_after new result changes =
         let same : new journal_name ≡ files journal_name = changes.others journal_name (λ name. apart (sym name)) in
         record {
-          armed = record {
+          over_record = record {
             stable = subst IsStable (sym same) over.stable;
             opened = ap (λ (f : FileState). is_open f.content) same ∙ over.opened;
             entries = entries;
             found = ap (λ (f : FileState). journal_at (drop 1 f.content)) same ∙ over.found;
             others = λ name not none. subst IsStable (sym (changes.others name (named_apart entries member.0 entry name none at)))
-                (is.armed.others name not (ap (λ (l : List Entry). is_named name l) is.same_entries ∙ none));
+                (is.over_record.others name not (ap (λ (l : List Entry). is_named name l) is.same_entries ∙ none));
             texts = texts;
             same = λ image left. left_recovers image (left_after changes image left);
           };
@@ -106,7 +106,7 @@ module _ (entries : List Entry) (texts : Image) (files : List ℕ → FileState)
         }
 
     pub keeps : KeepsTexts effect entry.name entries texts files
-    keeps = record { any_moment = left_recovers; after = armed_after }
+    keeps = record { any_moment = left_recovers; after = open_after }
 
 pub keeps_write : (entries : List Entry) (texts : Image) (files : List ℕ → FileState) (entry : Entry) (patch : Patch) → IsArmedFor entries texts files → AreImages files (contents files)
     → Contains entries entry → Contains entry.patches patch → patch.from ≤ length (contents files entry.name) → KeepsTexts (write patch.from patch.bytes) entry.name entries texts files

@@ -10,7 +10,7 @@ mod Takes
 pub mod Writes
 mod Replaying
 pub mod Recovers
-mod Armed
+mod OpenGate
 pub mod Commits
 mod Changes
 pub mod Lookups

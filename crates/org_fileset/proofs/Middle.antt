@@ -1,7 +1,7 @@
 -- What lies on the disk between two parts of a call.
 use Rattle.std.proofs.Common.{◌≡◌, ◌⊎◌, inl, inr, ⊎_elim, ℕ, List, false, sym, ◌∙◌}
 use Rattle.org_disk.specs.declared.disk.Disk.{Ghosts}
-use Rattle.org_disk.specs.Accounts.{LeavesOver}
+use Rattle.org_disk.specs.CountsFailures.{LeavesOver}
 use Rattle.org_disk.specs.Disk.{FileState, AreImages}
 use Rattle.org_disk.specs.Names.{journal_name}
 use Rattle.org_journal.specs.Gate.{is_open}

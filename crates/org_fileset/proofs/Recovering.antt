@@ -12,13 +12,13 @@ use Rattle.org_disk.proofs.Images.{only_image, stable_is}
 use Rattle.org_disk.proofs.Names.{name_cases}
 use Rattle.org_journal.specs.declared.record.Entry.{Entry}
 use Rattle.org_journal.specs.declared.finding.Found.{Found}
-use Rattle.org_journal.specs.declared.finding.Found.TheVariants.{Armed, Closed}
+use Rattle.org_journal.specs.declared.finding.Found.TheVariants.{Open, Closed}
 use Rattle.org_journal.specs.Finding.{Finds}
 use Rattle.org_journal.specs.Gate.{front_size, is_open, HasClosedGate, LeavesClosed}
 use Rattle.org_journal.specs.Reading.{journal_at}
 use Rattle.org_journal.specs.declared.record.Version.TheVariants.{Two}
 use Rattle.org_journal.specs.Record.{is_named, IsEntry, IsWellFormed}
-use Rattle.org_journal.specs.Recovered.{Image, SameFiles, RecoversTo, IsArmed, IsRecoverable, OthersStable, recovered, all_fit, replayed, contents}
+use Rattle.org_journal.specs.Recovered.{Image, SameFiles, RecoversTo, IsOpenOverRecord, IsRecoverable, OthersStable, recovered, all_fit, replayed, contents}
 use Rattle.org_fileset.specs.Recovery.{EachRecovers, RecoversAsBefore, is_closed, closed_journal}
 use Rattle.org_fileset.specs.Replay.{TakesTo, IsApplicable, AreApplicable, EachTakes, IsOpenOver, IsReplayable, IsAtRest}
 use Rattle.org_fileset.proofs.Recovers.{recovers_open, recovers_closed, open_recovers, takes-replayed}
@@ -117,18 +117,18 @@ sync_after name old new r own changes other bytes image = elim (name_cases other
 pub sync_recoverable : (old new : List ℕ → FileState) (r : Result (Unit {0}) DiskFault) → IsImage (old journal_name) (old journal_name).content → ((name : List ℕ) → IsImage (new name) (new name).content)
     → Changes sync journal_name old new r → IsRecoverable old → IsRecoverable new
 sync_recoverable old new r own images changes (inl stable) = inl (λ name not. subst IsStable (sym (changes.others name not)) (stable name not))
-sync_recoverable old new r own images changes (inr armed) =
+sync_recoverable old new r own images changes (inr over_record) =
     let only : (bytes : List ℕ) → IsImage (new journal_name) bytes → bytes ≡ (old journal_name).content =
-    λ bytes image. only_image armed.stable bytes (sync_after journal_name old new r own changes journal_name bytes image) in
+    λ bytes image. only_image over_record.stable bytes (sync_after journal_name old new r own changes journal_name bytes image) in
     let same : (new journal_name).content ≡ (old journal_name).content = only (new journal_name).content (images journal_name) in
     inr (record {
       stable = stable_from_only (new journal_name) (images journal_name) (λ bytes image. only bytes image ∙ sym same);
-      opened = ap is_open same ∙ armed.opened;
-      entries = armed.entries;
-      found = ap (λ (l : List ℕ). journal_at (drop 1 l)) same ∙ armed.found;
-      others = λ name not none. subst IsStable (sym (changes.others name not)) (armed.others name not none);
-      texts = armed.texts;
-      same = λ image left. armed.same image (λ name. sync_after journal_name old new r own changes name (image name) (left name));
+      opened = ap is_open same ∙ over_record.opened;
+      entries = over_record.entries;
+      found = ap (λ (l : List ℕ). journal_at (drop 1 l)) same ∙ over_record.found;
+      others = λ name not none. subst IsStable (sym (changes.others name not)) (over_record.others name not none);
+      texts = over_record.texts;
+      same = λ image left. over_record.same image (λ name. sync_after journal_name old new r own changes name (image name) (left name));
     })
 
 -- What the record of a recoverable disk makes
@@ -173,28 +173,28 @@ module _ (files : List ℕ → FileState) (own : (name : List ℕ) → IsImage (
   }
 
   -- and the other
-  pub armed_takes : (armed : IsArmed files) → EachTakes entries armed.texts files
-  armed_takes armed = record {
+  pub open_takes : (over_record : IsOpenOverRecord files) → EachTakes entries over_record.texts files
+  open_takes over_record = record {
     each = λ name not text image.
         let whole = with_bytes files name text in
-        subst (λ (t : List ℕ). TakesTo entries name t (armed.texts name)) (here_is files own name text)
-        (open_recovers entries armed.texts whole (ap is_open (journal_is files own name text not) ∙ over.opened)
-        (ap (λ (l : List ℕ). journal_at (drop 1 l)) (journal_is files own name text not) ∙ over.found) (armed.same whole (one_image files own name text image)) name not);
+        subst (λ (t : List ℕ). TakesTo entries name t (over_record.texts name)) (here_is files own name text)
+        (open_recovers entries over_record.texts whole (ap is_open (journal_is files own name text not) ∙ over.opened)
+        (ap (λ (l : List ℕ). journal_at (drop 1 l)) (journal_is files own name text not) ∙ over.found) (over_record.same whole (one_image files own name text image)) name not);
   }
 
-  pub armed_replayable : IsArmed files → IsReplayable entries files
-  armed_replayable armed =
-      let one : Some armed.entries ≡ Some entries = sym armed.found ∙ over.found in
-      let same : armed.entries ≡ entries = cc in
+  pub open_replayable : IsOpenOverRecord files → IsReplayable entries files
+  open_replayable over_record =
+      let one : Some over_record.entries ≡ Some entries = sym over_record.found ∙ over.found in
+      let same : over_record.entries ≡ entries = cc in
       record {
-        others = λ name not none. armed.others name not (ap (λ (l : List Entry). is_named name l) same ∙ none);
-        texts = armed.texts;
-        takes = armed_takes armed;
+        others = λ name not none. over_record.others name not (ap (λ (l : List Entry). is_named name l) same ∙ none);
+        texts = over_record.texts;
+        takes = open_takes over_record;
       }
 
   pub recoverable_replayable : IsRecoverable files → IsReplayable entries files
   recoverable_replayable (inl stable) = stable_replayable stable
-  recoverable_replayable (inr armed) = armed_replayable armed
+  recoverable_replayable (inr over_record) = open_replayable over_record
 
   -- the contents recover to what it makes
   pub contents_recover : (can : IsReplayable entries files) → RecoversTo can.texts (contents files)
@@ -203,7 +203,7 @@ module _ (files : List ℕ → FileState) (own : (name : List ℕ) → IsImage (
 -- A closed gate on a recoverable disk: all other files are on the disk.
 pub closed_stable : (files : List ℕ → FileState) → is_open (contents files journal_name) ≡ false → IsRecoverable files → OthersStable files
 closed_stable files shut (inl stable) = stable
-closed_stable files shut (inr armed) = absurd (false≢true (sym shut ∙ armed.opened))
+closed_stable files shut (inr over_record) = absurd (false≢true (sym shut ∙ over_record.opened))
 
 -- a stable journal of which the gate is closed has it on the disk
 pub shut_gate : (file : FileState) → IsStable file → is_open file.content ≡ false → front_size ≤ length file.content → HasClosedGate file
@@ -229,9 +229,9 @@ as_before files each image left =
     record { start = image; left = left; texts = found.0; recovered_then = recovered_then; recovers_now = recovered_then }
 
 -- an open gate: what recovers to the files that the record makes
-pub armed_before : (files : List ℕ → FileState) (entries : List Entry) → ((name : List ℕ) → IsImage (files name) (files name).content) → AreApplicable entries → IsOpenOver entries files
+pub open_before : (files : List ℕ → FileState) (entries : List Entry) → ((name : List ℕ) → IsImage (files name) (files name).content) → AreApplicable entries → IsOpenOver entries files
     → all_fit entries (contents files) ≡ true → (can : IsReplayable entries files) → (image : Image) → RecoversTo can.texts image → RecoversAsBefore files image
-armed_before files entries own applicable over fit can image stand =
+open_before files entries own applicable over fit can image stand =
     record { start = contents files; left = own; texts = can.texts; recovered_then = contents_recover files own entries applicable over fit can; recovers_now = stand }
 
 -- a closed one: what recovers to the files themselves
@@ -302,7 +302,7 @@ recovered_closed files new shut same = rw shut same
 -- A journal that was found isn't bad.
 pub found_good : (files : Image) (found : Found) → Finds files (Ok found) → recovered files ≡ None → ⊥
 found_good files Closed shut none = subst (λ (o : Option Image). IsSomeAnd o (λ f. Unit {0})) none (rw shut tt)
-found_good files (Armed entries) found none =
+found_good files (Open entries) found none =
     let opened = found.0 in
     let told = found.1 in
     let fits = found.2 in

@@ -4,7 +4,7 @@ use Rattle.org_disk.specs.declared.disk.Disk.{Ghosts}
 use Rattle.std.specs.Prelude.{IsSomeAnd}
 use Rattle.std.proofs.lemmas.Result.{on_ok_weaker}
 use Rattle.org_disk.specs.Disk.{FileState, IsImage, IsStable, AreImages, AreLeftBy, Changes, sync}
-use Rattle.org_disk.specs.Accounts.{LooksOver, PassesOver}
+use Rattle.org_disk.specs.CountsFailures.{LooksOver, PassesOver}
 use Rattle.org_disk.specs.Names.{journal_name}
 use Rattle.org_disk.specs.declared.disk.DiskFault.{DiskFault}
 use Rattle.org_disk.proofs.Images.{stable_is}
@@ -14,7 +14,7 @@ use Rattle.org_journal.specs.declared.record.Entry.{Entry}
 use Rattle.org_journal.specs.declared.fault.FindFault.{FindFault}
 use Rattle.org_journal.specs.declared.fault.FindFault.TheVariants.{BadJournal}
 use Rattle.org_journal.specs.declared.finding.Found.{Found}
-use Rattle.org_journal.specs.declared.finding.Found.TheVariants.{Armed, Closed}
+use Rattle.org_journal.specs.declared.finding.Found.TheVariants.{Open, Closed}
 use Rattle.org_journal.specs.Finding.{Finds, IsWritable}
 use Rattle.org_journal.specs.Gate.{front_size, is_open, HasClosedGate, LeavesClosed, Puts}
 use Rattle.org_journal.specs.Recovered.{Image, SameFiles, IsRecoverable, recovered, all_fit, contents}
@@ -22,9 +22,9 @@ use Rattle.org_fileset.specs.Looking.{IsLookedAt, IsFoundIn}
 use Rattle.org_fileset.specs.Recovery.{EachRecovers, RecoversAsBefore, IsReopened, ReopensOver, is_closed, closed_journal}
 use Rattle.org_fileset.specs.Replay.{AreApplicableTo, IsOpenOver, IsAtRest, ReplaysOver}
 use Rattle.org_fileset.specs.Writes.{LeavesAlone, IsUnconcerned, IsUnwritten}
-use Rattle.org_fileset.proofs.Armed.{closed_after, on_ok_both}
+use Rattle.org_fileset.proofs.OpenGate.{closed_after, on_ok_both}
 use Rattle.org_fileset.proofs.Writes.{alone_fewer, alone_journal, alone_looks, alone_then}
-use Rattle.org_fileset.proofs.Recovering.{as_before, formed_applicable, sync_left, sync_after, sync_recoverable, armed_before, closed_before, recoverable_replayable, closed_stable, closed_rest, shut_gate, closed_open, closed_short, closed_shut, not_short, not_open, recovered_closed, found_good}
+use Rattle.org_fileset.proofs.Recovering.{as_before, formed_applicable, sync_left, sync_after, sync_recoverable, open_before, closed_before, recoverable_replayable, closed_stable, closed_rest, shut_gate, closed_open, closed_short, closed_shut, not_short, not_open, recovered_closed, found_good}
 
 -- What is found behind a sync that succeeded: it stands in a journal that is on the disk, and each content is as it was.
 module _ (journal : List ℕ) (old mid new : List ℕ → FileState) (name_is : journal ≡ journal_name) (synced : Changes sync journal old mid (Ok tt)) (looked : new ≡ mid) where
@@ -54,16 +54,16 @@ found_by (Ok found) image finds told = λ honest. told honest found (finds hones
 found_by (Err fault) image finds told = tt
 
 -- what was found is these entries
-pub armed_as : {found : Found} {record_entries entries : List Entry} → found ≡ Armed record_entries → entries ≡ record_entries → found ≡ Armed entries
-armed_as is same = is ∙ ap (λ (l : List Entry). let x : Found = Armed l in x) (sym same)
+pub open_as : {found : Found} {record_entries entries : List Entry} → found ≡ Open record_entries → entries ≡ record_entries → found ≡ Open entries
+open_as is same = is ∙ ap (λ (l : List Entry). let x : Found = Open l in x) (sym same)
 
 -- a record that was found stands behind an open gate, and can be applied to its files
-pub open_over : (files : List ℕ → FileState) (found : Found) (entries : List Entry) → IsStable (files journal_name) → found ≡ Armed entries → IsWritable found → Finds (contents files) (Ok found)
+pub open_over : (files : List ℕ → FileState) (found : Found) (entries : List Entry) → IsStable (files journal_name) → found ≡ Open entries → IsWritable found → Finds (contents files) (Ok found)
     → IsOpenOver entries files × AreApplicableTo entries files
 open_over files found entries stable is writable finds =
-    let armed = subst (λ (x : Found). Finds (contents files) (Ok x)) is finds in (
-      record { stable = stable; opened = armed.0; found = armed.1 },
-      record { applicable = formed_applicable entries (subst IsWritable is writable); fits = armed.2 },
+    let over_record = subst (λ (x : Found). Finds (contents files) (Ok x)) is finds in (
+      record { stable = stable; opened = over_record.0; found = over_record.1 },
+      record { applicable = formed_applicable entries (subst IsWritable is writable); fits = over_record.2 },
     )
 
 module _ {D : Type 0} (g : Ghosts D) where
@@ -157,9 +157,9 @@ module _ {D : Type 0} (g : Ghosts D) (old : D)
             gate = done.gate;
             rest = λ fit each. done.rest (can fit);
           }) replays.done;
-          any_moment = λ fit each. leaves_only (passes_as (replays.any_moment (can fit)) (armed_before now entries own applicable over fits (can fit))) (before each);
+          any_moment = λ fit each. leaves_only (passes_as (replays.any_moment (can fit)) (open_before now entries own applicable over fits (can fit))) (before each);
           recoverable = λ fit each. replays.recoverable (can fit);
-          bad = λ none. absurd (found_good (contents now) (Armed entries) (opened, told, fits) none);
+          bad = λ none. absurd (found_good (contents now) (Open entries) (opened, told, fits) none);
           idle = not_open (contents now journal_name) opened;
           alone = alone_fewer g (IsUnconcerned (contents now journal_name)) (IsUnwritten entries) old new replays.alone
               (λ name is. record { apart = is.apart; unnamed = is.unnamed opened entries told });

@@ -5,7 +5,7 @@ use Rattle.std.proofs.lemmas.Result.{on_ok_weaker}
 use Rattle.std.proofs.lemmas.List.{get_or-take, get_or_append_left, get_or-set_same, get_or-set_other, length-append, length-set, length-take-le}
 use Rattle.org_disk.specs.declared.disk.Disk.{Ghosts}
 use Rattle.org_disk.specs.declared.disk.DiskFault.{DiskFault}
-use Rattle.org_disk.specs.Accounts.{LooksOver, PassesOver}
+use Rattle.org_disk.specs.CountsFailures.{LooksOver, PassesOver}
 use Rattle.org_disk.specs.Names.{journal_name}
 use Rattle.org_disk.specs.Disk.{FileState, IsImage, IsOutside, IsStable, AreImages, AreLeftBy, Changes, MayLeave, write}
 use Rattle.org_disk.proofs.Accounting.{looks_none, looks_then}
@@ -18,7 +18,7 @@ use Rattle.org_journal.specs.Gate.{is_open}
 use Rattle.org_journal.specs.Recovered.{RecoversTo, SameFiles, contents, replayed}
 use Rattle.org_fileset.specs.Replay.{CommitsEntriesOver, IsAtRest, IsBeforeOrAfter, IsClosedOver, IsCommitted}
 use Rattle.org_fileset.specs.Writes.{IsUnwritten, TriesOver}
-use Rattle.org_fileset.proofs.Armed.{on_ok_never}
+use Rattle.org_fileset.proofs.OpenGate.{on_ok_never}
 use Rattle.org_fileset.proofs.Commits.{at_rest_recovers, shut}
 use Rattle.org_fileset.proofs.Recovers.{recovers_closed}
 use Rattle.org_fileset.proofs.Writes.{alone_looks, alone_then}

@@ -6,7 +6,7 @@ use Rattle.std.specs.List.{list_any}
 use Rattle.std.specs.Map.{keys_of}
 use Rattle.std.specs.Str.{bytes_eq}
 use Rattle.org_disk.specs.Disk.{FileState, IsImage, AreLeftBy, Changes}
-use Rattle.org_disk.specs.Accounts.{LooksOver, PassesOver}
+use Rattle.org_disk.specs.CountsFailures.{LooksOver, PassesOver}
 use Rattle.org_disk.specs.Names.{journal_name}
 use Rattle.org_disk.specs.declared.disk.DiskFault.{DiskFault}
 use Rattle.org_disk.proofs.Moments.{Image, passes_none, passes_as, passes_then}

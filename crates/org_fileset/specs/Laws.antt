@@ -8,7 +8,7 @@ use Rattle.org_splice.specs.Texts.{EditedText}
 use Rattle.org_journal.specs.declared.record.Entry.{Entry}
 use Rattle.org_journal.specs.declared.record.Version.TheVariants.{Two}
 use Rattle.org_journal.specs.Record.{IsWellFormed}
-use Rattle.org_journal.specs.Recovered.{Image, SameFiles, RecoversTo, IsArmed, IsRecoverable, contents}
+use Rattle.org_journal.specs.Recovered.{Image, SameFiles, RecoversTo, IsOpenOverRecord, IsRecoverable, contents}
 use Rattle.org_fileset.specs.Entries.{changed}
 use Rattle.org_fileset.specs.Recovery.{EachRecovers}
 use Rattle.org_fileset.specs.Replay.{IsAtRest}
@@ -17,9 +17,9 @@ use Rattle.org_fileset.specs.Replay.{IsAtRest}
 -- these texts.
 pub record IsArmedFor (entries : List Entry) (texts : Image) (files : List ℕ → FileState)
     : Type 0 where
-  pub armed : IsArmed files
-  pub same_entries : armed.entries ≡ entries
-  pub same_texts : armed.texts ≡ texts
+  pub over_record : IsOpenOverRecord files
+  pub same_entries : over_record.entries ≡ entries
+  pub same_texts : over_record.texts ≡ texts
   pub formed : IsWellFormed Two entries
 
 -- A call of this effect on the file of one name keeps that: whatever a crash leaves within the call

@@ -2,7 +2,7 @@
 use Rattle.std.specs.Prelude.{◌≡◌, ℕ, List, Ok}
 use Rattle.org_disk.specs.declared.disk.Disk.{Ghosts}
 use Rattle.org_disk.specs.Disk.{FileState, AreImages, IsStable}
-use Rattle.org_disk.specs.Accounts.{PassesOver}
+use Rattle.org_disk.specs.CountsFailures.{PassesOver}
 use Rattle.org_disk.specs.Names.{journal_name}
 use Rattle.org_journal.specs.declared.finding.Found.{Found}
 use Rattle.org_journal.specs.Finding.{Finds}

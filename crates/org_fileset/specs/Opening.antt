@@ -3,7 +3,7 @@ use Rattle.std.specs.Prelude.{◌≡◌, ◌≢◌, ◌≤◌, ℕ, List, length
 use Rattle.org_disk.specs.declared.disk.Disk.{Ghosts}
 use Rattle.std.specs.Global.{Global}
 use Rattle.std.specs.List.{AllByRecursion}
-use Rattle.org_disk.specs.Accounts.{Accounts}
+use Rattle.org_disk.specs.CountsFailures.{CountsFailures}
 use Rattle.org_disk.specs.Names.{journal_name}
 use Rattle.org_disk.specs.declared.name.FileName.{FileName}
 use Rattle.org_journal.specs.Record.{most_entries}
@@ -104,4 +104,4 @@ pub record Opens {S D : Type 0} (g : Ghosts D) (given : List (List ℕ)) (before
     (result : Result S (OpenRefused D)) : Type 0 where
   pub reopens : Reopens g before now result
   pub refused : IfErr result (λ refused. IsRefusedFor g given before refused.disk refused.fault)
-  pub accounts : Accounts g before now (IsDeviceRefusal result)
+  pub accounts : CountsFailures g before now (IsDeviceRefusal result)

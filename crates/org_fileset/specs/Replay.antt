@@ -5,7 +5,7 @@ use Rattle.org_disk.specs.declared.disk.Disk.{Ghosts}
 use Rattle.std.specs.List.{AllByRecursion}
 use Rattle.std.specs.Str.{bytes_eq}
 use Rattle.org_disk.specs.Disk.{FileState, IsImage, IsStable, Passes}
-use Rattle.org_disk.specs.Accounts.{PassesOver, LeavesOver}
+use Rattle.org_disk.specs.CountsFailures.{PassesOver, LeavesOver}
 use Rattle.org_disk.specs.Names.{journal_name, is_file_name}
 use Rattle.org_disk.specs.declared.disk.DiskFault.{DiskFault}
 use Rattle.org_splice.specs.Patches.{AreWellFormed, Fit, PatchedTo}

@@ -4,7 +4,7 @@ use Rattle.std.specs.Global.{Global}
 use Rattle.std.specs.List.{All, AllByRecursion, Contains}
 use Rattle.std.specs.Map.{keys_of}
 use Rattle.org_disk.specs.declared.disk.Disk.{Ghosts}
-use Rattle.org_disk.specs.Accounts.{Accounts}
+use Rattle.org_disk.specs.CountsFailures.{CountsFailures}
 use Rattle.org_disk.specs.Disk.{FileState}
 use Rattle.org_disk.specs.Names.{journal_name}
 use Rattle.org_splice.specs.Texts.{EditedText, IsEditOf}
@@ -54,9 +54,9 @@ pub record KeepsSet {D A : Type 0} (old new : Opened D) (result : Result A SetFa
   pub untouched : IsTrue old.broken → new ≡ old
 
 -- These bytes were read, or the call failed: they are what lay in the file of this name.
-abbrev pub GivesBytes : {D E : Type 0} → Ghosts D → D → List ℕ → D → Result (Vec ℕ Global) E
+abbrev pub ReadsBytes : {D E : Type 0} → Ghosts D → D → List ℕ → D → Result (Vec ℕ Global) E
     → Type 0
-GivesBytes g old name new result =
+ReadsBytes g old name new result =
     IfOk result (λ bytes. g.honest new → bytes.items ≡ contents (g.files old) name)
 
 -- What a commit of changes does to a disk: it has the files as they were or with the changed texts,
@@ -82,7 +82,7 @@ pub record CommitsSet {D A : Type 0} (g : Ghosts D) (old : Opened D)
   -- want of memory leaves all as it was
   pub memory : IsErrOf result OutOfMemory → new ≡ old
   pub set : KeepsSet old new result
-  pub accounts : Accounts g old.disk new.disk (IsErrOf result Device)
+  pub accounts : CountsFailures g old.disk new.disk (IsErrOf result Device)
 
 -- Changes that may be committed to a set of these names over these files: the names are the set's,
 -- and the texts are edits of what the files hold, and within the limit.

@@ -5,7 +5,7 @@ use Rattle.std.specs.List.{list_any}
 use Rattle.std.specs.Str.{bytes_eq}
 use Rattle.org_disk.specs.declared.disk.DiskFault.{DiskFault}
 use Rattle.org_disk.specs.Disk.{AreImages, FileState, IsImage}
-use Rattle.org_disk.specs.Accounts.{LooksOver, PassesOver}
+use Rattle.org_disk.specs.CountsFailures.{LooksOver, PassesOver}
 use Rattle.org_disk.specs.Names.{journal_name}
 use Rattle.org_journal.specs.declared.record.Entry.{Entry}
 use Rattle.org_journal.specs.Gate.{is_open}

@@ -4,7 +4,7 @@
 //! of its file. Nothing here looks at the journal.
 ghost use Rattle.std.specs.Prelude.{◌≡◌, ◌≢◌, ◌+◌, ◌^◌, ◌<◌, ◌≤◌, List, ℕ, length, IsFalse, OnOk, IsErr};
 ghost use Rattle.org_disk.specs.Disk.{AreLeftBy, Changes, IsStable, write};
-ghost use Rattle.org_disk.specs.Accounts.{Accounts, PassesOver};
+ghost use Rattle.org_disk.specs.CountsFailures.{CountsFailures, PassesOver};
 ghost use Rattle.org_splice.specs.Patches.{patched};
 ghost use Rattle.org_splice.specs.Texts.{pairs_of};
 ghost use Rattle.org_journal.specs.Record.{is_named};
@@ -26,7 +26,7 @@ fn write_patch<D: Disk>(disk: &mut D, name: &FileName, patch: &Patch) -> Result<
         (D.files disk.old) (D.files disk.new) result }
     ensures time { D.honest disk.new → PassesOver D.Disk disk.old disk.new
         (AreLeftBy (write patch.now.from patch.now.bytes) name.now (D.files disk.old)) }
-    ensures accounts { Accounts D.Disk disk.old disk.new (IsErr result) }
+    ensures accounts { CountsFailures D.Disk disk.old disk.new (IsErr result) }
 {
     if patch.bytes.is_empty() {
         return Ok(());
@@ -49,7 +49,7 @@ pub fn apply_entry<D: Disk>(disk: &mut D, entry: &Entry) -> Result<(), DiskFault
         (D.files disk.old entry.now.name).content) }
     ensures alone { D.honest disk.new → LeavesAlone D.Disk
         (λ other. other ≢ entry.now.name) disk.old disk.new }
-    ensures accounts { Accounts D.Disk disk.old disk.new (IsErr result) }
+    ensures accounts { CountsFailures D.Disk disk.old disk.new (IsErr result) }
 {
     for patch in entry.patches.as_slice() {
         write_patch(disk, &entry.name, patch)?;
@@ -76,7 +76,7 @@ pub fn apply_all<D: Disk>(disk: &mut D, entries: &[Entry]) -> Result<(), DiskFau
         name) }
     ensures alone { D.honest disk.new → LeavesAlone D.Disk
         (λ name. IsFalse (is_named name entries.now)) disk.old disk.new }
-    ensures accounts { Accounts D.Disk disk.old disk.new (IsErr result) }
+    ensures accounts { CountsFailures D.Disk disk.old disk.new (IsErr result) }
 {
     for entry in entries {
         apply_entry(disk, entry)?;
@@ -100,7 +100,7 @@ pub fn sync_all<D: Disk>(disk: &mut D, entries: &[Entry]) -> Result<(), DiskFaul
         → IsStable (D.files disk.new name)) }
     ensures alone { D.honest disk.new → LeavesAlone D.Disk
         (λ name. IsFalse (is_named name entries.now)) disk.old disk.new }
-    ensures accounts { Accounts D.Disk disk.old disk.new (IsErr result) }
+    ensures accounts { CountsFailures D.Disk disk.old disk.new (IsErr result) }
 {
     for entry in entries {
         disk.sync(&entry.name)?;

@@ -4,7 +4,7 @@
 //! What a commit has to do it does for any entries that fit their files; that they are changes of a
 //! set is `set`'s matter.
 ghost use Rattle.std.specs.Prelude.{◌≡◌, List, IsErr};
-ghost use Rattle.org_disk.specs.Accounts.{Accounts};
+ghost use Rattle.org_disk.specs.CountsFailures.{CountsFailures};
 ghost use Rattle.org_disk.specs.Names.{journal_name};
 ghost use Rattle.org_journal.specs.Gate.{HasClosedGate};
 ghost use Rattle.org_journal.specs.Record.{BeginsWith};
@@ -28,7 +28,7 @@ pub fn replay<D: Disk>(disk: &mut D, journal: &FileName, entries: &[Entry]) -> R
     requires applicable { D.honest disk.old → AreApplicableTo entries.now (D.files disk.old) }
     requires opened { D.honest disk.old → IsOpenOver entries.now (D.files disk.old) }
     ensures replays { D.honest disk.new → ReplaysOver D.Disk entries.now disk.old disk.new result }
-    ensures accounts { Accounts D.Disk disk.old disk.new (IsErr result) }
+    ensures accounts { CountsFailures D.Disk disk.old disk.new (IsErr result) }
 {
     apply_all(disk, entries)?;
     sync_all(disk, entries)?;
@@ -43,7 +43,7 @@ fn write_record<D: Disk>(disk: &mut D, journal: &FileName, body: &[u8]) -> Resul
     ensures writes { D.honest disk.new → (entries : List Entry) → BeginsWith body.now entries
         → AreApplicableTo entries (D.files disk.old)
         → WritesRecord D.Disk entries disk.old disk.new result }
-    ensures accounts { Accounts D.Disk disk.old disk.new (IsErr result) }
+    ensures accounts { CountsFailures D.Disk disk.old disk.new (IsErr result) }
 {
     arm(disk, journal, body)?;
     open_gate(disk, journal)
@@ -62,7 +62,7 @@ fn write_and_replay<D: Disk>(
     requires gate { D.honest disk.old → HasClosedGate (D.files disk.old journal_name) }
     ensures commits { D.honest disk.new
         → CommitsEntriesOver D.Disk entries.now disk.old disk.new result }
-    ensures accounts { Accounts D.Disk disk.old disk.new (IsErr result) }
+    ensures accounts { CountsFailures D.Disk disk.old disk.new (IsErr result) }
 {
     write_record(disk, journal, body)?;
     replay(disk, journal, entries)
@@ -92,7 +92,7 @@ pub fn commit_entries<D: Disk>(
     requires gate { D.honest disk.old → HasClosedGate (D.files disk.old journal_name) }
     ensures commits { D.honest disk.new
         → CommitsEntriesOver D.Disk entries.now disk.old disk.new result }
-    ensures accounts { Accounts D.Disk disk.old disk.new (IsErr result) }
+    ensures accounts { CountsFailures D.Disk disk.old disk.new (IsErr result) }
 {
     try_all(disk, journal, entries)?;
     write_and_replay(disk, journal, entries, body)?;

@@ -3,7 +3,7 @@
 //! Each is the contract of a function with nothing to do.
 ghost use Rattle.std.specs.Prelude.{◌≤◌, ◌⊎◌, List, ℕ, length, IsSomeAnd};
 ghost use Rattle.std.specs.List.{Contains};
-ghost use Rattle.org_disk.specs.Accounts.{LeavesOver};
+ghost use Rattle.org_disk.specs.CountsFailures.{LeavesOver};
 ghost use Rattle.org_disk.specs.Disk.{FileState, AreImages, write, cut, sync};
 ghost use Rattle.org_splice.specs.Patches.{AreWellFormed, Fit, PatchedTo, IsPartlyPatched, patched};
 ghost use Rattle.org_splice.specs.Texts.{EditedText};

@@ -5,7 +5,7 @@
 //! names.
 ghost use Rattle.std.specs.Prelude.{◌≡◌, Err, IfOk, IfErr, IsErrOf};
 ghost use Rattle.std.specs.List.{All};
-ghost use Rattle.org_disk.specs.Accounts.{Accounts, Looks};
+ghost use Rattle.org_disk.specs.CountsFailures.{CountsFailures, Looks};
 ghost use Rattle.org_disk.specs.Names.{journal_name, IsOrgFile};
 ghost use Rattle.org_journal.specs.Recovered.{recovered, contents};
 ghost use Rattle.org_fileset.specs.Names.{with_archives, AreSorted, AreFew};
@@ -131,7 +131,7 @@ pub fn check_sizes<D: Disk>(disk: &mut D, names: &[FileName]) -> Result<(), Open
     ensures not_too_many { IsErrOf result OpenFault.TooManyFiles → ⊥ }
     ensures not_bad { IsErrOf result OpenFault.BadJournal → ⊥ }
     ensures looks { Looks D.Disk disk.old disk.new }
-    ensures accounts { Accounts D.Disk disk.old disk.new (IsErrOf result OpenFault.Device) }
+    ensures accounts { CountsFailures D.Disk disk.old disk.new (IsErrOf result OpenFault.Device) }
 {
     for name in names {
         if disk.length(name)? > LIMIT as u64 {
@@ -157,7 +157,7 @@ pub fn make_ready<D: Disk>(
     ensures answer { D.honest disk.new → IsAnswer (contents (D.files disk.old))
         (contents (D.files disk.new)) names.now result }
     ensures not_too_many { IsErrOf result OpenFault.TooManyFiles → ⊥ }
-    ensures accounts { Accounts D.Disk disk.old disk.new (IsErrOf result OpenFault.Device) }
+    ensures accounts { CountsFailures D.Disk disk.old disk.new (IsErrOf result OpenFault.Device) }
 {
     recover(alloc, disk, journal)?;
     check_sizes(disk, names)

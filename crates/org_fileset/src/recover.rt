@@ -2,7 +2,7 @@
 //!
 //! It may be stopped at any call and begun anew. A bad journal is left as it is.
 ghost use Rattle.std.specs.Prelude.{◌≡◌, Ok, IfOk, IsErr, IsErrOf, IsFalse};
-ghost use Rattle.org_disk.specs.Accounts.{Accounts};
+ghost use Rattle.org_disk.specs.CountsFailures.{CountsFailures};
 ghost use Rattle.org_disk.specs.Disk.{IsStable};
 ghost use Rattle.org_disk.specs.Names.{journal_name};
 ghost use Rattle.org_journal.specs.Finding.{Finds, IsWritable};
@@ -26,7 +26,7 @@ fn look<D: Disk>(alloc: Global, disk: &mut D, journal: &FileName) -> Result<Foun
     ensures writable { IfOk result (λ found. IsWritable found) }
     ensures bad { IsErrOf result FindFault.BadJournal → D.honest disk.new
         → IsFoundBad (contents (D.files disk.old)) (contents (D.files disk.new)) }
-    ensures accounts { Accounts D.Disk disk.old disk.new (IsErrOf result FindFault.Device) }
+    ensures accounts { CountsFailures D.Disk disk.old disk.new (IsErrOf result FindFault.Device) }
 {
     disk.sync(journal)?;
     find(alloc, disk, journal)
@@ -40,7 +40,7 @@ fn give_gate<D: Disk>(disk: &mut D, journal: &FileName) -> Result<(), DiskFault>
     requires closed { D.honest disk.old
         → IsFalse (is_open (contents (D.files disk.old) journal_name)) }
     ensures reopens { Reopens D.Disk disk.old disk.new result }
-    ensures accounts { Accounts D.Disk disk.old disk.new (IsErr result) }
+    ensures accounts { CountsFailures D.Disk disk.old disk.new (IsErr result) }
 {
     if disk.length(journal)? < FRONT {
         return prepare(disk, journal);
@@ -55,10 +55,10 @@ fn finish<D: Disk>(disk: &mut D, journal: &FileName, found: &Found) -> Result<()
     requires found { D.honest disk.old → Finds (contents (D.files disk.old)) (Ok found.now) }
     requires writable { IsWritable found.now }
     ensures reopens { Reopens D.Disk disk.old disk.new result }
-    ensures accounts { Accounts D.Disk disk.old disk.new (IsErr result) }
+    ensures accounts { CountsFailures D.Disk disk.old disk.new (IsErr result) }
 {
     match found {
-        Found::Armed(record) => replay(disk, journal, record.as_slice()),
+        Found::Open(record) => replay(disk, journal, record.as_slice()),
         Found::Closed => give_gate(disk, journal),
     }
 }
@@ -83,7 +83,7 @@ pub fn recover<D: Disk>(alloc: Global, disk: &mut D, journal: &FileName) -> Resu
     ensures reopens { Reopens D.Disk disk.old disk.new result }
     ensures bad { IsErrOf result FindFault.BadJournal → D.honest disk.new
         → IsFoundBad (contents (D.files disk.old)) (contents (D.files disk.new)) }
-    ensures accounts { Accounts D.Disk disk.old disk.new (IsErrOf result FindFault.Device) }
+    ensures accounts { CountsFailures D.Disk disk.old disk.new (IsErrOf result FindFault.Device) }
 {
     let found = look(alloc, disk, journal)?;
     finish(disk, journal, &found)?;

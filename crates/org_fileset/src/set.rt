@@ -4,10 +4,10 @@
 //! the set is broken, and makes no call. It holds no text; what files held is the caller's to keep.
 ghost use Rattle.std.specs.Prelude.{◌≡◌, ◌≢◌, [], true, false, IsFalse, IfOk, IsErrOf, IsOk};
 ghost use Rattle.std.specs.List.{All};
-ghost use Rattle.org_disk.specs.Accounts.{Accounts, Looks};
+ghost use Rattle.org_disk.specs.CountsFailures.{CountsFailures, Looks};
 ghost use Rattle.org_disk.specs.Names.{IsOrgFile};
 ghost use Rattle.org_fileset.specs.Opening.{Opens};
-ghost use Rattle.org_fileset.specs.Set.{CanCommit, CommitsSet, GivesBytes, IsOpenedSet, KeepsSet, disk_of};
+ghost use Rattle.org_fileset.specs.Set.{CanCommit, CommitsSet, ReadsBytes, IsOpenedSet, KeepsSet, disk_of};
 
 use crate::commit::commit_entries;
 use crate::entries::entries_of;
@@ -113,10 +113,10 @@ impl<D: Disk> FileSet<D> {
     /// - `Device`: a call of the disk failed; the set is broken from then on.
     /// - `OutOfMemory`: the file can be read again.
     pub fn read(&mut self, name: &FileName) -> Result<Vec<u8>, SetFault>
-        ensures text { GivesBytes D.Disk self.old.disk name.now self.new.disk result }
+        ensures text { ReadsBytes D.Disk self.old.disk name.now self.new.disk result }
         ensures looks { Looks D.Disk self.old.disk self.new.disk }
         ensures set { KeepsSet self.old self.new result }
-        ensures accounts { Accounts D.Disk self.old.disk self.new.disk
+        ensures accounts { CountsFailures D.Disk self.old.disk self.new.disk
             (IsErrOf result SetFault.Device) }
     {
         if self.broken {
@@ -194,10 +194,10 @@ pub(crate) fn read_file<D: Disk>(
     disk: &mut D,
     name: &FileName,
 ) -> Result<Vec<u8>, SetFault>
-    ensures text { GivesBytes D.Disk disk.old name.now disk.new result }
+    ensures text { ReadsBytes D.Disk disk.old name.now disk.new result }
     ensures looks { Looks D.Disk disk.old disk.new }
     ensures not_broken { IsErrOf result SetFault.Broken → ⊥ }
-    ensures accounts { Accounts D.Disk disk.old disk.new (IsErrOf result SetFault.Device) }
+    ensures accounts { CountsFailures D.Disk disk.old disk.new (IsErrOf result SetFault.Device) }
 {
     let length = disk.length(name)?;
     let mut bytes = vec![in alloc; 0u8; length as usize]?;

@@ -3,7 +3,7 @@
 //! A try is a write of no bytes: it changes nothing, and it fails where the disk can tell that a
 //! write would fail, or would go astray.
 ghost use Rattle.std.specs.Prelude.{◌≡◌, IsErr};
-ghost use Rattle.org_disk.specs.Accounts.{Accounts};
+ghost use Rattle.org_disk.specs.CountsFailures.{CountsFailures};
 ghost use Rattle.org_disk.specs.Names.{journal_name};
 ghost use Rattle.org_fileset.specs.Writes.{TriesOver};
 
@@ -23,7 +23,7 @@ pub fn try_all<D: Disk>(
 ) -> Result<(), DiskFault>
     requires { journal.now ≡ journal_name }
     ensures tries { D.honest disk.new → TriesOver D.Disk entries.now disk.old disk.new result }
-    ensures accounts { Accounts D.Disk disk.old disk.new (IsErr result) }
+    ensures accounts { CountsFailures D.Disk disk.old disk.new (IsErr result) }
 {
     disk.write_at(journal, 0, &[])?;
     try_files(disk, entries)
@@ -38,7 +38,7 @@ pub fn try_all<D: Disk>(
 /// `DiskFault`: a call of the disk failed.
 pub fn try_files<D: Disk>(disk: &mut D, entries: &[Entry]) -> Result<(), DiskFault>
     ensures tries { D.honest disk.new → TriesOver D.Disk entries.now disk.old disk.new result }
-    ensures accounts { Accounts D.Disk disk.old disk.new (IsErr result) }
+    ensures accounts { CountsFailures D.Disk disk.old disk.new (IsErr result) }
 {
     try_those(disk, entries, false)?;
     try_those(disk, entries, true)
@@ -47,7 +47,7 @@ pub fn try_files<D: Disk>(disk: &mut D, entries: &[Entry]) -> Result<(), DiskFau
 // Tries the files of which the record holds the whole text, or the others.
 fn try_those<D: Disk>(disk: &mut D, entries: &[Entry], are_whole: bool) -> Result<(), DiskFault>
     ensures tries { D.honest disk.new → TriesOver D.Disk entries.now disk.old disk.new result }
-    ensures accounts { Accounts D.Disk disk.old disk.new (IsErr result) }
+    ensures accounts { CountsFailures D.Disk disk.old disk.new (IsErr result) }
 {
     for entry in entries {
         if is_whole(entry) == are_whole {

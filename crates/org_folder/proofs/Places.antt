@@ -4,8 +4,8 @@ use Rattle.std.proofs.lemmas.Bool.{false≢true}
 use Rattle.std.specs.List.{Contains}
 use Rattle.std.proofs.lemmas.List.Elements.{Contains-get_or}
 use Rattle.std.specs.Prelude.{Option}
-use Rattle.org_folder.specs.Apart.{is_again}
-use Rattle.org_folder.specs.declared.apart.Node.{Node}
+use Rattle.org_folder.specs.Aliases.{is_again}
+use Rattle.org_folder.specs.declared.aliases.Node.{Node}
 
 pub not_first : (nodes : List (Option Node)) (at : ℕ) → is_again nodes at ≡ true → 0 < at
 not_first nodes zero again = absurd (false≢true again)

@@ -50,7 +50,8 @@ own_image world (Filled path ∷ earlier) right name = own_image world earlier r
 own_image world (Locked path ∷ earlier) right name = own_image world earlier right.1 name
 own_image world (Entry n ∷ earlier) right name = own_image world earlier right.1 name
 own_image world (Listed ∷ earlier) right name = own_image world earlier right.1 name
-own_image world (There n device number plain ∷ earlier) right name = own_image world earlier right.1 name
+own_image world (There n device number plain ∷ earlier) right name =
+    own_image world earlier right.1 name
 own_image world (Unseen n ∷ earlier) right name = own_image world earlier right.1 name
 own_image world (Made n ok ∷ earlier) right name = own_image world earlier right.1 name
 own_image world (Entered n ok ∷ earlier) right name = own_image world earlier right.1 name

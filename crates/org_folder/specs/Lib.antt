@@ -1,4 +1,4 @@
-pub mod Apart
+pub mod Aliases
 pub mod Calls
 pub mod CallsLaws
 pub mod Faults

@@ -46,8 +46,8 @@ impl<S: System + Drop> CallsDisk<S>
 where
     S::File: Drop,
 {
-    /// The disk over these calls, of a folder that is locked. It makes none. Of names that were found absent the first call on
-    /// each doesn't look again.
+    /// The disk over these calls, of a folder that is locked. It makes none. Of names that were
+    /// found absent the first call on each doesn't look again.
     pub fn over(alloc: Global, system: S, absent: IndexSet<FileName>) -> CallsDisk<S>
         requires held { IsHeld (S.history system) }
         requires absent { HaveNoFiles S.System system absent.keys }

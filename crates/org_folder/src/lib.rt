@@ -9,7 +9,7 @@
 //! makes, and no other proof by hand may set a record.
 #![tactic(auto)]
 
-mod apart;
+mod aliases;
 mod disk;
 mod folder;
 pub mod laws;
@@ -19,7 +19,7 @@ mod record;
 mod start;
 mod system;
 
-pub use apart::{AliasFault, Node, check_aliases};
+pub use aliases::{AliasFault, Node, check_aliases};
 pub use disk::{CallsDisk, FolderDisk};
 pub use list::{ListFault, org_file, org_files};
 pub use lock::LockFault;

@@ -6,7 +6,7 @@ ghost use Rattle.std.specs.Prelude.{◌≡◌, List, ◌∷◌, is_ok, map, stri
 ghost use Rattle.org_folder.specs.Calls.{Event, HasEntered, IsWithin, World, with_entries};
 ghost use Rattle.org_folder.specs.Calls.Event.{Absent, Cut, Entered, Filled, Length, Listed, Locked, Made, Read, Sync, There, Unseen, Write};
 
-use crate::apart::Node;
+use crate::aliases::Node;
 use crate::list::ListFault;
 use crate::lock::LockFault;
 use org_disk::{DiskFault, FileName};

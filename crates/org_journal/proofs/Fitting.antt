@@ -15,7 +15,7 @@ use Rattle.org_journal.specs.Record.{IsEntry, IsWellFormed}
 use Rattle.org_journal.specs.Reading.{◌>>=◌, number_at, bytes_at, counted_at, version_at, record_at, header_at, journal_at}
 use Rattle.org_disk.specs.Disk.{FileState}
 use Rattle.org_disk.specs.Names.{journal_name}
-use Rattle.org_journal.specs.declared.finding.Found.TheVariants.{Armed}
+use Rattle.org_journal.specs.declared.finding.Found.TheVariants.{Open}
 use Rattle.org_journal.specs.declared.fault.FindFault.{FindFault}
 use Rattle.org_journal.specs.declared.fault.FindFault.TheVariants.{BadJournal, Device, OutOfMemory}
 use Rattle.org_journal.specs.Gate.{front_size, is_open}
@@ -187,7 +187,7 @@ bad_size image BadJournal found = (found.0, no_record image found.0 (size_passes
 bad_size image Device found = tt
 bad_size image OutOfMemory found = absurd found
 
--- what the header told of an armed journal holds of it later, the files being the same
+-- what the header told of an open journal holds of it later, the files being the same
 module _ (files mid : List ℕ → FileState) (journal : List ℕ) (size : ℕ) (sized : FindsSize (files journal).content (Ok (Some size))) (still : mid ≡ files) where
   pub record_held : HoldsRecordOfSize (mid journal).content size
   record_held = subst (λ (f : List ℕ → FileState). HoldsRecordOfSize (f journal).content size) (sym still) (record { size_is = sized.1; within = sized.2 })
@@ -203,7 +203,7 @@ module _ (files mid : List ℕ → FileState) (journal : List ℕ) (size : ℕ) 
       by_fault Device sized found = tt
       by_fault OutOfMemory sized found = (sized.0, sized.2)
 
--- what the calls of a look at an armed journal answered, one after another, the files being the
+-- what the calls of a look at an open journal answered, one after another, the files being the
 -- same at each
 module _ (files mid new : List ℕ → FileState) (journal : List ℕ) (size : ℕ) (entries : List Entry) (named : journal ≡ journal_name)
     (sized : FindsSize (files journal).content (Ok (Some size))) (still : mid ≡ files) (same : new ≡ mid)
@@ -217,8 +217,8 @@ module _ (files mid new : List ℕ → FileState) (journal : List ℕ) (size : �
   fit_here : (b : Bool) → b ≡ all_fit entries (contents new) → b ≡ all_fit entries (contents files)
   fit_here b is = subst (λ (f : List ℕ → FileState). b ≡ all_fit entries (contents f)) (same ∙ still) is
 
-  pub found_armed : (b : Bool) → b ≡ all_fit entries (contents new) → b ≡ true → Finds (contents files) (Ok (Armed entries))
-  found_armed b is fits_all = (opened_here, read_here, sym (fit_here b is) ∙ fits_all)
+  pub found_open : (b : Bool) → b ≡ all_fit entries (contents new) → b ≡ true → Finds (contents files) (Ok (Open entries))
+  found_open b is fits_all = (opened_here, read_here, sym (fit_here b is) ∙ fits_all)
 
   pub found_bad : (b : Bool) → b ≡ all_fit entries (contents new) → b ≡ false → Finds (contents files) (Err BadJournal)
   found_bad b is unfits =

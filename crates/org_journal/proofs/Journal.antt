@@ -16,7 +16,7 @@ use Rattle.org_journal.specs.declared.record.Version.{Version}
 use Rattle.org_journal.specs.declared.record.Version.TheVariants.{One, Two}
 use Rattle.org_journal.specs.declared.fault.RecordFault.{RecordFault}
 use Rattle.org_journal.specs.declared.fault.RecordFault.TheVariants.{Malformed, OutOfMemory}
-use Rattle.org_journal.specs.Decoding.{Gives}
+use Rattle.org_journal.specs.Decoding.{DecodesAs}
 use Rattle.org_journal.specs.Record.{name_bytes, counted_bytes, patch_bytes, old_patch_bytes, entry_bytes, record_bytes, version_number, header_bytes, journal_bytes, IsEntry, IsWellFormed, BeginsWith}
 use Rattle.org_journal.specs.Reading.{◌>>=◌, counted_at, record_at, version_at, header_at, journal_at}
 use Rattle.org_journal.proofs.Numbers.{IsBytes, IsBytes-drop, IsBytes-take, bind_some, passed, both_true, counted_takes, counted_again}
@@ -187,11 +187,11 @@ tells_record bytes answer fits is = (
   (λ given. is ∙ ap is_some (journal_again bytes given.0 given.1)),
 )
 
-pub found_begins : (bytes : List ℕ) (answer : Result (List Entry) RecordFault) → IsBytes bytes → Gives (λ entries. entries) answer (journal_at bytes) → IfOk answer (λ entries. BeginsWith bytes entries)
+pub found_begins : (bytes : List ℕ) (answer : Result (List Entry) RecordFault) → IsBytes bytes → DecodesAs (λ entries. entries) answer (journal_at bytes) → IfOk answer (λ entries. BeginsWith bytes entries)
 found_begins bytes (Ok entries) fits given = journal_takes bytes entries fits given
 found_begins bytes (Err e) fits given = tt
 
-pub begins_found : (bytes : List ℕ) (answer : Result (List Entry) RecordFault) → Gives (λ entries. entries) answer (journal_at bytes)
+pub begins_found : (bytes : List ℕ) (answer : Result (List Entry) RecordFault) → DecodesAs (λ entries. entries) answer (journal_at bytes)
     → (entries : List Entry) → BeginsWith bytes entries → (answer ≡ Ok entries) ⊎ (answer ≡ Err OutOfMemory)
 begins_found bytes (Ok other) given entries begins = inl (ap (λ (x : List Entry). Ok x) (same_Some other entries (sym given ∙ journal_again bytes entries begins)))
 begins_found bytes (Err Malformed) given entries begins = absurd (none-some entries (sym given ∙ journal_again bytes entries begins))

@@ -10,4 +10,5 @@ pub mod Spelled
 pub mod Journal
 pub mod Fitting
 pub mod Accounted
+pub mod ReadBack
 mod Vectors

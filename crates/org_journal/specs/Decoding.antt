@@ -9,6 +9,6 @@ Fails Malformed read = read ≡ None
 Fails OutOfMemory read = Unit {0}
 
 -- What a function returned, as view sees it, is what the reader gives, unless memory ran out.
-abbrev pub Gives : {X Y : Type 0} → (X → Y) → Result X RecordFault → Option Y → Type 0
-Gives view (Ok found) read = read ≡ Some (view found)
-Gives view (Err e) read = Fails e read
+abbrev pub DecodesAs : {X Y : Type 0} → (X → Y) → Result X RecordFault → Option Y → Type 0
+DecodesAs view (Ok found) read = read ≡ Some (view found)
+DecodesAs view (Err e) read = Fails e read

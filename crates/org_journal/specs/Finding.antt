@@ -7,7 +7,7 @@ use Rattle.org_journal.specs.declared.record.Entry.{Entry}
 use Rattle.org_journal.specs.declared.fault.FindFault.{FindFault}
 use Rattle.org_journal.specs.declared.fault.FindFault.TheVariants.{BadJournal, Device, OutOfMemory}
 use Rattle.org_journal.specs.declared.finding.Found.{Found}
-use Rattle.org_journal.specs.declared.finding.Found.TheVariants.{Closed, Armed}
+use Rattle.org_journal.specs.declared.finding.Found.TheVariants.{Closed, Open}
 use Rattle.org_journal.specs.declared.record.Version.TheVariants.{Two}
 use Rattle.org_journal.specs.Gate.{front_size, is_open}
 use Rattle.org_journal.specs.Reading.{journal_at}
@@ -32,7 +32,7 @@ pub record HoldsRecordOfSize (journal : List ℕ) (size : ℕ) : Type 0 where
 -- what was found of a disk with these contents
 abbrev pub Finds : Image → Result Found FindFault → Type 0
 Finds image (Ok Closed) = IsFalse (is_open (image journal_name))
-Finds image (Ok (Armed entries)) =
+Finds image (Ok (Open entries)) =
     IsTrue (is_open (image journal_name))
     × (journal_at (drop 1 (image journal_name)) ≡ Some entries)
     × IsTrue (all_fit entries image)
@@ -45,7 +45,7 @@ Finds image (Err OutOfMemory) =
 -- a record that was found is one that could be written, in whichever version it stood
 abbrev pub IsWritable : Found → Type 0
 IsWritable Closed = Unit {0}
-IsWritable (Armed entries) = IsWellFormed Two entries
+IsWritable (Open entries) = IsWellFormed Two entries
 
 -- what the header alone says: None of a closed gate, and the record's size of an open one
 abbrev pub FindsSize : List ℕ → Result (Option ℕ) FindFault → Type 0

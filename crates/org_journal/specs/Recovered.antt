@@ -61,7 +61,7 @@ contents files name = (files name).content
 
 -- a journal on the disk with an open gate and a record; the files that it does not name are on the
 -- disk too, and whatever a crash leaves of the others, it recovers to the same files
-pub record IsArmed (files : List ℕ → FileState) : Type 0 where
+pub record IsOpenOverRecord (files : List ℕ → FileState) : Type 0 where
   pub stable : IsStable (files journal_name)
   pub opened : IsTrue (is_open (files journal_name).content)
   pub entries : List Entry
@@ -78,4 +78,4 @@ OthersStable files = (name : List ℕ) → name ≢ journal_name → IsStable (f
 -- Recoverable: all files but the journal are on the disk, or a record is being applied to them
 -- under an open gate.
 abbrev pub IsRecoverable : (List ℕ → FileState) → Type 0
-IsRecoverable files = OthersStable files ⊎ IsArmed files
+IsRecoverable files = OthersStable files ⊎ IsOpenOverRecord files

@@ -5,7 +5,7 @@
 ghost use Rattle.std.specs.Prelude.{◌≡◌, ◌==◌, ◌⊎◌, List, Some, Ok, Err, IfOk, IsErrOf, IsFalse, IsTrue, is_some};
 ghost use Rattle.org_journal.specs.Reading.{patches_at, entry_at, entries_at, journal_at};
 ghost use Rattle.org_disk.specs.Names.{is_file_name};
-ghost use Rattle.org_journal.specs.Decoding.{Gives};
+ghost use Rattle.org_journal.specs.Decoding.{DecodesAs};
 ghost use Rattle.org_journal.specs.Record.{BeginsWith, IsWellFormed};
 ghost use Rattle.org_journal.specs.declared.record.Version.TheVariants.{One, Two};
 ghost use Rattle.org_journal.specs.declared.record.Entry.{Entry};
@@ -25,7 +25,7 @@ fn patches_of(
     count: u32,
     bytes: &[u8],
 ) -> Result<(Vec<Patch>, &[u8]), RecordFault>
-    ensures { Gives (λ x. (x.0.items, x.1.now)) result
+    ensures { DecodesAs (λ x. (x.0.items, x.1.now)) result
         (patches_at 0 length (count == 1) count bytes.now) }
 {
     let mut patches = Vec::new(alloc);
@@ -76,7 +76,7 @@ fn named(alloc: Global, name: &str, length: u64, patches: Vec<Patch>) -> Result<
 // An entry of version 1, and the bytes behind it.
 #[tactic(auto, unfolding(crate::specs::Reading::entry_at))]
 fn old_entry_of(alloc: Global, bytes: &[u8]) -> Result<(Entry, &[u8]), RecordFault>
-    ensures { Gives (λ x. (x.0, x.1.now)) result (entry_at One bytes.now) }
+    ensures { DecodesAs (λ x. (x.0, x.1.now)) result (entry_at One bytes.now) }
 {
     let Some((entry, rest)) = old_entry_at(bytes) else {
         return Err(RecordFault::Malformed);
@@ -94,7 +94,7 @@ fn old_entry_of(alloc: Global, bytes: &[u8]) -> Result<(Entry, &[u8]), RecordFau
 // An entry of version 2, and the bytes behind it.
 #[tactic(auto, unfolding(crate::specs::Reading::entry_at))]
 fn new_entry_of(alloc: Global, bytes: &[u8]) -> Result<(Entry, &[u8]), RecordFault>
-    ensures { Gives (λ x. (x.0, x.1.now)) result (entry_at Two bytes.now) }
+    ensures { DecodesAs (λ x. (x.0, x.1.now)) result (entry_at Two bytes.now) }
 {
     let Some((head, rest)) = head_at(bytes) else {
         return Err(RecordFault::Malformed);
@@ -106,7 +106,7 @@ fn new_entry_of(alloc: Global, bytes: &[u8]) -> Result<(Entry, &[u8]), RecordFau
 
 // An entry, and the bytes behind it.
 fn entry_of(alloc: Global, version: Version, bytes: &[u8]) -> Result<(Entry, &[u8]), RecordFault>
-    ensures { Gives (λ x. (x.0, x.1.now)) result (entry_at version bytes.now) }
+    ensures { DecodesAs (λ x. (x.0, x.1.now)) result (entry_at version bytes.now) }
 {
     match version {
         Version::One => old_entry_of(alloc, bytes),
@@ -121,7 +121,7 @@ fn entries_of(
     count: u32,
     bytes: &[u8],
 ) -> Result<(Vec<Entry>, &[u8]), RecordFault>
-    ensures { Gives (λ x. (x.0.items, x.1.now)) result (entries_at version count bytes.now) }
+    ensures { DecodesAs (λ x. (x.0.items, x.1.now)) result (entries_at version count bytes.now) }
 {
     let mut entries = Vec::new(alloc);
     let mut rest = bytes;
@@ -137,7 +137,7 @@ fn entries_of(
 #[tactic(auto, unfolding(crate::specs::Reading::journal_at, crate::specs::Reading::record_at))]
 fn record_of(alloc: Global, bytes: &[u8]) -> Result<Record, RecordFault>
     requires { IsTrue (is_some (journal_at bytes.now)) }
-    ensures { Gives (λ entries. entries) result (journal_at bytes.now) }
+    ensures { DecodesAs (λ entries. entries) result (journal_at bytes.now) }
 {
     let Some((version, record)) = header_at(bytes) else {
         return Err(RecordFault::Malformed);
@@ -164,7 +164,7 @@ pub fn decode(alloc: Global, bytes: &[u8]) -> Result<Record, RecordFault>
     ensures writable { IfOk result (λ entries. IsWellFormed Two entries) }
     ensures memory { IsErrOf result RecordFault.OutOfMemory
         → (entries : List Entry) × BeginsWith bytes.now entries }
-    ensures exact { Gives (λ entries. entries) result (journal_at bytes.now) }
+    ensures exact { DecodesAs (λ entries. entries) result (journal_at bytes.now) }
 {
     if !well_formed(bytes) {
         return Err(RecordFault::Malformed);

@@ -3,7 +3,7 @@
 //! It reads and never writes. An open gate over anything but a whole record that fits its files is
 //! `BadJournal`.
 ghost use Rattle.std.specs.Prelude.{◌≡◌, ◌≤◌, ◌<◌, ◌+◌, ◌^◌, ℕ, List, length, take, drop, Some, Ok, Err, IfOk, IfSome, IsErr, IsErrOf};
-ghost use Rattle.org_disk.specs.Accounts.{Accounts, Looks};
+ghost use Rattle.org_disk.specs.CountsFailures.{CountsFailures, Looks};
 ghost use Rattle.org_disk.specs.Names.{journal_name};
 ghost use Rattle.org_splice.specs.Patches.{AreWellFormed};
 ghost use Rattle.org_splice.specs.Texts.{pairs_of};
@@ -32,7 +32,7 @@ pub enum Found {
     /// The gate is closed.
     Closed,
     /// The gate is open over this record, which fits its files.
-    Armed(Record),
+    Open(Record),
 }
 
 // The size of the record behind an open gate, and nothing where the gate is closed.
@@ -40,7 +40,7 @@ fn size_of<D: Disk>(disk: &mut D, journal: &FileName) -> Result<Option<u64>, Fin
     ensures found { D.honest disk.new → FindsSize (D.files disk.old journal.now).content result }
     ensures small { IfOk result (λ found. IfSome found (λ size. front_size + size < 2 ^ 64)) }
     ensures looks { Looks D.Disk disk.old disk.new }
-    ensures accounts { Accounts D.Disk disk.old disk.new
+    ensures accounts { CountsFailures D.Disk disk.old disk.new
         (IsErrOf result FindFault.Device) }
 {
     let length = disk.length(journal)?;
@@ -86,7 +86,7 @@ fn body_of<D: Disk>(
         → body.items ≡ take (15 + size) (drop 1 (D.files disk.old journal.now).content)) }
     ensures bad { ¬ (IsErrOf result FindFault.BadJournal) }
     ensures looks { Looks D.Disk disk.old disk.new }
-    ensures accounts { Accounts D.Disk disk.old disk.new
+    ensures accounts { CountsFailures D.Disk disk.old disk.new
         (IsErrOf result FindFault.Device) }
 {
     let mut body = vec![in alloc; 0u8; 15 + size as usize]?;
@@ -107,7 +107,7 @@ fn record_of<D: Disk>(
     ensures found { D.honest disk.new → FindsRecord (D.files disk.old journal.now).content result }
     ensures writable { IfOk result (λ entries. IsWellFormed Two entries) }
     ensures looks { Looks D.Disk disk.old disk.new }
-    ensures accounts { Accounts D.Disk disk.old disk.new
+    ensures accounts { CountsFailures D.Disk disk.old disk.new
         (IsErrOf result FindFault.Device) }
 {
     let body = body_of(alloc, disk, journal, size)?;
@@ -139,7 +139,7 @@ fn all_fit<D: Disk>(disk: &mut D, entries: &[Entry]) -> Result<bool, DiskFault>
     ensures fit { IfOk result (λ answer. D.honest disk.new
         → answer ≡ all_fit entries.now (contents (D.files disk.old))) }
     ensures looks { Looks D.Disk disk.old disk.new }
-    ensures accounts { Accounts D.Disk disk.old disk.new (IsErr result) }
+    ensures accounts { CountsFailures D.Disk disk.old disk.new (IsErr result) }
 {
     for entry in entries {
         let size = disk.length(&entry.name)?;
@@ -150,7 +150,7 @@ fn all_fit<D: Disk>(disk: &mut D, entries: &[Entry]) -> Result<bool, DiskFault>
     Ok(true)
 }
 
-/// Looks at the journal, and changes nothing. `Armed` comes exactly where the gate is open and a
+/// Looks at the journal, and changes nothing. `Open` comes exactly where the gate is open and a
 /// well-formed record that fits its files stands behind it, with that record; `Closed` exactly
 /// where the gate is closed.
 ///
@@ -165,7 +165,7 @@ pub fn find<D: Disk>(alloc: Global, disk: &mut D, journal: &FileName) -> Result<
     ensures found { D.honest disk.new → Finds (contents (D.files disk.old)) result }
     ensures writable { IfOk result (λ found. IsWritable found) }
     ensures looks { Looks D.Disk disk.old disk.new }
-    ensures accounts { Accounts D.Disk disk.old disk.new
+    ensures accounts { CountsFailures D.Disk disk.old disk.new
         (IsErrOf result FindFault.Device) }
 {
     let Some(size) = size_of(disk, journal)? else {
@@ -175,5 +175,5 @@ pub fn find<D: Disk>(alloc: Global, disk: &mut D, journal: &FileName) -> Result<
     if !all_fit(disk, record.as_slice())? {
         return Err(FindFault::BadJournal);
     }
-    Ok(Found::Armed(record))
+    Ok(Found::Open(record))
 }

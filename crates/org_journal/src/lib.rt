@@ -11,6 +11,7 @@ mod fault;
 mod fields;
 mod finding;
 mod gate;
+pub mod laws;
 mod reading;
 mod record;
 

@@ -10,7 +10,7 @@ use Rattle.org_stamp.specs.Calendar.{Moment}
 use Rattle.org_meta.specs.declared.clock.Running.{Running}
 use Rattle.org_meta.specs.declared.fault.MetaFault.{MetaFault}
 use Rattle.org_meta.specs.declared.fault.MetaFault.TheVariants.{ClockBackwards, OutOfMemory}
-use Rattle.org_meta.specs.Edits.{Gives}
+use Rattle.org_meta.specs.Edits.{Rewrites}
 use Rattle.org_meta.specs.Clocks.{running_clock, is_open, minutes_between, IsOpenAt, HasOpenAt}
 use Rattle.org_meta.specs.Clocking.{closing_text, closed_after, closed_clock, closed_line, ClosesNot}
 use Rattle.org_meta.proofs.Walk.{print_lines-terminated}
@@ -45,7 +45,7 @@ module _ (section : List ℕ) (span : Span) (before : List (List ℕ)) (line : L
     closes_now minutes some = ap (closed_clock now line) clock_here ∙ ap (closed_after now (take running.head line)) (sym some)
 
     pub closes_at : (e : Edit) (minutes : ℕ) → Some minutes ≡ minutes_between running.start now → running.head ≤ length text → e.at ≡ span.start + running.head → e.removed ≡ length text - running.head → e.bytes ≡ closing_text now minutes
-        → MatchResult (closed_line now line) (λ closed. Gives e section (before ++ (closed ∷ after))) (λ fault. ⊥)
+        → MatchResult (closed_line now line) (λ closed. Rewrites e section (before ++ (closed ∷ after))) (λ fault. ⊥)
     closes_at e minutes some within at removed bytes =
         let w = closing_text now minutes in
         let a = print_lines before ++ take running.head line in
@@ -61,7 +61,7 @@ module _ (section : List ℕ) (span : Span) (before : List (List ℕ)) (line : L
         let gone : e.removed ≡ length b = omega (arith, length-drop running.head line) in
         let back : print_lines before ++ ((take running.head line ++ w) ++ c) ≡ a ++ (w ++ c) = simp append_assoc in
         let print : print_lines (before ++ ((take running.head line ++ w) ∷ after)) ≡ a ++ (w ++ c) = print_lines-append before ((take running.head line ++ w) ∷ after) ∙ back in
-        let P : Result (List ℕ) MetaFault → Type 0 = λ r. MatchResult r (λ closed. Gives e section (before ++ (closed ∷ after))) (λ fault. ⊥) in
+        let P : Result (List ℕ) MetaFault → Type 0 = λ r. MatchResult r (λ closed. Rewrites e section (before ++ (closed ∷ after))) (λ fault. ⊥) in
         subst P (sym closed_is) (gives_at e section a b c w (before ++ ((take running.head line ++ w) ∷ after)) parts here gone bytes print)
 
 -- ---- as the code says it

@@ -9,7 +9,7 @@ use Rattle.org_stamp.specs.Calendar.{Moment}
 use Rattle.org_meta.specs.declared.parts.Sections.{Sections}
 use Rattle.org_meta.specs.declared.lines.Place.{Place}
 use Rattle.org_meta.specs.Lines.{BeginsWith}
-use Rattle.org_meta.specs.Edits.{Gives}
+use Rattle.org_meta.specs.Edits.{Rewrites}
 use Rattle.org_meta.specs.Edits.{IsPlaceFor}
 use Rattle.org_meta.specs.Sections.{SectionParts, AreSections, split, joined, is_end, planning_size}
 use Rattle.org_meta.specs.Clocking.{is_logbook, in_logbook, logged, clock_line, opened}
@@ -99,7 +99,7 @@ print_opened parts rest = print_lines-append parts.planning (parts.drawer ++ res
 -- an edit of the rest is one of the section
 pub rest_gives : (e : Edit) (section a b c w : List ℕ) (slices : Sections) (rest : List (List ℕ)) → terminated section ≡ section → AreSections slices (split (lines_of section)) → slices.rest.now ≡ a ++ (b ++ c)
     → e.at + (length b + length c) ≡ length section → e.removed ≡ length b → e.bytes ≡ w → print_lines rest ≡ a ++ (w ++ c)
-    → Gives e section (joined (record (split (lines_of section)) { rest = rest }))
+    → Rewrites e section (joined (record (split (lines_of section)) { rest = rest }))
 rest_gives e section a b c w slices rest whole are old at removed bytes new =
     let p = split (lines_of section) in
     let head = slices.planning.now ++ (slices.drawer.now ++ a) in
@@ -125,7 +125,7 @@ rest_terminated section slices are = ap terminated are.rest ∙ terminated-print
 pub opened_gives : (e : Edit) (section : List ℕ) (now : Moment) (slices : Sections) (place : Place) → terminated section ≡ section → AreSections slices (split (lines_of section))
     → IsPlaceFor (λ line. logged line (lines_of slices.rest.now)) slices.rest.now place
     → e.at ≡ length section - length place.left.now → e.removed ≡ place.removed → e.bytes ≡ clock_line now ++ 10 ∷ []
-    → Gives e section (joined (opened now (split (lines_of section))))
+    → Rewrites e section (joined (opened now (split (lines_of section))))
 opened_gives e section now slices place whole are is at removed bytes =
     let p = split (lines_of section) in
     let l = clock_line now in
@@ -152,7 +152,7 @@ opened_gives e section now slices place whole are is at removed bytes =
 pub new_log_gives : (e : Edit) (section : List ℕ) (now : Moment) (slices : Sections) → terminated section ≡ section → AreSections slices (split (lines_of section))
     → ((line : List ℕ) → in_logbook line (lines_of slices.rest.now) ≡ None)
     → e.at ≡ length section - length slices.rest.now → e.removed ≡ 0 → e.bytes ≡ codes ":LOGBOOK:\n" ++ (clock_line now ++ 10 ∷ []) ++ codes ":END:\n"
-    → Gives e section (joined (opened now (split (lines_of section))))
+    → Rewrites e section (joined (opened now (split (lines_of section))))
 new_log_gives e section now slices whole are none at removed bytes =
     let p = split (lines_of section) in
     let l = clock_line now in

@@ -10,7 +10,7 @@ use Rattle.org_meta.specs.Lines.{BeginsWith}
 use Rattle.org_splice.specs.Edits.{edited}
 use Rattle.org_splice.proofs.Lines.{print_lines-append}
 use Rattle.org_splice.proofs.Places.{edited_at}
-use Rattle.org_meta.specs.Edits.{Gives, IsPlaceFor}
+use Rattle.org_meta.specs.Edits.{Rewrites, IsPlaceFor}
 use Rattle.org_meta.specs.Sections.{SectionParts, AreSections, split, joined, is_end, value_named, put_before_end, put_in_drawer, property_line, put, planning_size, drawer_size}
 use Rattle.org_meta.specs.Notes.{with_note}
 use Rattle.org_meta.proofs.Walk.{Passed, passed_none, passed_line, print_lines-terminated}
@@ -18,7 +18,7 @@ use Rattle.org_meta.proofs.Drawers.{no_drawer, drawer_is}
 
 -- ---- edits by their bytes
 
-pub gives_at : (e : Edit) (text a b c w : List ℕ) (lines : List (List ℕ)) → text ≡ a ++ (b ++ c) → e.at ≡ length a → e.removed ≡ length b → e.bytes ≡ w → print_lines lines ≡ a ++ (w ++ c) → Gives e text lines
+pub gives_at : (e : Edit) (text a b c w : List ℕ) (lines : List (List ℕ)) → text ≡ a ++ (b ++ c) → e.at ≡ length a → e.removed ≡ length b → e.bytes ≡ w → print_lines lines ≡ a ++ (w ++ c) → Rewrites e text lines
 gives_at e text a b c w lines parts at removed bytes print = record {
   within = omega (arith, ap length parts, length-append a (b ++ c), length-append b c);
   gives =
@@ -56,7 +56,7 @@ rest_below section slices whole are =
 -- ---- a note
 
 pub note_gives : (e : Edit) (section note : List ℕ) (slices : Sections) → terminated section ≡ section → AreSections slices (split (lines_of section)) → e.at ≡ length section - length slices.rest.now → e.removed ≡ 0 → e.bytes ≡ note ++ 10 ∷ []
-    → Gives e section (joined (with_note note (split (lines_of section))))
+    → Rewrites e section (joined (with_note note (split (lines_of section))))
 note_gives e section note slices whole are at removed bytes =
     let p = split (lines_of section) in
     let a = slices.planning.now ++ slices.drawer.now in
@@ -147,7 +147,7 @@ puts_nowhere name whole text place p none left removed = record {
 
 pub new_drawer_gives : (e : Edit) (section name value : List ℕ) (slices : Sections) → terminated section ≡ section → AreSections slices (split (lines_of section)) → slices.drawer.now ≡ []
     → e.at ≡ length slices.planning.now → e.removed ≡ 0 → e.bytes ≡ codes ":PROPERTIES:\n" ++ (property_line name value ++ 10 ∷ []) ++ codes ":END:\n"
-    → Gives e section (joined (put name value (split (lines_of section))))
+    → Rewrites e section (joined (put name value (split (lines_of section))))
 new_drawer_gives e section name value slices whole are none at removed bytes =
     let p = split (lines_of section) in
     let l = property_line name value in
@@ -167,7 +167,7 @@ new_drawer_gives e section name value slices whole are none at removed bytes =
 pub put_gives : (e : Edit) (section name value start properties : List ℕ) (slices : Sections) (place : Place) → terminated section ≡ section → AreSections slices (split (lines_of section))
     → BeginsWith slices.drawer.now start properties → IsPlaceFor (λ line. put_before_end name line (lines_of properties)) properties place
     → e.at ≡ length section - length slices.rest.now - length place.left.now → e.removed ≡ place.removed → e.bytes ≡ property_line name value ++ 10 ∷ []
-    → Gives e section (joined (put name value (split (lines_of section))))
+    → Rewrites e section (joined (put name value (split (lines_of section))))
 put_gives e section name value start properties slices place whole are b is at removed bytes =
     let p = split (lines_of section) in
     let l = property_line name value in

@@ -11,10 +11,10 @@ use Rattle.org_meta.specs.declared.parts.Sections.{Sections}
 use Rattle.org_meta.specs.declared.fault.MetaFault.{MetaFault}
 use Rattle.org_meta.specs.declared.fault.MetaFault.TheVariants.{OddPlanning, OutOfMemory}
 use Rattle.org_meta.specs.Lines.{BeginsWith}
-use Rattle.org_meta.specs.Edits.{Gives, ChangesNothing}
+use Rattle.org_meta.specs.Edits.{Rewrites, ChangesNothing}
 use Rattle.org_meta.specs.Sections.{SectionParts, AreSections, split, joined, is_planning, planning_size}
 use Rattle.org_meta.specs.Planning.{PlanningEntry, PlanningLine, planning_of, has_repeater, AreRepeated, replanned, replanned_line, closed_text, kept_text, has_closed, has_closed_entry, has_others, without_closed, with_closed, clear_closed}
-use Rattle.org_meta.specs.Replans.{GivesOk, FaultIn, PutsAllRepeated, HasNoRepeater, FaultRepeated, GivesRepeated, GivesRepeatedIn, repeated_line}
+use Rattle.org_meta.specs.Replans.{RewritesOk, FaultIn, PutsAllRepeated, HasNoRepeater, FaultRepeated, RewritesRepeated, RewritesRepeatedIn, repeated_line}
 use Rattle.org_splice.proofs.Lines.{print_lines-append, terminated-print_lines, lines_of-lines}
 use Rattle.org_meta.proofs.AllLines.{AllByRecursion-take}
 use Rattle.org_meta.proofs.Drawers.{part_lines}
@@ -27,7 +27,7 @@ planning_is section slices are = part_lines (split (lines_of section)).planning 
 
 -- other lines in the place of the planning
 planning_gives : (e : Edit) (section : List ℕ) (slices : Sections) (new : List (List ℕ)) → terminated section ≡ section → AreSections slices (split (lines_of section)) → e.at ≡ 0 → e.removed ≡ length slices.planning.now → e.bytes ≡ print_lines new
-    → Gives e section (joined (record (split (lines_of section)) { planning = new }))
+    → Rewrites e section (joined (record (split (lines_of section)) { planning = new }))
 planning_gives e section slices new whole are at removed bytes =
     let p = split (lines_of section) in
     let c = slices.drawer.now ++ slices.rest.now in
@@ -37,21 +37,21 @@ planning_gives e section slices new whole are at removed bytes =
     ∙ ap (λ (t : List ℕ). print_lines new ++ (slices.drawer.now ++ t)) (sym are.rest) in
     gives_at e section [] slices.planning.now c (print_lines new) (new ++ (p.drawer ++ p.rest)) (section_bytes section slices whole are) at removed bytes print
 
-with_gives : (section : List ℕ) (e : Edit) (r : Result SectionParts MetaFault) (parts : SectionParts) → r ≡ Ok parts → Gives e section (joined parts) → GivesOk r section e
-with_gives section e r parts is gives = let P : Result SectionParts MetaFault → Type 0 = λ r. GivesOk r section e in subst P (sym is) gives
+with_gives : (section : List ℕ) (e : Edit) (r : Result SectionParts MetaFault) (parts : SectionParts) → r ≡ Ok parts → Rewrites e section (joined parts) → RewritesOk r section e
+with_gives section e r parts is gives = let P : Result SectionParts MetaFault → Type 0 = λ r. RewritesOk r section e in subst P (sym is) gives
 
 pub planning_terminated : (section : List ℕ) (slices : Sections) → AreSections slices (split (lines_of section)) → terminated slices.planning.now ≡ slices.planning.now
 planning_terminated section slices are = ap terminated are.planning ∙ terminated-print_lines (split (lines_of section)).planning ∙ sym are.planning
 
 module _ (section : List ℕ) (slices : Sections) (whole : terminated section ≡ section) (are : AreSections slices (split (lines_of section))) (none : List (List ℕ)) (some : PlanningLine → List (List ℕ)) where
-  pub plan_none : (e : Edit) → slices.planning.now ≡ [] → e.at ≡ 0 → e.removed ≡ 0 → e.bytes ≡ print_lines none → GivesOk (replanned none some (split (lines_of section)) (split (lines_of section)).planning) section e
+  pub plan_none : (e : Edit) → slices.planning.now ≡ [] → e.at ≡ 0 → e.removed ≡ 0 → e.bytes ≡ print_lines none → RewritesOk (replanned none some (split (lines_of section)) (split (lines_of section)).planning) section e
   plan_none e empty at removed bytes =
       let p = split (lines_of section) in
       let no : p.planning ≡ [] = sym (planning_is section slices are) ∙ ap lines_of empty in
       with_gives section e _ (record p { planning = none }) (ap (replanned none some p) no) (planning_gives e section slices none whole are at (removed ∙ sym (ap length empty)) bytes)
 
   pub plan_line : (e : Edit) (line rest : List ℕ) (plan : PlanningLine) → BeginsWith slices.planning.now line rest → planning_of line ≡ Some plan → e.at ≡ 0 → e.removed ≡ length slices.planning.now → e.bytes ≡ print_lines (some plan)
-      → GivesOk (replanned none some (split (lines_of section)) (split (lines_of section)).planning) section e
+      → RewritesOk (replanned none some (split (lines_of section)) (split (lines_of section)).planning) section e
   plan_line e line rest plan b is at removed bytes =
       let p = split (lines_of section) in
       let first : p.planning ≡ line ∷ lines_of rest = sym (planning_is section slices are) ∙ b.lines in
@@ -97,7 +97,7 @@ planning_alone (l ∷ ls) line more e =
     ]
 
 -- the edit that changes nothing gives the lines that there are
-nothing_gives : (e : Edit) (section : List ℕ) → terminated section ≡ section → ChangesNothing e → Gives e section (lines_of section)
+nothing_gives : (e : Edit) (section : List ℕ) → terminated section ≡ section → ChangesNothing e → Rewrites e section (lines_of section)
 nothing_gives e section whole same = record {
   within = omega (arith, same.at, same.removed);
   gives =
@@ -106,11 +106,11 @@ nothing_gives e section whole same = record {
 }
 
 module _ (section : List ℕ) (slices : Sections) (whole : terminated section ≡ section) (are : AreSections slices (split (lines_of section))) where
-  pub none_cleared : (e : Edit) → slices.planning.now ≡ [] → ChangesNothing e → GivesOk (clear_closed (split (lines_of section))) section e
+  pub none_cleared : (e : Edit) → slices.planning.now ≡ [] → ChangesNothing e → RewritesOk (clear_closed (split (lines_of section))) section e
   none_cleared e empty same = plan_none section slices whole are [] without_closed e empty same.at same.removed same.bytes
 
   pub nothing_cleared : (e : Edit) (line rest : List ℕ) (plan : PlanningLine) → BeginsWith slices.planning.now line rest → planning_of line ≡ Some plan → has_closed plan.entries ≡ false → ChangesNothing e
-      → GivesOk (clear_closed (split (lines_of section))) section e
+      → RewritesOk (clear_closed (split (lines_of section))) section e
   nothing_cleared e line rest plan b is none same =
       let p = split (lines_of section) in
       let first : p.planning ≡ line ∷ lines_of rest = sym (planning_is section slices are) ∙ b.lines in
@@ -118,7 +118,7 @@ module _ (section : List ℕ) (slices : Sections) (whole : terminated section �
       let stays : without_closed plan ≡ p.planning = nothing_goes line plan alone.0 is none ∙ sym (first ∙ ap (λ (ls : List (List ℕ)). line ∷ ls) alone.1) in
       let all : lines_of section ≡ joined (record p { planning = without_closed plan }) =
       sym (joined_split (lines_of section)) ∙ ap (λ (ls : List (List ℕ)). ls ++ (p.drawer ++ p.rest)) (sym stays) in
-      let P : List (List ℕ) → Type 0 = λ ls. Gives e section ls in
+      let P : List (List ℕ) → Type 0 = λ ls. Rewrites e section ls in
       with_gives section e _ (record p { planning = without_closed plan }) (ap (replanned [] without_closed p) first ∙ ap (replanned_line without_closed p) is) (subst P all (nothing_gives e section whole same))
 
   -- where the line has a CLOSED entry, the planning has
@@ -179,10 +179,10 @@ module _ (section : List ℕ) (slices : Sections) (whole : terminated section �
       inr (subst P (sym b.lines ∙ planning_is section slices are) (inr (plan, is, some, wrong)))
 
   pub repeat_gives : (e : Edit) (line rest : List ℕ) (plan : PlanningLine) (text : List ℕ) → BeginsWith slices.planning.now line rest → planning_of line ≡ Some plan → has_repeater plan.entries ≡ true → AreRepeated plan.entries now (Ok text)
-      → e.at ≡ 0 → e.removed ≡ length slices.planning.now → e.bytes ≡ repeated_line plan text ++ 10 ∷ [] → GivesRepeated now (split (lines_of section)) section (Some e)
+      → e.at ≡ 0 → e.removed ≡ length slices.planning.now → e.bytes ≡ repeated_line plan text ++ 10 ∷ [] → RewritesRepeated now (split (lines_of section)) section (Some e)
   repeat_gives e line rest plan text b is some repeated at removed bytes =
       let p = split (lines_of section) in
-      let P : List (List ℕ) → Type 0 = λ ls. GivesRepeatedIn now p section e ls in
+      let P : List (List ℕ) → Type 0 = λ ls. RewritesRepeatedIn now p section e ls in
       subst P (sym b.lines ∙ planning_is section slices are) (record {
         planning = plan;
         text = text;

@@ -11,7 +11,7 @@ use Rattle.org_stamp.specs.Stamp.{duration_text}
 use Rattle.org_meta.specs.declared.clock.Running.{Running}
 use Rattle.org_meta.specs.declared.fault.MetaFault.{MetaFault}
 use Rattle.org_meta.specs.declared.fault.MetaFault.TheVariants.{ClockBackwards, OutOfMemory}
-use Rattle.org_meta.specs.Edits.{Gives}
+use Rattle.org_meta.specs.Edits.{Rewrites}
 use Rattle.org_meta.specs.Moments.{moment_text}
 use Rattle.org_meta.specs.Sections.{SectionParts, is_mark, is_end}
 use Rattle.org_meta.specs.Clocks.{running_clock, minutes_between, IsOpenAt}
@@ -70,8 +70,8 @@ abbrev pub Closes : Moment → List ℕ → Span → Edit → Type 0
 Closes now section span edit =
     (before : List (List ℕ)) (line : List ℕ) (after : List (List ℕ))
     → IsOpenAt section span before line after
-    → MatchResult (closed_line now line) (λ closed. Gives edit section (before ++ (closed ∷ after)))
-    (λ fault. ⊥)
+    → MatchResult (closed_line now line)
+    (λ closed. Rewrites edit section (before ++ (closed ∷ after))) (λ fault. ⊥)
 
 -- why a line isn't closed: it can't be, or it can, and memory was refused
 abbrev pub IsWhyNot : Result (List ℕ) MetaFault → MetaFault → Type 0

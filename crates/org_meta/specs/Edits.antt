@@ -7,13 +7,13 @@ use Rattle.org_meta.specs.declared.lines.Place.{Place}
 use Rattle.org_meta.specs.Sections.{SectionParts, joined}
 
 -- The edit lies in the text and gives these lines.
-pub record Gives (e : Edit) (text : List ℕ) (lines : List (List ℕ)) : Type 0 where
+pub record Rewrites (e : Edit) (text : List ℕ) (lines : List (List ℕ)) : Type 0 where
   pub within : e.at + e.removed ≤ length text
   pub gives : applied e text ≡ print_lines lines
 
 -- The edit gives the section of these parts.
-abbrev pub GivesParts : Edit → List ℕ → SectionParts → Type 0
-GivesParts e section parts = Gives e section (joined parts)
+abbrev pub RewritesParts : Edit → List ℕ → SectionParts → Type 0
+RewritesParts e section parts = Rewrites e section (joined parts)
 
 -- The edit is at the section's first byte, removes nothing and puts nothing in.
 pub record ChangesNothing (e : Edit) : Type 0 where

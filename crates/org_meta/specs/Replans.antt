@@ -3,14 +3,14 @@ use Rattle.std.specs.Prelude.{◌≡◌, ◌⊎◌, ℕ, true, false, Option, No
 use Rattle.org_splice.specs.declared.edit.Edit.{Edit}
 use Rattle.org_meta.specs.declared.fault.MetaFault.{MetaFault}
 use Rattle.org_meta.specs.declared.fault.MetaFault.TheVariants.{OddPlanning, OutOfMemory}
-use Rattle.org_meta.specs.Edits.{GivesParts}
+use Rattle.org_meta.specs.Edits.{RewritesParts}
 use Rattle.org_meta.specs.Sections.{SectionParts}
 use Rattle.org_stamp.specs.Calendar.{Moment}
 use Rattle.org_meta.specs.Planning.{PlanningEntry, PlanningLine, planning_of, has_repeater, IsRepeatedEntry, AreRepeated}
 
 -- the parts are no fault, and the edit gives their section
-abbrev pub GivesOk : Result SectionParts MetaFault → List ℕ → Edit → Type 0
-GivesOk parts section edit = MatchResult parts (GivesParts edit section) (λ fault. ⊥)
+abbrev pub RewritesOk : Result SectionParts MetaFault → List ℕ → Edit → Type 0
+RewritesOk parts section edit = MatchResult parts (RewritesParts edit section) (λ fault. ⊥)
 
 -- memory was refused, or the parts are this fault
 abbrev pub FaultIn : Result SectionParts MetaFault → MetaFault → Type 0
@@ -42,23 +42,25 @@ HasNoRepeater (l ∷ ls) =
     (p : PlanningLine) × (planning_of l ≡ Some p) × (has_repeater p.entries ≡ false)
 
 -- The edit gives the section with this planning line repeated.
-pub record GivesRepeatedLine (now : Moment) (parts : SectionParts) (section : List ℕ)
+pub record RewritesRepeatedLine (now : Moment) (parts : SectionParts) (section : List ℕ)
     (edit : Edit) (line : List ℕ) : Type 0 where
   pub planning : PlanningLine
   pub text : List ℕ
   pub well_formed : planning_of line ≡ Some planning
   pub repeats : has_repeater planning.entries ≡ true
   pub are : AreRepeated planning.entries now (Ok text)
-  pub gives : GivesParts edit section (record parts { planning = repeated_line planning text ∷ [] })
+  pub gives : RewritesParts edit section
+      (record parts { planning = repeated_line planning text ∷ [] })
 
-abbrev pub GivesRepeatedIn : Moment → SectionParts → List ℕ → Edit → List (List ℕ) → Type 0
-GivesRepeatedIn now parts section edit [] = ⊥
-GivesRepeatedIn now parts section edit (l ∷ ls) = GivesRepeatedLine now parts section edit l
+abbrev pub RewritesRepeatedIn : Moment → SectionParts → List ℕ → Edit → List (List ℕ) → Type 0
+RewritesRepeatedIn now parts section edit [] = ⊥
+RewritesRepeatedIn now parts section edit (l ∷ ls) = RewritesRepeatedLine now parts section edit l
 
 -- the edit that repeats, or none where there is no repeater
-abbrev pub GivesRepeated : Moment → SectionParts → List ℕ → Option Edit → Type 0
-GivesRepeated now parts section None = HasNoRepeater parts.planning
-GivesRepeated now parts section (Some edit) = GivesRepeatedIn now parts section edit parts.planning
+abbrev pub RewritesRepeated : Moment → SectionParts → List ℕ → Option Edit → Type 0
+RewritesRepeated now parts section None = HasNoRepeater parts.planning
+RewritesRepeated now parts section (Some edit) =
+    RewritesRepeatedIn now parts section edit parts.planning
 
 -- the planning line is odd, or the fault is the first of its repetitions
 abbrev pub FaultRepeated : Moment → List (List ℕ) → MetaFault → Type 0

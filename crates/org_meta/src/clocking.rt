@@ -5,7 +5,7 @@
 ghost use Rattle.std.specs.Prelude.{◌≡◌, ℕ, List, IfOk, IfErr, IfSome, IfNone, OnOk, None, [], ◌∷◌, ◌++◌};
 ghost use Rattle.std.specs.List.{list_any};
 ghost use Rattle.org_splice.specs.Lines.{terminated, lines_of};
-ghost use Rattle.org_meta.specs.Edits.{GivesParts, IsPlaceFor};
+ghost use Rattle.org_meta.specs.Edits.{RewritesParts, IsPlaceFor};
 ghost use Rattle.org_meta.specs.Sections.{is_end, parts_of};
 ghost use Rattle.org_meta.specs.Clocks.{HasOpenAt};
 ghost use Rattle.org_meta.specs.Clocking.{in_logbook, logged, opened, closing_text, Closes, ClosesNot};
@@ -66,7 +66,7 @@ fn log_place(text: &[u8]) -> Option<Place<'_>>
 pub fn open_clock(alloc: Global, section: &[u8], now: Moment) -> Result<Edit, AllocError>
     requires { terminated section.now ≡ section.now }
     ensures { IfOk result (λ edit.
-        GivesParts edit section.now (opened now (parts_of section.now))) }
+        RewritesParts edit section.now (opened now (parts_of section.now))) }
 {
     let rest = sections(section).rest;
     let Some(place) = log_place(rest) else {

@@ -3,7 +3,7 @@
 //! A note is one line, put first into the rest of a section. No drawer is made for it.
 ghost use Rattle.std.specs.Prelude.{◌≡◌, ◌∷◌, [], ◌++◌, IfOk, OnOk};
 ghost use Rattle.org_splice.specs.Lines.{terminated};
-ghost use Rattle.org_meta.specs.Edits.{GivesParts};
+ghost use Rattle.org_meta.specs.Edits.{RewritesParts};
 ghost use Rattle.org_meta.specs.Notes.{quoted, note_line, with_note};
 ghost use Rattle.org_meta.specs.Sections.{parts_of};
 
@@ -49,7 +49,7 @@ pub fn add_note(
 ) -> Result<Edit, AllocError>
     requires { terminated section.now ≡ section.now }
     ensures { IfOk result (λ edit.
-        GivesParts edit section.now
+        RewritesParts edit section.now
         (with_note (note_line new.now old.now now) (parts_of section.now))) }
 {
     let mut bytes = Vec::new(alloc);

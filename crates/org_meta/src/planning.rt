@@ -8,7 +8,7 @@ ghost use Rattle.org_meta.specs.Edits.{ChangesNothing};
 ghost use Rattle.org_meta.specs.Sections.{parts_of, split};
 ghost use Rattle.org_meta.specs.declared.fault.MetaFault.TheVariants.{OddPlanning, OutOfMemory};
 ghost use Rattle.org_meta.specs.Planning.{entries_at, each_once, planning_of, is_closed, has_closed_entry, entry_text, kept_text, closed_text, without_closed, with_closed, clear_closed, set_closed, is_repeating, has_repeater, AreRepeated, IsRepeatedEntry};
-ghost use Rattle.org_meta.specs.Replans.{GivesOk, FaultIn, PutsRepeated, PutsAllRepeated, GivesRepeated, FaultRepeated, repeated_line};
+ghost use Rattle.org_meta.specs.Replans.{RewritesOk, FaultIn, PutsRepeated, PutsAllRepeated, RewritesRepeated, FaultRepeated, repeated_line};
 
 use crate::entry::{
     Entry, Planning, Word, entry_at, has_closed, has_others, is_closed, is_line_end, is_once,
@@ -241,7 +241,7 @@ fn replacing(line: &[u8], bytes: Vec<u8>) -> Edit
 /// - `OutOfMemory`.
 pub fn clear_closed(alloc: Global, section: &[u8]) -> Result<Edit, MetaFault>
     requires { terminated section.now ≡ section.now }
-    ensures ok { IfOk result (GivesOk (clear_closed (parts_of section.now)) section.now) }
+    ensures ok { IfOk result (RewritesOk (clear_closed (parts_of section.now)) section.now) }
     ensures nothing { IfOk result (λ edit.
         has_closed_entry (parts_of section.now).planning ≡ false → ChangesNothing edit) }
     ensures err { IfErr result (FaultIn (clear_closed (parts_of section.now))) }
@@ -266,7 +266,7 @@ pub fn clear_closed(alloc: Global, section: &[u8]) -> Result<Edit, MetaFault>
 /// - `OutOfMemory`.
 pub fn set_closed(alloc: Global, section: &[u8], now: Moment) -> Result<Edit, MetaFault>
     requires { terminated section.now ≡ section.now }
-    ensures ok { IfOk result (GivesOk (set_closed now (parts_of section.now)) section.now) }
+    ensures ok { IfOk result (RewritesOk (set_closed now (parts_of section.now)) section.now) }
     ensures err { IfErr result (FaultIn (set_closed now (parts_of section.now))) }
 {
     let line = sections(section).planning;
@@ -292,7 +292,7 @@ pub fn repeat_planning(
     now: Moment,
 ) -> Result<Option<Edit>, MetaFault>
     requires { terminated section.now ≡ section.now }
-    ensures ok { IfOk result (GivesRepeated now (parts_of section.now) section.now) }
+    ensures ok { IfOk result (RewritesRepeated now (parts_of section.now) section.now) }
     ensures err { IfErr result (λ fault.
         (fault ≡ OutOfMemory) ⊎ FaultRepeated now (parts_of section.now).planning fault) }
 {

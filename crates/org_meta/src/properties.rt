@@ -5,7 +5,7 @@
 ghost use Rattle.std.specs.Prelude.{◌≡◌, ℕ, ◌≤◌, ◌+◌, length, IfOk, [], ◌∷◌, ◌++◌};
 ghost use Rattle.std.specs.Option.{option_map};
 ghost use Rattle.org_splice.specs.Lines.{terminated, lines_of};
-ghost use Rattle.org_meta.specs.Edits.{GivesParts, IsPlaceFor};
+ghost use Rattle.org_meta.specs.Edits.{RewritesParts, IsPlaceFor};
 ghost use Rattle.org_meta.specs.Sections.{value_named, value_before_end, put_before_end, property, property_line, put, parts_of, split, joined};
 
 use crate::lines::{Place, first_line};
@@ -108,7 +108,7 @@ pub fn put_property(
 ) -> Result<Edit, AllocError>
     requires { terminated section.now ≡ section.now }
     ensures { IfOk result (λ edit.
-        GivesParts edit section.now (put name.now value.now (parts_of section.now))) }
+        RewritesParts edit section.now (put name.now value.now (parts_of section.now))) }
 {
     let parts = sections(section);
     let Some((_start, properties)) = first_line(parts.drawer) else {

@@ -5,7 +5,7 @@ use Rattle.org_outline.specs.Tree.{Document}
 use Rattle.org_outline.specs.Numbers.{LiesIn}
 use Rattle.org_move.specs.declared.fault.MoveFault.{MoveFault}
 use Rattle.org_move.specs.declared.fault.MoveFault.TheVariants.{AlreadyArchive, InsideItself}
-use Rattle.org_move.specs.Answers.{Gives}
+use Rattle.org_move.specs.Answers.{IsMadeAs}
 use Rattle.org_move.specs.Archive.{if_apart}
 use Rattle.org_move.specs.Refile.{is_inside}
 use Rattle.org_move.proofs.Made.{inside_is}
@@ -34,13 +34,13 @@ tested_too false true x y new is = absurd cc
 tested_too false false x y new is = refl
 
 tested_fails : {A B C : Type 0} (inside below : Bool) (x : A) (new : B) (defined : Result B MoveFault) (Fits : B → C → Type 0) (fault : MoveFault)
-    → defined ≡ tested inside below new → Err fault ≡ tested inside below x → Gives {A = C} defined Fits (Err fault)
+    → defined ≡ tested inside below new → Err fault ≡ tested inside below x → IsMadeAs {A = C} defined Fits (Err fault)
 tested_fails {A} {B} {C} true below x new defined Fits fault is fails =
     let same : InsideItself ≡ fault = cc in
-    subst (λ (fault : MoveFault). Gives {A = C} defined Fits (Err fault)) same is
+    subst (λ (fault : MoveFault). IsMadeAs {A = C} defined Fits (Err fault)) same is
 tested_fails {A} {B} {C} false true x new defined Fits fault is fails =
     let same : AlreadyArchive ≡ fault = cc in
-    subst (λ (fault : MoveFault). Gives {A = C} defined Fits (Err fault)) same is
+    subst (λ (fault : MoveFault). IsMadeAs {A = C} defined Fits (Err fault)) same is
 tested_fails false false x new defined Fits fault is fails = absurd cc
 
 -- what was handed on is what was asked about
@@ -55,7 +55,7 @@ apart_too d i (Some p) x y new is = tested_too (is_inside d i p) (is_inside d p 
 
 -- the fault is that of what is defined
 pub apart_fails : {A B C : Type 0} (d : Document) (i : ℕ) (up : Option ℕ) (x : A) (new : B) (defined : Result B MoveFault) (Fits : B → C → Type 0) (fault : MoveFault)
-    → defined ≡ if_apart d i up new → Err fault ≡ if_apart d i up x → Gives {A = C} defined Fits (Err fault)
+    → defined ≡ if_apart d i up new → Err fault ≡ if_apart d i up x → IsMadeAs {A = C} defined Fits (Err fault)
 apart_fails d i None x new defined Fits fault is fails = absurd cc
 apart_fails {A} {B} {C} d i (Some p) x new defined Fits fault is fails =
     tested_fails {C = C} (is_inside d i p) (is_inside d p i) x new defined Fits fault is fails

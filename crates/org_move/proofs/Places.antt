@@ -7,7 +7,7 @@ use Rattle.org_disk.specs.Names.{is_archive_name, is_file_name}
 use Rattle.org_outline.specs.States.{Keywords}
 use Rattle.org_move.specs.declared.fault.MoveFault.{MoveFault}
 use Rattle.org_move.specs.declared.fault.MoveFault.TheVariants.{NotFound, NotUnique, InsideItself, AlreadyArchive, BadLocation, NoSuchFile, OutOfMemory}
-use Rattle.org_move.specs.Answers.{GivesName, GivesPlace}
+use Rattle.org_move.specs.Answers.{IsNameOf, IsPlaceAs}
 use Rattle.org_move.specs.Location.{Destination, Halves, Heading, file_named, halves_of, heading_of, location_at, value_for, with_file}
 
 -- what was read
@@ -31,7 +31,7 @@ late to false = refl
 pub no_memory : (to : Destination) → IfErr (with_file to) (λ fault. fault ≡ NoSuchFile)
 no_memory to = late to (is_utf8 to.file && is_file_name to.file)
 
-named_fault : (bytes : List ℕ) (to : Destination) (fault : MoveFault) → bytes ≡ to.file → GivesName bytes (Err fault) → GivesPlace (with_file to) (Err fault)
+named_fault : (bytes : List ℕ) (to : Destination) (fault : MoveFault) → bytes ≡ to.file → IsNameOf bytes (Err fault) → IsPlaceAs (with_file to) (Err fault)
 named_fault bytes to NotFound same gives = absurd gives
 named_fault bytes to NotUnique same gives = absurd gives
 named_fault bytes to InsideItself same gives = absurd gives
@@ -41,6 +41,6 @@ named_fault bytes to NoSuchFile same gives = let none : (is_utf8 to.file && is_f
 named_fault bytes to OutOfMemory same gives = no_memory to
 
 pub name_fault : (bytes : List ℕ) (to : Destination) (defined : Result Destination MoveFault) (r : Result (List ℕ) MoveFault) (fault : MoveFault)
-    → defined ≡ with_file to → bytes ≡ to.file → GivesName bytes r → r ≡ Err fault → GivesPlace defined (Err fault)
+    → defined ≡ with_file to → bytes ≡ to.file → IsNameOf bytes r → r ≡ Err fault → IsPlaceAs defined (Err fault)
 name_fault bytes to defined r fault is same gives was =
-    subst (λ d. GivesPlace d (Err fault)) (sym is) (named_fault bytes to fault same (subst (GivesName bytes) was gives))
+    subst (λ d. IsPlaceAs d (Err fault)) (sym is) (named_fault bytes to fault same (subst (IsNameOf bytes) was gives))

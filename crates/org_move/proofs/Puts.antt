@@ -9,7 +9,7 @@ use Rattle.org_splice.specs.Edits.{applied}
 use Rattle.org_splice.specs.Lines.{terminated, IsLine, lines_of}
 use Rattle.org_splice.specs.declared.edit.Edit.{Edit}
 use Rattle.org_splice.proofs.Lines.{terminated-print_lines, lines_of-lines, lines_of-print_lines}
-use Rattle.org_meta.specs.Edits.{GivesParts}
+use Rattle.org_meta.specs.Edits.{RewritesParts}
 use Rattle.org_meta.specs.Sections.{is_property_name, joined, parts_of, property_line, put, split}
 use Rattle.org_meta.proofs.Keeping.{keeps_put}
 use Rattle.org_meta.proofs.Reading.{line_said}
@@ -37,7 +37,7 @@ end_line = tested_line (codes ":END:") refl
 pub put_lines : (name value : List ℕ) (ls : List (List ℕ)) → IsLine (property_line name value) → AllByRecursion IsLine ls → AllByRecursion IsLine (joined (put name value (split ls)))
 put_lines name value ls line all = keeps_put IsLine name (property_line name value) line mark_line end_line ls all
 
-pub put_split : (name value text new : List ℕ) (e : Edit) → is_property_name name ≡ true → IsLine (property_line name value) → GivesParts e text (put name value (parts_of text))
+pub put_split : (name value text new : List ℕ) (e : Edit) → is_property_name name ≡ true → IsLine (property_line name value) → RewritesParts e text (put name value (parts_of text))
     → new ≡ applied e text → parts_of new ≡ put name value (parts_of text)
 put_split name value text new e good line gives is =
     let ls : List (List ℕ) = lines_of text in
@@ -46,7 +46,7 @@ put_split name value text new e good line gives is =
     ∙ ap split (lines_of-print_lines (joined (put name value (split ls))) (put_lines name value ls line (lines_of-lines text)))
     ∙ split_put name (property_line name value) ls said.0 said.1
 
-pub put_terminated : (name value text new : List ℕ) (e : Edit) → GivesParts e text (put name value (parts_of text)) → new ≡ applied e text → terminated new ≡ new
+pub put_terminated : (name value text new : List ℕ) (e : Edit) → RewritesParts e text (put name value (parts_of text)) → new ≡ applied e text → terminated new ≡ new
 put_terminated name value text new e gives is =
     let whole = is ∙ gives.gives in
     ap terminated whole ∙ terminated-print_lines (joined (put name value (parts_of text))) ∙ sym whole

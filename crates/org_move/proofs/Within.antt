@@ -13,7 +13,7 @@ use Rattle.org_outline.specs.Numbers.{parent_without, size_of}
 use Rattle.org_outline.proofs.TwoEdits.{two_edits}
 use Rattle.org_move.specs.declared.fault.MoveFault.{MoveFault}
 use Rattle.org_move.specs.declared.fault.MoveFault.TheVariants.{OutOfMemory}
-use Rattle.org_move.specs.Answers.{Gives}
+use Rattle.org_move.specs.Answers.{IsMadeAs}
 use Rattle.org_move.specs.Archive.{archive_within_at, archived, filled, if_apart, put_last, target_heading}
 use Rattle.org_move.specs.Edits.{insertion, removal}
 use Rattle.org_move.specs.Location.{Destination}
@@ -35,7 +35,7 @@ found_up states name now to d s i up s_is found =
 pub not_apart : {C : Type 0} (states : Keywords) (name : List ℕ) (now : Moment) (to : Destination) (d : Document) (Fits : Document → C → Type 0) (s : Result (Option ℕ) PathFault)
     (i : ℕ) (up : Option ℕ) (fault : MoveFault)
     → s ≡ target_heading states to d → s ≡ Ok up → Err fault ≡ if_apart d i up up
-    → Gives {A = C} (archive_within_at states name now to d i) Fits (Err fault)
+    → IsMadeAs {A = C} (archive_within_at states name now to d i) Fits (Err fault)
 not_apart {C} states name now to d Fits s i up fault s_is found fails =
     apart_fails {C = C} d i up up (left_with states name now to d i up) (archive_within_at states name now to d i) Fits fault
     (found_up states name now to d s i up s_is found) fails
@@ -48,11 +48,11 @@ some_ok (Err fault) d is = absurd cc
 pub starved : {C : Type 0} (states : Keywords) (name : List ℕ) (now : Moment) (to : Destination) (d : Document) (Fits : Document → C → Type 0) (s : Result (Option ℕ) PathFault)
     (i : ℕ) (asked up : Option ℕ) (fault : MoveFault)
     → s ≡ target_heading states to d → s ≡ Ok asked → Ok up ≡ if_apart d i asked asked → fault ≡ OutOfMemory
-    → Gives {A = C} (archive_within_at states name now to d i) Fits (Err fault)
+    → IsMadeAs {A = C} (archive_within_at states name now to d i) Fits (Err fault)
 starved {C} states name now to d Fits s i asked up fault s_is found is memory =
     let defined : archive_within_at states name now to d i ≡ Ok (left_with states name now to d i asked) =
     found_up states name now to d s i asked s_is found ∙ apart_too d i asked asked up (left_with states name now to d i asked) is in
-    subst (λ (f : MoveFault). Gives {A = C} (archive_within_at states name now to d i) Fits (Err f)) (sym memory) (some_ok (archive_within_at states name now to d i) (left_with states name now to d i asked) defined)
+    subst (λ (f : MoveFault). IsMadeAs {A = C} (archive_within_at states name now to d i) Fits (Err f)) (sym memory) (some_ok (archive_within_at states name now to d i) (left_with states name now to d i asked) defined)
 
 pub archived_within : (states : Keywords) (name : List ℕ) (now : Moment) (t : List ℕ) (to : Destination) (s : Result (Option ℕ) PathFault)
     (i : ℕ) (asked up : Option ℕ) (at : ℕ) (bytes : List ℕ) (out goes_in : Edit)

@@ -8,7 +8,7 @@ ghost use Rattle.org_splice.specs.Lines.{terminated};
 ghost use Rattle.org_outline.specs.Moves.{InsertsAt, take};
 ghost use Rattle.org_outline.specs.Numbers.{LiesIn, parent_without, size_of};
 ghost use Rattle.org_outline.specs.Tree.{Node as NodeOf, node_at, node_count, print, tree};
-ghost use Rattle.org_move.specs.Answers.{Gives};
+ghost use Rattle.org_move.specs.Answers.{IsMadeAs};
 ghost use Rattle.org_move.specs.Archive.{archive_across_at, archive_within_at, filled, put_last};
 ghost use Rattle.org_move.specs.Location.{Destination};
 
@@ -110,7 +110,7 @@ pub fn archive(
     requires { node < node_count (tree source.now.text) }
     ensures { let from = tree source.now.text in
         let into = tree target.now.text in
-        Gives (archive_across_at source.now.states name.now now from
+        IsMadeAs (archive_across_at source.now.states name.now now from
         target.now.states to.now into node)
         (λ new edits. AreEdits (edits.0 ∷ []) source.now.text (print new.source)
         × AreEdits (edits.1 ∷ []) target.now.text (print new.target)) result }
@@ -147,7 +147,7 @@ pub fn archive_within(
     requires { node < node_count (tree outline.now.text) }
     ensures { let states = outline.now.states in
         let document = tree outline.now.text in
-        Gives (archive_within_at states name.now now to.now document node)
+        IsMadeAs (archive_within_at states name.now now to.now document node)
         (λ new edits. AreEdits edits outline.now.text (print new)) result }
 {
     let up = apart(outline, node, target_heading(outline, to)?)?;

@@ -9,7 +9,7 @@ ghost use Rattle.org_splice.specs.Lines.{terminated, lines_of};
 ghost use Rattle.org_splice.specs.Searched.{IsSearched};
 ghost use Rattle.org_outline.specs.Parts.{AreParts, Parts};
 ghost use Rattle.org_outline.specs.Tree.{node_count, tree};
-ghost use Rattle.org_move.specs.Answers.{GivesName, GivesPlace};
+ghost use Rattle.org_move.specs.Answers.{IsNameOf, IsPlaceAs};
 ghost use Rattle.org_move.specs.Location.{ComesTo, LeavesLines, location_at, file_named, halves_made, halves_of, has_archive_line, heading_made, heading_of, is_archive_line, is_title_alone, value_for, value_of_lines, with_file, with_name};
 ghost use Rattle.org_splice.specs.Blanks.{is_blank, behind};
 
@@ -221,7 +221,7 @@ fn file_text(alloc: Global, name: &[u8], text: &[u8]) -> Result<Vec<u8>, AllocEr
 /// The name that the bytes are.
 #[tactic(auto, using(crate::proofs::Utf8::is_no_utf8))]
 fn file_name(alloc: Global, bytes: &[u8]) -> Result<FileName, MoveFault>
-    ensures { GivesName bytes.now result }
+    ensures { IsNameOf bytes.now result }
 {
     let Ok(text) = str::from_utf8(bytes) else {
         return Err(MoveFault::NoSuchFile);
@@ -243,7 +243,7 @@ fn place(
 ) -> Result<Location, MoveFault>
     requires { level + 1 < 2 ^ 63 }
     ensures { let file = file_named name.now file.now in
-        GivesPlace (with_file (record { file = file; level = level; title = title.now })) result }
+        IsPlaceAs (with_file (record { file = file; level = level; title = title.now })) result }
 {
     let file = file_text(alloc, name.as_str().as_bytes(), file)?;
     let file = file_name(alloc, &file)?;
@@ -280,7 +280,7 @@ pub fn location_searched(
     requires node { node < node_count (tree outline.now.text) }
     requires searched { IsSearched has_archive_line searched.old outline.now.text }
     ensures place { let states = outline.now.states in
-        GivesPlace (location_at states name.now outline.now.text node) result }
+        IsPlaceAs (location_at states name.now outline.now.text node) result }
     ensures searched { IsSearched has_archive_line searched.new outline.now.text }
 {
     if name.is_archive() {

@@ -7,7 +7,7 @@ ghost use Rattle.org_splice.specs.Edits.{AreEdits};
 ghost use Rattle.org_splice.specs.Lines.{terminated};
 ghost use Rattle.org_outline.specs.Tree.{node_at, node_count, print, tree};
 ghost use Rattle.org_outline.specs.Moves.{level_below, shift_node};
-ghost use Rattle.org_move.specs.Answers.{Gives};
+ghost use Rattle.org_move.specs.Answers.{IsMadeAs};
 ghost use Rattle.org_move.specs.Edits.{insertion, removal};
 ghost use Rattle.org_move.specs.Refile.{refile_across, refile_within};
 
@@ -99,7 +99,7 @@ pub fn refile_within(
 ) -> Result<[Edit; 2], MoveFault>
     ensures { let states = outline.now.states in
         let document = tree outline.now.text in
-        Gives (refile_within states path.now to.now place document)
+        IsMadeAs (refile_within states path.now to.now place document)
         (λ new edits. AreEdits edits outline.now.text (print new)) result }
 {
     let node = outline.find(path)?;
@@ -131,7 +131,7 @@ pub fn refile_across(
 ) -> Result<(Edit, Edit), MoveFault>
     ensures { let from = tree source.now.text in
         let into = tree target.now.text in
-        Gives (refile_across source.now.states path.now from
+        IsMadeAs (refile_across source.now.states path.now from
         target.now.states to.now into place)
         (λ new edits. AreEdits (edits.0 ∷ []) source.now.text (print new.source)
         × AreEdits (edits.1 ∷ []) target.now.text (print new.target)) result }

@@ -6,8 +6,8 @@ use Rattle.org_fileset.specs.declared.open.OpenFault.{OpenFault}
 use Rattle.org_fileset.specs.declared.open.OpenFault.TheVariants as refused
 use Rattle.org_fileset.specs.Names.{with_archives, AreSorted, AreFew}
 use Rattle.org_folder.specs.OrgFiles.{is_org_file}
-use Rattle.org_folder.specs.declared.apart.AliasFault.{AliasFault}
-use Rattle.org_folder.specs.declared.apart.AliasFault.TheVariants as apart
+use Rattle.org_folder.specs.declared.aliases.AliasFault.{AliasFault}
+use Rattle.org_folder.specs.declared.aliases.AliasFault.TheVariants as alias
 use Rattle.org_folder.specs.declared.list.ListFault.{ListFault}
 use Rattle.org_folder.specs.declared.list.ListFault.TheVariants as list
 use Rattle.org_folder.specs.declared.lock.LockFault.{LockFault}
@@ -44,9 +44,9 @@ locking lock.OutOfMemory = Open refused.OutOfMemory
 
 -- why names couldn't be shown to lead to files of their own
 abbrev pub sharing : AliasFault → Fault
-sharing (apart.SameFile name) = SameFile name
-sharing apart.Device = Open refused.Device
-sharing apart.OutOfMemory = Open refused.OutOfMemory
+sharing (alias.SameFile name) = SameFile name
+sharing alias.Device = Open refused.Device
+sharing alias.OutOfMemory = Open refused.OutOfMemory
 
 -- why the states couldn't be had
 abbrev pub stating : StatesFault → Fault
@@ -73,9 +73,9 @@ pub record MayBeShared (names : List (List ℕ)) (name : List ℕ) : Type 0 wher
 
 -- what may be reported of where the names of a store lead; of too many names nothing is
 abbrev pub MayShare : List (List ℕ) → AliasFault → Type 0
-MayShare names (apart.SameFile name) = MayBeShared names name
-MayShare names apart.Device = AreFew names
-MayShare names apart.OutOfMemory = Unit {0}
+MayShare names (alias.SameFile name) = MayBeShared names name
+MayShare names alias.Device = AreFew names
+MayShare names alias.OutOfMemory = Unit {0}
 
 -- the names and the states of the arguments are a store's
 abbrev pub NameAStore : Arguments → Type 0

@@ -20,8 +20,8 @@ use Rattle.org_program.specs.Folder.{seen_of}
 use Rattle.org_program.specs.Lists.{names_in, states_in, AreListed}
 
 -- the most reads of an input
-abbrev pub turns : ℕ
-turns = 4294967295
+abbrev pub max_reads : ℕ
+max_reads = 4294967295
 
 -- The folder was listed, and these names are what the list adds to those that are given; or no call
 -- was made, where `--only` is given.
@@ -62,7 +62,7 @@ pub record ServesFolder {C F : Type 0} (g : Ghosts C F) (found : C)
   -- README's six sentences
   pub promises : Promises (seen_of g) setup disk now end io
   -- .. and all that is known of the run
-  pub runs : RunsSynced (seen_of g) setup turns disk now end io
+  pub runs : RunsSynced (seen_of g) setup max_reads disk now end io
 
 -- .. and what is reported of how that ended: success exactly where the input was served to its end,
 -- and all is settled

@@ -2,7 +2,7 @@
 use Rattle.std.proofs.Common.{◌≡◌, ◌≢◌, if◌then◌else◌, true, false, true≢false, refl, sym, ap, ◌∙◌, arith, inl, inr, ◌⊎◌, ⊎_elim, Bool, subst}
 use Rattle.org_disk.specs.declared.disk.Disk.{Ghosts}
 use Rattle.std.specs.Prelude.{IsTrue, IsFalse, IsErrOf, Result, Ok, Err}
-use Rattle.org_disk.specs.Accounts.{Accounts}
+use Rattle.org_disk.specs.CountsFailures.{CountsFailures}
 use Rattle.org_disk.proofs.Accounting.{accounts_none, accounts_then}
 use Rattle.org_journal.proofs.Accounted.{accounts_quiet}
 use Rattle.org_disk.specs.Disk.{HasRisen}
@@ -27,8 +27,8 @@ untouched_then first second before = second (ap (λ k. k.session.broken) (first 
 
 pub breaks_then : {D : Type 0} {g : Ghosts D} {old mid new : StoreView D}
     → (IsTrue old.session.broken → mid ≡ old) → (IsTrue mid.session.broken → new ≡ mid)
-    → Accounts g old.disk mid.disk (HasBroken old.session mid.session) → Accounts g mid.disk new.disk (HasBroken mid.session new.session)
-    → Accounts g old.disk new.disk (HasBroken old.session new.session)
+    → CountsFailures g old.disk mid.disk (HasBroken old.session mid.session) → CountsFailures g mid.disk new.disk (HasBroken mid.session new.session)
+    → CountsFailures g old.disk new.disk (HasBroken old.session new.session)
 breaks_then {D} {g = g} {old = old} {mid = mid} {new = new} kept_first kept_second first second = record {
   was_honest = λ h. first.was_honest (second.was_honest h);
   stays_honest = λ truthful h. second.stays_honest truthful (first.stays_honest truthful h);
@@ -74,7 +74,7 @@ ends_broken (Err run.Broken) old new sound only_so so was = absurd (both_ways (w
 
 -- a store that was opened and served is broken where its disk's count rose, and else not
 pub breaks_by_count : {D : Type 0} {g : Ghosts D} {disk new : D} (store after : StoreView D)
-    → Accounts g disk store.disk ⊥ → Accounts g store.disk after.disk (HasBroken store.session after.session)
+    → CountsFailures g disk store.disk ⊥ → CountsFailures g store.disk after.disk (HasBroken store.session after.session)
     → store.session.broken ≡ false → new ≡ after.disk
     → (IsTrue after.session.broken → HasRisen (g.failures disk) (g.failures new)) × (IsFalse after.session.broken → g.failures new ≡ g.failures disk)
 breaks_by_count {D} {g = g} {disk = disk} store after opened served sound is =
@@ -85,12 +85,12 @@ breaks_by_count {D} {g = g} {disk = disk} store after opened served sound is =
 
 -- a store that was opened and served, as its disk's count tells it
 pub served_accounts : {D : Type 0} {g : Ghosts D} {disk new : D} (end : ServeEnd) (store after : StoreView D)
-    → Accounts g disk store.disk ⊥ → Accounts g store.disk after.disk (HasBroken store.session after.session)
+    → CountsFailures g disk store.disk ⊥ → CountsFailures g store.disk after.disk (HasBroken store.session after.session)
     → store.session.broken ≡ false → EndSaysBroken end after.session → new ≡ after.disk
-    → Accounts g disk new (SaysFailure (Ok end) (g.failures disk) (g.failures new))
+    → CountsFailures g disk new (SaysFailure (Ok end) (g.failures disk) (g.failures new))
 served_accounts {D} {g} {disk} end store after opened served sound ends is =
     let whole = accounts_then opened served in
-    subst (λ (d : D). Accounts g disk d (SaysFailure (Ok end) (g.failures disk) (g.failures d))) (sym is) (record {
+    subst (λ (d : D). CountsFailures g disk d (SaysFailure (Ok end) (g.failures disk) (g.failures d))) (sym is) (record {
       was_honest = whole.was_honest;
       stays_honest = whole.stays_honest;
       no_less = whole.no_less;
@@ -116,13 +116,13 @@ served_accounts {D} {g} {disk} end store after opened served sound ends is =
 
 -- nothing was done
 pub accounts_still : {D : Type 0} {g : Ghosts D} {disk : D} (session : Session)
-    → Accounts g disk disk (HasBroken session session)
+    → CountsFailures g disk disk (HasBroken session session)
 accounts_still {g = g} {disk = disk} session = accounts_quiet (λ has. both_ways has.1 has.0) (accounts_none g disk)
 
 -- a settling over a store that wasn't broken
 pub accounts_settled : {D : Type 0} {g : Ghosts D} {disk disk' : D} (answer : Result (Unit {0}) RunFault) (old new : Session) → old.broken ≡ false
     → (IsTrue new.broken → IsTrue old.broken ⊎ IsErrOf answer run.Device) → (IsTrue old.broken ⊎ IsErrOf answer run.Device → IsTrue new.broken)
-    → Accounts g disk disk' (IsErrOf answer run.Device) → Accounts g disk disk' (HasBroken old new)
+    → CountsFailures g disk disk' (IsErrOf answer run.Device) → CountsFailures g disk disk' (HasBroken old new)
 accounts_settled answer old new sound only_so so call = record {
   was_honest = call.was_honest;
   stays_honest = call.stays_honest;

@@ -20,9 +20,9 @@ HasRisenBy-counted n old mid new rose counted =
 pub within_counted : (n old mid new : ℕ) → mid ≤ old + n → IsCounted mid new → new ≤ old + (n + 1)
 within_counted n old mid new le counted = elim counted [ inl one ↦ omega arith | inr full ↦ omega (arith, full.0, full.1) ]
 
--- the first of the turns are no more than all
-pub within_all : (turns n old new : ℕ) → new ≤ old + (n + 1) → n < turns → new ≤ old + turns
-within_all turns n old new le less = omega arith
+-- the first of the reads are no more than all
+pub within_all : (max_reads n old new : ℕ) → new ≤ old + (n + 1) → n < max_reads → new ≤ old + max_reads
+within_all max_reads n old new le less = omega arith
 
 pub read_none : (left : Option (List ℕ)) → HasRead 0 left left
 read_none left = ([], Consumes-none left, omega arith)
@@ -52,29 +52,29 @@ wasnt_served same = cc
 pub read_apart : Read ≡ Write → ⊥
 read_apart same = cc
 
--- a read failed, or the turns are used up
-pub ended_read : {turns : ℕ} (io : Exchange) {mid : ℕ} → mid ≡ io.before.failed_reads
-    → IsCounted mid io.after.failed_reads ⊎ (HasRisenBy turns io.before.reads io.after.reads × HasRead turns io.before.left io.after.left)
-    → io.after.reads ≤ io.before.reads + turns → io.after.failed_writes ≡ io.before.failed_writes → EndsForCause turns (Ok Read) io
-ended_read {turns} io before cause within same = record {
-  read_cause = λ is. subst (λ n. IsCounted n io.after.failed_reads ⊎ (HasRisenBy turns io.before.reads io.after.reads × HasRead turns io.before.left io.after.left)) before cause;
-  within_turns = within;
+-- a read failed, or no more reads may be made
+pub ended_read : {max_reads : ℕ} (io : Exchange) {mid : ℕ} → mid ≡ io.before.failed_reads
+    → IsCounted mid io.after.failed_reads ⊎ (HasRisenBy max_reads io.before.reads io.after.reads × HasRead max_reads io.before.left io.after.left)
+    → io.after.reads ≤ io.before.reads + max_reads → io.after.failed_writes ≡ io.before.failed_writes → EndsForCause max_reads (Ok Read) io
+ended_read {max_reads} io before cause within same = record {
+  read_cause = λ is. subst (λ n. IsCounted n io.after.failed_reads ⊎ (HasRisenBy max_reads io.before.reads io.after.reads × HasRead max_reads io.before.left io.after.left)) before cause;
+  within_max_reads = within;
   read_reported = λ not. absurd (not refl);
   write_cause = λ is. absurd (read_apart (served_so is));
   write_reported = λ not. same;
 }
 
 -- no read failed
-pub ended_otherwise : {turns : ℕ} (io : Exchange) {mid : ℕ} (end : ServeEnd) → end ≢ Read → io.after.reads ≤ io.before.reads + turns → io.after.failed_reads ≡ io.before.failed_reads
-    → mid ≡ io.before.failed_writes → (end ≡ Write → IsCounted mid io.after.failed_writes) → (end ≢ Write → io.after.failed_writes ≡ mid) → EndsForCause turns (Ok end) io
+pub ended_otherwise : {max_reads : ℕ} (io : Exchange) {mid : ℕ} (end : ServeEnd) → end ≢ Read → io.after.reads ≤ io.before.reads + max_reads → io.after.failed_reads ≡ io.before.failed_reads
+    → mid ≡ io.before.failed_writes → (end ≡ Write → IsCounted mid io.after.failed_writes) → (end ≢ Write → io.after.failed_writes ≡ mid) → EndsForCause max_reads (Ok end) io
 ended_otherwise io end none within same before failed reported = record {
   read_cause = λ is. absurd (none (served_so is));
-  within_turns = within;
+  within_max_reads = within;
   read_reported = λ not. same;
   write_cause = λ is. subst (λ n. IsCounted n io.after.failed_writes) before (failed (served_so is));
   write_reported = λ not. reported (λ is. not (ap Ok is)) ∙ before;
 }
 
 -- nothing was served
-pub ended_unserved : {turns : ℕ} (seen : Pipes) {fault : OpenFault} → EndsForCause turns (Err fault) (record { before = seen; after = seen })
-ended_unserved seen = record { read_cause = λ is. absurd (wasnt_served is); within_turns = omega arith; read_reported = λ not. refl; write_cause = λ is. absurd (wasnt_served is); write_reported = λ not. refl }
+pub ended_unserved : {max_reads : ℕ} (seen : Pipes) {fault : OpenFault} → EndsForCause max_reads (Err fault) (record { before = seen; after = seen })
+ended_unserved seen = record { read_cause = λ is. absurd (wasnt_served is); within_max_reads = omega arith; read_reported = λ not. refl; write_cause = λ is. absurd (wasnt_served is); write_reported = λ not. refl }

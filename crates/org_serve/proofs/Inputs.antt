@@ -114,7 +114,7 @@ Served-no_more {left = left} {between = between} s left' read = record {
 
 -- What is read and written, by the sessions.
 
--- a read failed, or the turns are used up
+-- a read failed, or no more reads may be made
 pub serves_read : {old new : Session} (io : Exchange) {pending : Pending}
     → Served old.group model old new io.before.left io.after.left io.before.written io.after.written pending → Serves old Read new io
 serves_read io s = record { all = λ not other. absurd (not refl); read = λ is. (s.input, s.out, s.read, s.passes, s.wrote); write = λ is. absurd (read_apart is) }

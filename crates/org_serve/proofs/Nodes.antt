@@ -4,7 +4,7 @@ use Rattle.std.specs.Prelude.{IsErr, IsErrAnd}
 use Rattle.std.specs.Option.{option_map, option_and_then, ok_or}
 use Rattle.org_serve.specs.declared.fault.LineFault.{LineFault}
 use Rattle.org_serve.specs.declared.fault.LineFault.TheVariants.{BadLine, OutOfMemory}
-use Rattle.org_serve.specs.Grammar.{Gives}
+use Rattle.org_serve.specs.Grammar.{Parses}
 
 -- what is refused isn't there
 pub refused : {A E : Type 0} (found : Option A) (fault e : E) → Err e ≡ ok_or found fault → found ≡ None
@@ -27,14 +27,14 @@ not_both (Some x) None more none = refl
 not_both (Some x) (Some y) more none = absurd (cc)
 
 -- a `?` hands on that a part isn't there
-pub part_refused : {Y : Type 0} (answer : Result Y LineFault) (whole : Option Y) → IsErr answer → whole ≡ None → Gives answer whole
+pub part_refused : {Y : Type 0} (answer : Result Y LineFault) (whole : Option Y) → IsErr answer → whole ≡ None → Parses answer whole
 part_refused (Ok y) whole failed none = absurd (true≢false (sym failed))
 part_refused (Err BadLine) whole failed none = none
 part_refused (Err OutOfMemory) whole failed none = tt
 
 -- or why it couldn't be read
-pub part_unread : {X Y : Type 0} (fault : LineFault) (part : Option X) (answer : Result Y LineFault) (whole : Option Y) → Gives (Err fault) part → IsErrAnd answer (λ e. e ≡ fault)
-    → (part ≡ None → whole ≡ None) → Gives answer whole
+pub part_unread : {X Y : Type 0} (fault : LineFault) (part : Option X) (answer : Result Y LineFault) (whole : Option Y) → Parses (Err fault) part → IsErrAnd answer (λ e. e ≡ fault)
+    → (part ≡ None → whole ≡ None) → Parses answer whole
 part_unread fault part (Ok y) whole gives is none = absurd is
-part_unread BadLine part (Err f) whole gives is none = subst (λ (e : LineFault). Gives (Err e) whole) (sym is) (none gives)
-part_unread OutOfMemory part (Err f) whole gives is none = subst (λ (e : LineFault). Gives (Err e) whole) (sym is) tt
+part_unread BadLine part (Err f) whole gives is none = subst (λ (e : LineFault). Parses (Err e) whole) (sym is) (none gives)
+part_unread OutOfMemory part (Err f) whole gives is none = subst (λ (e : LineFault). Parses (Err e) whole) (sym is) tt

@@ -47,8 +47,8 @@ module _ {D : Type 0} {g : Ghosts D} {setup : Setup} {disk now : D} {end : Serve
             (λ name any wrote. absurd (unfailed why wrote));
       }
 
-pub promises : {D : Type 0} (g : Ghosts D) (setup : Setup) (turns : ℕ) (disk now : D) (end : Result ServeEnd OpenFault) (io : Exchange) → RunsSynced g setup turns disk now end io → Promises g setup disk now end io
-promises g setup turns disk now (Ok end) io runs =
+pub promises : {D : Type 0} (g : Ghosts D) (setup : Setup) (max_reads : ℕ) (disk now : D) (end : Result ServeEnd OpenFault) (io : Exchange) → RunsSynced g setup max_reads disk now end io → Promises g setup disk now end io
+promises g setup max_reads disk now (Ok end) io runs =
     let serves = runs.served.serves in
     let run = serves.served in (
       run,
@@ -67,7 +67,7 @@ promises g setup turns disk now (Ok end) io runs =
         others_untouched = record { states = serves.alone; ended = λ honestly. (runs.leaves_disk honestly).leaves_disk.alone };
       },
     )
-promises g setup turns disk now (Err fault) io runs = record {
+promises g setup max_reads disk now (Err fault) io runs = record {
   one_prefix = λ outside honestly. (runs.leaves_disk honestly).unopened_as_found outside;
   nothing_served = runs.unserved;
   as_the_model = runs.refused;

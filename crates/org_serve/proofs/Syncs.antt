@@ -97,16 +97,16 @@ module _ (old new : List ℕ → FileState) (own : (name : List ℕ) → IsImage
 
   pub still_recoverable : IsRecoverable old → IsRecoverable new
   still_recoverable (inl stable) = inl (λ name not. still_stable name (stable name not))
-  still_recoverable (inr armed) =
-      let same = one_content journal_name armed.stable in
+  still_recoverable (inr over_record) =
+      let same = one_content journal_name over_record.stable in
       inr (record {
-        stable = still_stable journal_name armed.stable;
-        opened = ap is_open same ∙ armed.opened;
-        entries = armed.entries;
-        found = ap (λ (l : List ℕ). journal_at (drop 1 l)) same ∙ armed.found;
-        others = λ name not none. still_stable name (armed.others name not none);
-        texts = armed.texts;
-        same = λ image left. armed.same image (all_images images image left);
+        stable = still_stable journal_name over_record.stable;
+        opened = ap is_open same ∙ over_record.opened;
+        entries = over_record.entries;
+        found = ap (λ (l : List ℕ). journal_at (drop 1 l)) same ∙ over_record.found;
+        others = λ name not none. still_stable name (over_record.others name not none);
+        texts = over_record.texts;
+        same = λ image left. over_record.same image (all_images images image left);
       })
 
   pub still_recovers : EachRecovers old → EachRecovers new

@@ -291,11 +291,11 @@ command_of line = command_of_fields (slice_split (λ b. b == 9) line)
 
 -- What was read, as it is seen by view, is what the bytes are; or BadLine where they are nothing.
 -- Memory may be refused.
-abbrev pub GivesBy : {X Y : Type 0} → (X → Y) → Result X LineFault → Option Y → Type 0
-GivesBy view (Ok x) value = value ≡ Some (view x)
-GivesBy view (Err BadLine) value = value ≡ None
-GivesBy view (Err OutOfMemory) value = Unit {0}
+abbrev pub ParsesAs : {X Y : Type 0} → (X → Y) → Result X LineFault → Option Y → Type 0
+ParsesAs view (Ok x) value = value ≡ Some (view x)
+ParsesAs view (Err BadLine) value = value ≡ None
+ParsesAs view (Err OutOfMemory) value = Unit {0}
 
 -- the same of what was read as it is
-abbrev pub Gives : {X : Type 0} → Result X LineFault → Option X → Type 0
-Gives result value = GivesBy (λ x. x) result value
+abbrev pub Parses : {X : Type 0} → Result X LineFault → Option X → Type 0
+Parses result value = ParsesAs (λ x. x) result value

@@ -54,16 +54,16 @@ HasRead n left left' = (input : List ℕ) × Consumes left left' input × (n ≤
 -- A run ends with Read or Write for a cause alone, and a call of the reader or the writer that
 -- failed is always reported. The counts of the two say it. One failure is counted where one ends
 -- the run, so neither is called once it has failed.
-pub record EndsForCause (turns : ℕ) (end : Result ServeEnd OpenFault) (io : Exchange)
+pub record EndsForCause (max_reads : ℕ) (end : Result ServeEnd OpenFault) (io : Exchange)
     : Type 0 where
-  -- a read failed, or the turns are used up by reads of which each gave bytes: so the end of the
-  -- input wasn't met
+  -- a read failed, or all reads were made that may be and each gave bytes: so the end of the input
+  -- wasn't met
   pub read_cause : end ≡ Ok Read
       → IsCounted io.before.failed_reads io.after.failed_reads
-      ⊎ (HasRisenBy turns io.before.reads io.after.reads
-      × HasRead turns io.before.left io.after.left)
-  -- there are no more reads than turns
-  pub within_turns : io.after.reads ≤ io.before.reads + turns
+      ⊎ (HasRisenBy max_reads io.before.reads io.after.reads
+      × HasRead max_reads io.before.left io.after.left)
+  -- there are at most so many reads
+  pub within_max_reads : io.after.reads ≤ io.before.reads + max_reads
   -- a read that failed is reported
   pub read_reported : end ≢ Ok Read → io.after.failed_reads ≡ io.before.failed_reads
   -- a write or a flush failed

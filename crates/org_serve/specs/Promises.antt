@@ -10,7 +10,7 @@
 -- image of all files. An image recovers to the files that the next opening finds.
 use Rattle.std.specs.Prelude.{◌≡◌, ◌⊎◌, ℕ, ◌≤◌, Result, Ok, Err, slice_get, IsSomeAnd, IsFalse}
 use Rattle.org_disk.specs.declared.disk.Disk.{Ghosts}
-use Rattle.org_disk.specs.Accounts.{Accounts, LeavesOver}
+use Rattle.org_disk.specs.CountsFailures.{CountsFailures, LeavesOver}
 use Rattle.org_journal.specs.Recovered.{Image, contents}
 use Rattle.org_fileset.specs.declared.open.OpenFault.{OpenFault}
 use Rattle.org_fileset.specs.Opening.{IsRefusedFor}
@@ -87,7 +87,8 @@ module _ {D : Type 0} {g : Ghosts D} {setup : Setup} {disk now : D} {end : Serve
   -- Faults of the device are reported, and each comes from a call that failed.
   pub record CountsFaults : Type 0 where
     -- the end says whether a call failed
-    pub reported : Accounts g disk now (SaysFailure (Ok end) (g.failures disk) (g.failures now))
+    pub reported : CountsFailures g disk now
+        (SaysFailure (Ok end) (g.failures disk) (g.failures now))
     -- so does the last store, which is broken from the first reply `fault Device` on
     pub breaks : BreaksByCount run
 
@@ -129,7 +130,7 @@ pub record KeepsUnopened {D : Type 0} (g : Ghosts D) (setup : Setup) (disk now :
       → LeavesOver g disk now (IsAsFound (g.files disk))
   pub nothing_served : io.after ≡ io.before
   pub as_the_model : IsRefusedFor g setup.names.items disk now fault
-  pub faults_are_counted : Accounts g disk now
+  pub faults_are_counted : CountsFailures g disk now
       (SaysFailure (Err fault) (g.failures disk) (g.failures now))
   pub others_untouched : g.honest now → LeavesAlone g (IsForeignTo g setup disk) disk now
 

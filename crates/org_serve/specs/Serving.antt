@@ -3,7 +3,7 @@
 use Rattle.std.specs.Prelude.{◌≡◌, ◌≢◌, ◌⊎◌, ℕ, ◌<◌, ◌≤◌, Bool, true, false, ◌||◌, if◌then◌else◌, IsTrue, IsFalse, nat_lt, List, [], ◌∷◌, ◌++◌, length, None, Some, Result, Ok, Err}
 use Rattle.std.specs.Io.KnownBytes.{Consumes, IsAtEnd}
 use Rattle.org_disk.specs.declared.disk.Disk.{Ghosts}
-use Rattle.org_disk.specs.Accounts.{Accounts}
+use Rattle.org_disk.specs.CountsFailures.{CountsFailures}
 use Rattle.org_disk.specs.Disk.{FileState}
 use Rattle.org_journal.specs.Recovered.{SameFiles, IsRecoverable, contents}
 use Rattle.org_fileset.specs.Replay.{IsAtRest}
@@ -224,7 +224,7 @@ pub record EndsLine {D W E : Type 0} (g : Ghosts D) (w : sinks.Ghosts W) (group 
   pub counts : CountsFailure w writer writer' result
   -- a store that was broken is left
   pub untouched : IsTrue old.session.broken → new ≡ old
-  pub accounts : Accounts g old.disk new.disk (HasBroken old.session new.session)
+  pub accounts : CountsFailures g old.disk new.disk (HasBroken old.session new.session)
 
 -- The end of the input.
 
@@ -394,7 +394,7 @@ RunsAll {S = S} group m old new io =
 pub record Serves (old : Session) (end : ServeEnd) (new : Session) (io : Exchange) : Type 0 where
   -- to the input's end, or a line that is the last
   pub all : end ≢ Read → end ≢ Write → ServesInput old.group model old end new io
-  -- up to a read that failed, or to the last of the turns
+  -- up to a read that failed, or to the last that may be made
   pub read : end ≡ Read → ServesLines old.group model old new io
   -- up to a write that failed
   pub write : end ≡ Write → RunsSome old.group model old new io ⊎ RunsAll old.group model old new io

@@ -2,7 +2,7 @@
 use Rattle.std.specs.Prelude.{◌≡◌, ◌⊎◌, ℕ, List, ◌∷◌, Result, Err, IfErr, OnOk, IsSomeAnd}
 use Rattle.std.specs.List.{Contains}
 use Rattle.org_disk.specs.declared.disk.Disk.{Ghosts}
-use Rattle.org_disk.specs.Accounts.{LeavesOver}
+use Rattle.org_disk.specs.CountsFailures.{LeavesOver}
 use Rattle.org_disk.specs.Disk.{FileState, IsImage, IsStable, AreImages}
 use Rattle.org_disk.specs.Names.{journal_name}
 use Rattle.org_journal.specs.Recovered.{Image, RecoversTo, recovered, contents}

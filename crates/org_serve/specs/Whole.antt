@@ -3,7 +3,7 @@
 use Rattle.std.specs.Prelude.{◌≡◌, ◌⊎◌, ℕ, List, [], ◌∷◌, None, IsTrue, IsFalse, Result, Ok, Err, IfOk, IfErr, IsErr}
 use Rattle.org_disk.specs.declared.disk.Disk.{Ghosts}
 use Rattle.org_disk.specs.Disk.{AreImages, HasRisen}
-use Rattle.org_disk.specs.Accounts.{Accounts, LeavesOver}
+use Rattle.org_disk.specs.CountsFailures.{CountsFailures, LeavesOver}
 use Rattle.org_disk.specs.Names.{journal_name}
 use Rattle.org_journal.specs.Recovered.{Image, IsRecoverable, contents, recovered}
 use Rattle.org_fileset.specs.declared.open.OpenFault.{OpenFault}
@@ -246,26 +246,26 @@ SaysFailure (Ok end) before now = ⊥
 
 -- All that is said of a run, in at most this many reads: what it did where it opened its store
 -- (`Serves`), and what it leaves of the disk (`Leaves`).
-pub record RunsAs {D : Type 0} (g : Ghosts D) (setup : Setup) (turns : ℕ) (disk now : D)
+pub record RunsAs {D : Type 0} (g : Ghosts D) (setup : Setup) (max_reads : ℕ) (disk now : D)
     (end : Result ServeEnd OpenFault) (io : Exchange) (Serves : ServeEnd → Type 0) (Leaves : Type 0)
     : Type 0 where
   pub served : IfOk end Serves
   pub leaves_disk : g.honest now → Leaves
   pub refused : IfErr end (IsRefusedFor g setup.names.items disk now)
   pub unserved : IfErr end (λ _. io.after ≡ io.before)
-  pub causes : EndsForCause turns end io
-  pub accounts : Accounts g disk now (SaysFailure end (g.failures disk) (g.failures now))
+  pub causes : EndsForCause max_reads end io
+  pub accounts : CountsFailures g disk now (SaysFailure end (g.failures disk) (g.failures now))
 
 -- .. of one over a disk as it is
 abbrev pub RunsDisk : {D : Type 0} → Ghosts D → Setup → ℕ → D → D → Result ServeEnd OpenFault
     → Exchange → Type 0
-RunsDisk g setup turns disk now end io =
-    RunsAs g setup turns disk now end io
+RunsDisk g setup max_reads disk now end io =
+    RunsAs g setup max_reads disk now end io
     (λ end. ServesDisk g setup disk now end io) (LeavesDiskOfRun g setup disk now end)
 
 -- .. and of one that syncs the store's files before it opens the store
 abbrev pub RunsSynced : {D : Type 0} → Ghosts D → Setup → ℕ → D → D → Result ServeEnd OpenFault
     → Exchange → Type 0
-RunsSynced g setup turns disk now end io =
-    RunsAs g setup turns disk now end io
+RunsSynced g setup max_reads disk now end io =
+    RunsAs g setup max_reads disk now end io
     (λ end. ServesSynced g setup disk now end io) (LeavesSyncedDisk g setup disk now end)

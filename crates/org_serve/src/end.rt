@@ -9,7 +9,7 @@ pub enum ServeEnd {
     Unsettled,
     /// The input ended, or a line of it wasn't done, and the device has failed.
     Device,
-    /// A read failed, or the turns were used up.
+    /// A read failed, or no more reads may be made.
     Read,
     /// A write or a flush failed.
     Write,

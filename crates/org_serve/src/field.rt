@@ -4,7 +4,7 @@
 ghost use Rattle.std.specs.Prelude.{◌≡◌, ◌&&◌, ◌<◌, ◌≤◌, ◌^◌, true, false, Some, None, IfSome, MatchOption, if◌then◌else◌, length};
 ghost use Rattle.std.specs.Str.{bytes_eq, is_utf8};
 ghost use Rattle.org_disk.specs.Names.{is_file_name};
-ghost use Rattle.org_serve.specs.Grammar.{digits_of, escape, leads_with_zero, mark_from, number_of, step_of, unescaped, file_of, path_of, position_of, target_of, place_of, Gives, GivesBy};
+ghost use Rattle.org_serve.specs.Grammar.{digits_of, escape, leads_with_zero, mark_from, number_of, step_of, unescaped, file_of, path_of, position_of, target_of, place_of, Parses, ParsesAs};
 
 use crate::fault::LineFault;
 use org_capture::Target;
@@ -35,7 +35,7 @@ fn escape(b: u8) -> Option<u8>
 
 // What a field with an escape stands for.
 fn read_escapes(alloc: Global, field: &[u8]) -> Result<Vec<u8>, LineFault>
-    ensures { GivesBy (λ v. v.items) result (unescaped field.now) }
+    ensures { ParsesAs (λ v. v.items) result (unescaped field.now) }
 {
     let mut text = Vec::with_capacity(alloc, field.len())?;
     let mut is_escaped = false;
@@ -60,7 +60,7 @@ fn read_escapes(alloc: Global, field: &[u8]) -> Result<Vec<u8>, LineFault>
 
 // What a field stands for. Most have no escape, and are copied at once.
 fn unescape(alloc: Global, field: &[u8]) -> Result<Vec<u8>, LineFault>
-    ensures { GivesBy (λ v. v.items) result (unescaped field.now) }
+    ensures { ParsesAs (λ v. v.items) result (unescaped field.now) }
 {
     if !field.contains(&b'\\') {
         return Ok(field.to_vec(alloc)?);
@@ -76,7 +76,7 @@ fn unescape(alloc: Global, field: &[u8]) -> Result<Vec<u8>, LineFault>
 /// - `BadLine`: it has a wrong escape.
 /// - `OutOfMemory`.
 pub fn text(alloc: Global, field: &[u8]) -> Result<TextOf<'_>, LineFault>
-    ensures { Gives result (unescaped field.now) }
+    ensures { Parses result (unescaped field.now) }
 {
     if !field.contains(&b'\\') {
         return Ok(TextOf::given(field));
@@ -97,7 +97,7 @@ fn utf8(bytes: &[u8]) -> Option<&str>
 
 // The name that bytes are.
 fn named(alloc: Global, bytes: &[u8]) -> Result<FileName, LineFault>
-    ensures { Gives result
+    ensures { Parses result
         (if is_utf8 bytes.now && is_file_name bytes.now then Some bytes.now else None) }
 {
     let Some(name) = utf8(bytes) else {
@@ -118,7 +118,7 @@ fn named(alloc: Global, bytes: &[u8]) -> Result<FileName, LineFault>
 /// - `OutOfMemory`.
 #[tactic(auto, unfolding(crate::specs::Grammar::file_of))]
 pub fn file(alloc: Global, field: &[u8]) -> Result<FileName, LineFault>
-    ensures { Gives result (file_of field.now) }
+    ensures { Parses result (file_of field.now) }
 {
     // Most fields have no escape, and are the name as they stand.
     if !field.contains(&b'\\') {
@@ -176,7 +176,7 @@ fn number(field: &[u8]) -> Option<u32>
 // The step that a part of a path is: a title, or a title, `\#` and a number.
 #[tactic(auto, unfolding(crate::specs::Grammar::step_of))]
 fn step(alloc: Global, field: &[u8]) -> Result<Step, LineFault>
-    ensures { Gives result (step_of field.now) }
+    ensures { Parses result (step_of field.now) }
 {
     let Some(at) = mark(field) else {
         let title = Bytes::new(unescape(alloc, field)?);
@@ -201,7 +201,7 @@ fn step(alloc: Global, field: &[u8]) -> Result<Step, LineFault>
 /// - `BadLine`: a step has a wrong escape, or a wrong number.
 /// - `OutOfMemory`.
 pub fn path(alloc: Global, field: &[u8]) -> Result<Path, LineFault>
-    ensures { Gives result (path_of field.now) }
+    ensures { Parses result (path_of field.now) }
 {
     let mut steps = Vec::new(alloc);
     for part in field.split(|b| *b == b'/') {
@@ -218,7 +218,7 @@ pub fn path(alloc: Global, field: &[u8]) -> Result<Path, LineFault>
 /// - `OutOfMemory`.
 #[tactic(auto, unfolding(crate::specs::Grammar::target_of))]
 pub fn target(alloc: Global, field: &[u8]) -> Result<Target, LineFault>
-    ensures { Gives result (target_of field.now) }
+    ensures { Parses result (target_of field.now) }
 {
     if is(field, "top") {
         Ok(Target::Top)

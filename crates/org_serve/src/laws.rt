@@ -4,7 +4,7 @@
 ghost use Rattle.std.specs.Prelude.{ℕ, List, [], ◌≡◌, ◌∷◌, ◌++◌, ◌<◌, ◌≤◌, ◌^◌, slice_get};
 ghost use Rattle.std.specs.List.{AllByRecursion};
 ghost use Rattle.std.specs.Prelude.{All, Some, Result, IsFalse};
-ghost use Rattle.org_disk.specs.Accounts.{LeavesOver};
+ghost use Rattle.org_disk.specs.CountsFailures.{LeavesOver};
 ghost use Rattle.org_disk.specs.Names.{IsOrgFile};
 ghost use Rattle.org_journal.specs.Recovered.{Image};
 ghost use Rattle.org_fileset.specs.Replay.{RestsOn, files_on};

@@ -3,7 +3,7 @@
 //! Nothing but the line decides which command it is: no file is looked at.
 ghost use Rattle.std.specs.Prelude.{◌∷◌, map};
 ghost use Rattle.std.specs.Option.{option_map, option_and_then};
-ghost use Rattle.org_serve.specs.Grammar.{file_of, path_of, show_of, capture_of, refile_of, todo_of, clock_in_of, clock_out_of, clocked_of, archive_of, edit_of, command_of, command_of_fields, Gives};
+ghost use Rattle.org_serve.specs.Grammar.{file_of, path_of, show_of, capture_of, refile_of, todo_of, clock_in_of, clock_out_of, clocked_of, archive_of, edit_of, command_of, command_of_fields, Parses};
 
 use crate::fault::LineFault;
 use crate::field::{file, is, path, place, position, target, text};
@@ -24,7 +24,7 @@ const MOST_FIELDS: usize = 7;
 /// - `BadLine`: exactly where it is none.
 /// - `OutOfMemory`.
 pub fn read_command(alloc: Global, line: &[u8]) -> Result<Command<'_>, LineFault>
-    ensures { Gives result (command_of line.now) }
+    ensures { Parses result (command_of line.now) }
 {
     let mut fields = [line; MOST_FIELDS];
     let mut rest = line;
@@ -41,7 +41,7 @@ pub fn read_command(alloc: Global, line: &[u8]) -> Result<Command<'_>, LineFault
 }
 
 fn command<'a>(alloc: Global, fields: &[&'a [u8]]) -> Result<Command<'a>, LineFault>
-    ensures { Gives result (command_of_fields (map (λ s. s.now) fields.now)) }
+    ensures { Parses result (command_of_fields (map (λ s. s.now) fields.now)) }
 {
     match *fields {
         [word] if is(word, "settle") => Ok(Command::Settle),
@@ -60,7 +60,7 @@ fn command_within<'a>(
     titles: &[u8],
     more: &[&'a [u8]],
 ) -> Result<Command<'a>, LineFault>
-    ensures { Gives result
+    ensures { Parses result
         (command_of_fields (word.now ∷ name.now ∷ titles.now ∷ map (λ s. s.now) more.now)) }
 {
     match *more {
@@ -81,7 +81,7 @@ fn command_within<'a>(
 
 // The node that fields FILE and PATH name.
 fn node(alloc: Global, name: &[u8], titles: &[u8]) -> Result<(FileName, Path), LineFault>
-    ensures { Gives result (option_and_then (λ file. option_map (λ path. (file, path))
+    ensures { Parses result (option_and_then (λ file. option_map (λ path. (file, path))
         (path_of titles.now)) (file_of name.now)) }
 {
     let file = file(alloc, name)?;
@@ -91,7 +91,7 @@ fn node(alloc: Global, name: &[u8], titles: &[u8]) -> Result<(FileName, Path), L
 
 #[tactic(auto, unfolding(crate::specs::Grammar::show_of))]
 fn show<'a>(alloc: Global, name: &[u8]) -> Result<Command<'a>, LineFault>
-    ensures { Gives result (show_of name.now) }
+    ensures { Parses result (show_of name.now) }
 {
     let file = file(alloc, name)?;
     Ok(Command::Show { file })
@@ -107,7 +107,7 @@ fn capture<'a>(
     template: &'a [u8],
     initial: &'a [u8],
 ) -> Result<Command<'a>, LineFault>
-    ensures { Gives result (capture_of name.now to.now at.now when.now template.now initial.now) }
+    ensures { Parses result (capture_of name.now to.now at.now when.now template.now initial.now) }
 {
     let place = place(at).ok_or(LineFault::BadLine)?;
     let moment = moment(when).ok_or(LineFault::BadLine)?;
@@ -134,7 +134,7 @@ fn refile<'a>(
     to_titles: &[u8],
     at: &[u8],
 ) -> Result<Command<'a>, LineFault>
-    ensures { Gives result (refile_of name.now titles.now to_name.now to_titles.now at.now) }
+    ensures { Parses result (refile_of name.now titles.now to_name.now to_titles.now at.now) }
 {
     let place = place(at).ok_or(LineFault::BadLine)?;
     let (file, path) = node(alloc, name, titles)?;
@@ -156,7 +156,7 @@ fn todo<'a>(
     state: &'a [u8],
     when: &[u8],
 ) -> Result<Command<'a>, LineFault>
-    ensures { Gives result (todo_of name.now titles.now state.now when.now) }
+    ensures { Parses result (todo_of name.now titles.now state.now when.now) }
 {
     let moment = moment(when).ok_or(LineFault::BadLine)?;
     let (file, path) = node(alloc, name, titles)?;
@@ -177,7 +177,7 @@ fn edit<'a>(
     old: &'a [u8],
     new: &'a [u8],
 ) -> Result<Command<'a>, LineFault>
-    ensures { Gives result (edit_of name.now at.now old.now new.now) }
+    ensures { Parses result (edit_of name.now at.now old.now new.now) }
 {
     let at = position(at).ok_or(LineFault::BadLine)?;
     let file = file(alloc, name)?;
@@ -193,7 +193,7 @@ fn archive<'a>(
     titles: &[u8],
     when: &[u8],
 ) -> Result<Command<'a>, LineFault>
-    ensures { Gives result (archive_of name.now titles.now when.now) }
+    ensures { Parses result (archive_of name.now titles.now when.now) }
 {
     let moment = moment(when).ok_or(LineFault::BadLine)?;
     let (file, path) = node(alloc, name, titles)?;
@@ -207,7 +207,7 @@ fn clock_in<'a>(
     titles: &[u8],
     when: &[u8],
 ) -> Result<Command<'a>, LineFault>
-    ensures { Gives result (clock_in_of name.now titles.now when.now) }
+    ensures { Parses result (clock_in_of name.now titles.now when.now) }
 {
     let moment = moment(when).ok_or(LineFault::BadLine)?;
     let (file, path) = node(alloc, name, titles)?;
@@ -216,7 +216,7 @@ fn clock_in<'a>(
 
 #[tactic(auto, unfolding(crate::specs::Grammar::clock_out_of))]
 fn clock_out<'a>(when: &[u8]) -> Result<Command<'a>, LineFault>
-    ensures { Gives result (clock_out_of when.now) }
+    ensures { Parses result (clock_out_of when.now) }
 {
     let moment = moment(when).ok_or(LineFault::BadLine)?;
     Ok(Command::ClockOut { moment })
@@ -224,7 +224,7 @@ fn clock_out<'a>(when: &[u8]) -> Result<Command<'a>, LineFault>
 
 #[tactic(auto, unfolding(crate::specs::Grammar::clocked_of))]
 fn time<'a>(alloc: Global, name: &[u8], titles: &[u8]) -> Result<Command<'a>, LineFault>
-    ensures { Gives result (clocked_of name.now titles.now) }
+    ensures { Parses result (clocked_of name.now titles.now) }
 {
     let (file, path) = node(alloc, name, titles)?;
     Ok(Command::Time { file, path })

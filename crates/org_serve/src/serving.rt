@@ -5,7 +5,7 @@
 //! isn't done is the last one, and what isn't settled then is given up.
 ghost use Rattle.std.specs.Prelude.{◌≡◌, ◌≢◌, ◌⊎◌, ◌++◌, List, ℕ, [], IsTrue, Result, Ok};
 ghost use Rattle.org_disk.specs.Disk.{IsCounted};
-ghost use Rattle.org_disk.specs.Accounts.{Accounts};
+ghost use Rattle.org_disk.specs.CountsFailures.{CountsFailures};
 ghost use Rattle.org_commands.specs.declared.command.RunFault.{RunFault};
 ghost use Rattle.org_serve.specs.Lines.{cut, Stands};
 ghost use Rattle.org_serve.specs.Pipes.{Adds, AddsSome, EndsForCause};
@@ -44,12 +44,12 @@ enum Next {
 /// Where it ends with `End`, `Unsettled` or `Device`, and the disk is honest then, the input was
 /// read to its end, and what was written is its transcript; or the group is whole, a line was the
 /// last one, and what was written are the replies up to it. It ends with `Read` where a read
-/// failed, and else only where the turns are used up: where the disk is honest then, the lines that
-/// were read whole are answered, and where no read failed each gave bytes, so the end of the input
-/// wasn't met. It ends with `Write` exactly where a write or a flush failed: of the lines some,
-/// from the first on, were run then, and what was written begins their replies, or is all of them
-/// and the beginning of what is written at the end. One failure is counted in either case, so
-/// neither reader nor writer is called once it has failed. There are no more reads than turns.
+/// failed, and else only where no more reads may be made: where the disk is honest then, the lines
+/// that were read whole are answered, and where no read failed each gave bytes, so the end of the
+/// input wasn't met. It ends with `Write` exactly where a write or a flush failed: of the lines
+/// some, from the first on, were run then, and what was written begins their replies, or is all of
+/// them and the beginning of what is written at the end. One failure is counted in either case, so
+/// neither reader nor writer is called once it has failed. There are at most `max_reads` reads.
 ///
 /// The store is changed by calls of `run` and `settle` alone. What each of them did is said where
 /// the disk is honest after it (`calls`): a wrong answer takes nothing from what was done before
@@ -62,24 +62,24 @@ pub fn serve<D: Disk, R: Source, W: Sink>(
     store: &mut Store<D>,
     reader: &mut R,
     writer: &mut W,
-    turns: u64,
+    max_reads: u64,
 ) -> ServeEnd
     ensures did { D.honest store.new.disk → Serves store.old.session result store.new.session
         (exchange R.Source W.Sink reader.old reader.new writer.old writer.new)
         × LeavesServedDisk D.files store.old store.new }
-    ensures causes { EndsForCause turns (Ok result)
+    ensures causes { EndsForCause max_reads (Ok result)
         (exchange R.Source W.Sink reader.old reader.new writer.old writer.new) }
     ensures calls { RunsAndWrites (stores_while_honest D.Disk) store.old store.new result
         (exchange R.Source W.Sink reader.old reader.new writer.old writer.new) }
     ensures broken { EndSaysBroken result store.new.session }
     ensures untouched { IsTrue store.old.session.broken → store.new ≡ store.old }
-    ensures accounts { Accounts D.Disk store.old.disk store.new.disk
+    ensures accounts { CountsFailures D.Disk store.old.disk store.new.disk
         (HasBroken store.old.session store.new.session) }
 {
     let group = store.group();
     let mut buffer = [0u8; PIECE];
     let mut pending = Pending::new(alloc);
-    for _ in 0..turns {
+    for _ in 0..max_reads {
         match reader.read(&mut buffer) {
             Err(PipeFault) => return ServeEnd::Read,
             Ok(0) => return finish(store, group, &pending, writer),
@@ -107,7 +107,7 @@ fn feed<D: Disk, W: Sink>(
         (output W.Sink writer.old writer.new) pending.new result }
     ensures counts { CountsFailure W.Sink writer.old writer.new result }
     ensures untouched { IsTrue store.old.session.broken → store.new ≡ store.old }
-    ensures accounts { Accounts D.Disk store.old.disk store.new.disk
+    ensures accounts { CountsFailures D.Disk store.old.disk store.new.disk
         (HasBroken store.old.session store.new.session) }
 {
     let mut rest = piece;
@@ -189,7 +189,7 @@ fn answer_read<D: Disk, W: Sink>(
         × ReadOutcome group result (stores_while_honest D.Disk) store.old read.now out store.new
         × Writes W.Sink writer.old writer.new result out }
     ensures untouched { IsTrue store.old.session.broken → store.new ≡ store.old }
-    ensures accounts { Accounts D.Disk store.old.disk store.new.disk
+    ensures accounts { CountsFailures D.Disk store.old.disk store.new.disk
         (HasBroken store.old.session store.new.session) }
 {
     match read {
@@ -233,7 +233,7 @@ fn finish<D: Disk, W: Sink>(
         × AddsSome (output W.Sink writer.old writer.new) text) }
     ensures broken { EndSaysBroken result store.new.session }
     ensures untouched { IsTrue store.old.session.broken → store.new ≡ store.old }
-    ensures accounts { Accounts D.Disk store.old.disk store.new.disk
+    ensures accounts { CountsFailures D.Disk store.old.disk store.new.disk
         (HasBroken store.old.session store.new.session) }
 {
     match group {
@@ -306,7 +306,7 @@ fn finish_groups<D: Disk, W: Sink>(
         × AddsSome (output W.Sink writer.old writer.new) text) }
     ensures broken { EndSaysBroken result store.new.session }
     ensures untouched { IsTrue store.old.session.broken → store.new ≡ store.old }
-    ensures accounts { Accounts D.Disk store.old.disk store.new.disk
+    ensures accounts { CountsFailures D.Disk store.old.disk store.new.disk
         (HasBroken store.old.session store.new.session) }
 {
     match answer_rest(pending, writer) {
@@ -343,7 +343,7 @@ fn settle<D: Disk, W: Sink>(store: &mut Store<D>, writer: &mut W) -> ServeEnd
         (settled_text answer store.new.session.acknowledged) }
     ensures broken { EndSaysBroken result store.new.session }
     ensures untouched { IsTrue store.old.session.broken → store.new ≡ store.old }
-    ensures accounts { Accounts D.Disk store.old.disk store.new.disk
+    ensures accounts { CountsFailures D.Disk store.old.disk store.new.disk
         (HasBroken store.old.session store.new.session) }
 {
     if store.is_broken() {

@@ -2,7 +2,7 @@
 //!
 //! So what an editor has just saved counts as stable. Nothing is written.
 ghost use Rattle.std.specs.Prelude.{All, IsErr, IsErrOf};
-ghost use Rattle.org_disk.specs.Accounts.{Accounts};
+ghost use Rattle.org_disk.specs.CountsFailures.{CountsFailures};
 ghost use Rattle.org_disk.specs.Names.{IsOrgFile};
 ghost use Rattle.org_fileset.specs.declared.open.OpenFault.TheVariants.{Device};
 ghost use Rattle.org_serve.specs.Syncing.{AnswersSync, Syncs, stored};
@@ -28,7 +28,7 @@ pub fn sync_files<D: Disk>(alloc: Global, disk: &mut D, given: &[FileName]) -> R
     requires { All IsOrgFile given.now }
     ensures syncs { Syncs D.Disk (stored given.now) disk.old disk.new result }
     ensures answers { AnswersSync given.now disk.old disk.new result }
-    ensures accounts { Accounts D.Disk disk.old disk.new (IsErrOf result Device) }
+    ensures accounts { CountsFailures D.Disk disk.old disk.new (IsErrOf result Device) }
 {
     let Some(names) = file_names(alloc, given)? else {
         return Err(OpenFault::TooManyFiles);
@@ -39,7 +39,7 @@ pub fn sync_files<D: Disk>(alloc: Global, disk: &mut D, given: &[FileName]) -> R
 
 fn sync_each<D: Disk>(disk: &mut D, names: &[FileName]) -> Result<(), DiskFault>
     ensures syncs { Syncs D.Disk names.now disk.old disk.new result }
-    ensures accounts { Accounts D.Disk disk.old disk.new (IsErr result) }
+    ensures accounts { CountsFailures D.Disk disk.old disk.new (IsErr result) }
 {
     for name in names {
         disk.sync(name)?;

@@ -75,11 +75,11 @@ pub fn serve_disk<D: Disk, R: Source, W: Sink>(
     setup: Setup,
     reader: &mut R,
     writer: &mut W,
-    turns: u64,
+    max_reads: u64,
 ) -> Served<D>
     requires names { All IsOrgFile setup.names.items }
     requires group { IsGroup setup.group }
-    ensures runs { RunsDisk D.Disk setup turns disk result.disk result.end
+    ensures runs { RunsDisk D.Disk setup max_reads disk result.disk result.end
         (exchange R.Source W.Sink reader.old reader.new writer.old writer.new) }
     ensures unserved { IfErr result.end (λ _. (reader.new ≡ reader.old)
         × (writer.new ≡ writer.old)) }
@@ -92,7 +92,7 @@ pub fn serve_disk<D: Disk, R: Source, W: Sink>(
     match Store::open(alloc, disk, names, states) {
         Ok(mut store) => {
             store.set_group(group);
-            let end = serve(alloc, &mut store, reader, writer, turns);
+            let end = serve(alloc, &mut store, reader, writer, max_reads);
             Served {
                 disk: store.into_disk(),
                 end: Ok(end),
@@ -126,11 +126,11 @@ pub fn serve_synced<D: Disk, R: Source, W: Sink>(
     setup: Setup,
     reader: &mut R,
     writer: &mut W,
-    turns: u64,
+    max_reads: u64,
 ) -> Served<D>
     requires names { All IsOrgFile setup.names.items }
     requires group { IsGroup setup.group }
-    ensures runs { RunsSynced D.Disk setup turns disk result.disk result.end
+    ensures runs { RunsSynced D.Disk setup max_reads disk result.disk result.end
         (exchange R.Source W.Sink reader.old reader.new writer.old writer.new) }
     ensures promises { Promises D.Disk setup disk result.disk result.end
         (exchange R.Source W.Sink reader.old reader.new writer.old writer.new) }
@@ -139,7 +139,7 @@ pub fn serve_synced<D: Disk, R: Source, W: Sink>(
 {
     let mut disk = disk;
     match sync_files(alloc, &mut disk, &setup.names) {
-        Ok(()) => serve_disk(alloc, disk, setup, reader, writer, turns),
+        Ok(()) => serve_disk(alloc, disk, setup, reader, writer, max_reads),
         Err(fault) => Served {
             disk,
             end: Err(fault),

@@ -55,9 +55,16 @@ fn serve_over<D: Disk, R: Source, W: Sink>(
     group: Group,
     reader: &mut R,
     writer: &mut W,
-    turns: u64,
+    max_reads: u64,
 ) -> Served<D> {
-    serve_disk(rt.alloc(), disk, setup(rt, group), reader, writer, turns)
+    serve_disk(
+        rt.alloc(),
+        disk,
+        setup(rt, group),
+        reader,
+        writer,
+        max_reads,
+    )
 }
 
 // Serves this input over a disk, in groups of this size.

@@ -15,7 +15,7 @@ use Rattle.org_outline.specs.Moves.{from_node, with_own, with_own_lines}
 use Rattle.org_outline.specs.Numbers.{OwnParts}
 use Rattle.org_outline.proofs.ByNumber.{start_of, count-is, at-is}
 use Rattle.org_outline.proofs.Rewriting.{count-rewritten, others-rewritten}
-use Rattle.org_meta.specs.Edits.{Gives}
+use Rattle.org_meta.specs.Edits.{Rewrites}
 use Rattle.org_meta.specs.Sections.{split, joined}
 use Rattle.org_meta.specs.Clocking.{opened}
 use Rattle.org_state.specs.declared.fault.StateFault.{StateFault}
@@ -112,7 +112,7 @@ module _ (d : Document) (m : ℕ) (r : List ℕ) (s : List (List ℕ)) where
       (record {
         own = edits.own;
         is = edits.is ∙ ap (λ n. moved n edits.own) (sym (begins_same k less lt));
-        gives = subst (λ (ls : List (List ℕ)). Gives edits.own (print_lines ls) new) (sym (own_section k ne)) edits.gives;
+        gives = subst (λ (ls : List (List ℕ)). Rewrites edits.own (print_lines ls) new) (sym (own_section k ne)) edits.gives;
       })
 
 -- ---- a clock closed, and another one opened

@@ -18,16 +18,16 @@ use Rattle.org_outline.specs.Outline.{IsSection}
 use Rattle.org_outline.proofs.Sections.{node-valid}
 use Rattle.org_outline.proofs.Trees.{tree-is, IsPlain-lines}
 use Rattle.org_outline.proofs.TwoEdits.{one_edit}
-use Rattle.org_meta.specs.Edits.{Gives}
+use Rattle.org_meta.specs.Edits.{Rewrites}
 use Rattle.org_meta.specs.Notes.{with_note}
 use Rattle.org_meta.specs.Sections.{SectionParts, split, joined, put, put_in_drawer, property_line}
-use Rattle.org_state.specs.Edits.{rest_start, section_start, moved, GivesRest, EditsRest}
+use Rattle.org_state.specs.Edits.{rest_start, section_start, moved, RewritesRest, EditsRest}
 
 pub prints : (t : List ℕ) → terminated t ≡ t → print (tree t) ≡ t
 prints t stays_terminated = (tree-is t).prints ∙ stays_terminated
 
 -- an edit of the first lines of a text leaves those behind them as they are
-pub gives_in_front : (e : Edit) (front new other : List (List ℕ)) → Gives e (print_lines front) new → Gives e (print_lines (front ++ other)) (new ++ other)
+pub gives_in_front : (e : Edit) (front new other : List (List ℕ)) → Rewrites e (print_lines front) new → Rewrites e (print_lines (front ++ other)) (new ++ other)
 gives_in_front e front new other g =
     let f = print_lines front in
     let o = print_lines other in
@@ -71,7 +71,7 @@ module _ (i : ℕ) (r : List ℕ) (s : List (List ℕ)) (d : Document) (lt : i <
   at_is : (node_at (with_own_lines i r s d) i).at ≡ (node_at d i).at
   at_is = (node-rewritten i r s d lt).0
 
-  pub section_step : (e : Edit) (new : List (List ℕ)) → r ≡ (node_at d i).node.rest → Gives e (print_lines s) new
+  pub section_step : (e : Edit) (new : List (List ℕ)) → r ≡ (node_at d i).node.rest → Rewrites e (print_lines s) new
       → AreEdits (moved (section_start d i) e ∷ []) (print (with_own_lines i r s d)) (print (with_own_lines i r new d))
   section_step e new same g =
       let n : Node = (node_at d i).node in
@@ -90,7 +90,7 @@ module _ (i : ℕ) (r : List ℕ) (s : List (List ℕ)) (d : Document) (lt : i <
       let long : length (heading_line n.level n.rest) ≡ n.level + length r = length-append (replicate n.level 42) n.rest ∙ omega (arith, ap length same, length-replicate {A = ℕ} n.level 42) in
       one_edit (moved (section_start d i) e) d2 (with_own_lines i r new d) (omega (arith, room, long, g.within)) is
 
-  pub rest_step : (e : Edit) (new : List ℕ) → r ≡ (node_at d i).node.rest → GivesRest e r new
+  pub rest_step : (e : Edit) (new : List ℕ) → r ≡ (node_at d i).node.rest → RewritesRest e r new
       → AreEdits (moved (rest_start d i) e ∷ []) (print (with_own_lines i r s d)) (print (with_own_lines i new s d))
   rest_step e new same g =
       let d2 : Document = with_own_lines i r s d in
@@ -146,7 +146,7 @@ section_lines t i lt = lines_of-print_lines (node_at (tree t) i).node.section (s
 -- edits of lines, one after another
 abbrev pub EditLines : List Edit → List (List ℕ) → List (List ℕ) → Type 0
 EditLines [] old new = old ≡ new
-EditLines (e ∷ es) old new = (middle : List (List ℕ)) × Gives e (print_lines old) middle × EditLines es middle new
+EditLines (e ∷ es) old new = (middle : List (List ℕ)) × Rewrites e (print_lines old) middle × EditLines es middle new
 
 section_steps : (i : ℕ) (r : List ℕ) (es : List Edit) (s new : List (List ℕ)) (d : Document) → i < node_count d → r ≡ (node_at d i).node.rest → EditLines es s new
     → AreEdits (map (moved (section_start d i)) es) (print (with_own_lines i r s d)) (print (with_own_lines i r new d))
@@ -182,7 +182,7 @@ one_made t i k r edits stays_terminated lt rest is =
     (λ none. absurd (let no : k ∷ [] ≡ [] = sym is ∙ none in cc), subst (λ (es : List Edit). AreEdits es t (print (with_own_lines i r (node_at (tree t) i).node.section (tree t)))) (sym is) made)
 
 pub two_made : (t : List ℕ) (i : ℕ) (e e2 k : Edit) (new : List (List ℕ)) (r : List ℕ) (edits : List Edit) → terminated t ≡ t → i < node_count (tree t)
-    → e2 ≡ moved (section_start (tree t) i) e → Gives e (print_lines (node_at (tree t) i).node.section) new → EditsRest k (tree t) i r → edits ≡ e2 ∷ k ∷ []
+    → e2 ≡ moved (section_start (tree t) i) e → Rewrites e (print_lines (node_at (tree t) i).node.section) new → EditsRest k (tree t) i r → edits ≡ e2 ∷ k ∷ []
     → (edits ≢ []) × AreEdits edits t (print (with_own_lines i r new (tree t)))
 two_made t i e e2 k new r edits stays_terminated lt at gives rest is =
     let made = own_edits t i (e ∷ []) k new r stays_terminated lt (new, gives, refl) rest in
@@ -194,9 +194,9 @@ two_made t i e e2 k new r edits stays_terminated lt at gives rest is =
 -- a note, a property and a planning line put into a section, each edit made for the section as it
 -- was
 pub repeat_lines : (ls : List (List ℕ)) (note property planning : Edit) (n name value line : List ℕ)
-    → Gives note (print_lines ls) (joined (with_note n (split ls)))
-    → Gives property (print_lines ((split ls).planning ++ (split ls).drawer)) (joined (put name value (record (split ls) { rest = [] })))
-    → Gives planning (print_lines (split ls).planning) (line ∷ [])
+    → Rewrites note (print_lines ls) (joined (with_note n (split ls)))
+    → Rewrites property (print_lines ((split ls).planning ++ (split ls).drawer)) (joined (put name value (record (split ls) { rest = [] })))
+    → Rewrites planning (print_lines (split ls).planning) (line ∷ [])
     → EditLines (note ∷ property ∷ planning ∷ []) ls (joined (with_note n (put name value (record (split ls) { planning = line ∷ [] }))))
 repeat_lines ls note property planning n name value line g1 g2 g3 =
     let p : SectionParts = split ls in
@@ -206,9 +206,9 @@ repeat_lines ls note property planning n name value line g1 g2 g3 =
     let s2 : List (List ℕ) = p.planning ++ (put_in ++ below) in
     let old : (p.planning ++ p.drawer) ++ below ≡ s1 = append_assoc p.planning p.drawer below in
     let new : (p.planning ++ (put_in ++ [])) ++ below ≡ s2 = ap (λ (d : List (List ℕ)). (p.planning ++ d) ++ below) (append-nil put_in) ∙ append_assoc p.planning put_in below in
-    let second : Gives property (print_lines s1) s2 =
-    subst (λ (s : List (List ℕ)). Gives property (print_lines s) s2) old
-    (subst (λ (s : List (List ℕ)). Gives property (print_lines ((p.planning ++ p.drawer) ++ below)) s) new
+    let second : Rewrites property (print_lines s1) s2 =
+    subst (λ (s : List (List ℕ)). Rewrites property (print_lines s) s2) old
+    (subst (λ (s : List (List ℕ)). Rewrites property (print_lines ((p.planning ++ p.drawer) ++ below)) s) new
     (gives_in_front property (p.planning ++ p.drawer) (p.planning ++ (put_in ++ [])) below g2)) in
     (s1, g1, (s2, second, (line ∷ (put_in ++ below), gives_in_front planning p.planning (line ∷ []) (put_in ++ below) g3, refl)))
 

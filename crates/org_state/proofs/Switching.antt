@@ -23,7 +23,7 @@ use Rattle.org_meta.specs.declared.fault.MetaFault.{MetaFault}
 use Rattle.org_meta.specs.declared.fault.MetaFault.TheVariants as meta
 use Rattle.org_meta.specs.Clocks.{is_open, open_line, line_span, IsOpenAt, HasOpenAt}
 use Rattle.org_meta.specs.Clocking.{opened, closed_line, Closes, ClosesNot}
-use Rattle.org_meta.specs.Edits.{Gives, GivesParts}
+use Rattle.org_meta.specs.Edits.{Rewrites, RewritesParts}
 use Rattle.org_meta.specs.Sections.{split, joined, parts_of}
 use Rattle.org_state.specs.declared.run.Running.{Running}
 use Rattle.org_state.specs.declared.fault.StateFault.{StateFault}
@@ -50,15 +50,15 @@ section_made t i e new stays_terminated lt edits =
 
 pub opening_edits : (d : Document) (i : ℕ) (now : Moment) (section : List ℕ) (e e2 : Edit)
     → section ≡ print_lines (node_at d i).node.section → lines_of section ≡ (node_at d i).node.section
-    → GivesParts e section (opened now (parts_of section)) → e2 ≡ moved (section_start d i) e → EditsSection e2 d i (opened_section now d i)
+    → RewritesParts e section (opened now (parts_of section)) → e2 ≡ moved (section_start d i) e → EditsSection e2 d i (opened_section now d i)
 opening_edits d i now section e e2 bytes lines gives at =
     let own : List (List ℕ) = (node_at d i).node.section in
     record {
       own = e;
       is = at;
       gives =
-          subst (λ (s : List ℕ). Gives e s (joined (opened now (split own)))) bytes
-          (subst (λ (ls : List (List ℕ)). Gives e section (joined (opened now (split ls)))) lines gives);
+          subst (λ (s : List ℕ). Rewrites e s (joined (opened now (split own)))) bytes
+          (subst (λ (ls : List (List ℕ)). Rewrites e section (joined (opened now (split ls)))) lines gives);
     }
 
 -- ---- the first open clock line
@@ -224,8 +224,8 @@ module _ (t : List ℕ) (r : Running) (s : Stands t r) where
   line_high = s.high
 
   -- an edit of the line is one of its section
-  in_lines : (e : Edit) (new : List ℕ) → Gives e (part t r.line) (new ∷ [])
-      → Gives (moved (length (print_lines s.first.before)) e) (print_lines (node_at (tree t) r.heading).node.section) (s.first.before ++ (new ∷ s.first.after))
+  in_lines : (e : Edit) (new : List ℕ) → Rewrites e (part t r.line) (new ∷ [])
+      → Rewrites (moved (length (print_lines s.first.before)) e) (print_lines (node_at (tree t) r.heading).node.section) (s.first.before ++ (new ∷ s.first.after))
   in_lines e new g =
       let a : List ℕ = print_lines s.first.before in
       let c : List ℕ = print_lines s.first.after in
@@ -243,8 +243,8 @@ module _ (t : List ℕ) (r : Running) (s : Stands t r) where
             ∙ sym (print_lines-append s.first.before (new ∷ s.first.after));
       }
 
-  ok_line : (e : Edit) (q : Result (List ℕ) MetaFault) → MatchResult q (λ terminated. Gives e (part t r.line) (terminated ∷ [])) (λ fault. ⊥)
-      → (terminated : List ℕ) × (q ≡ Ok terminated) × Gives e (part t r.line) (terminated ∷ [])
+  ok_line : (e : Edit) (q : Result (List ℕ) MetaFault) → MatchResult q (λ terminated. Rewrites e (part t r.line) (terminated ∷ [])) (λ fault. ⊥)
+      → (terminated : List ℕ) × (q ≡ Ok terminated) × Rewrites e (part t r.line) (terminated ∷ [])
   ok_line e (Ok new) g = (new, refl, g)
   ok_line e (Err fault) g = absurd g
 

@@ -17,11 +17,11 @@ use Rattle.org_outline.specs.Paths.{find_path}
 use Rattle.org_outline.specs.Tree.{Document, print, tree, node_at, node_count}
 use Rattle.org_meta.specs.declared.fault.MetaFault.{MetaFault}
 use Rattle.org_meta.specs.declared.fault.MetaFault.TheVariants as meta
-use Rattle.org_meta.specs.Edits.{Gives, GivesParts}
+use Rattle.org_meta.specs.Edits.{Rewrites, RewritesParts}
 use Rattle.org_meta.specs.Moments.{moment_text}
 use Rattle.org_meta.specs.Notes.{note_line, with_note}
 use Rattle.org_meta.specs.Planning.{PlanningLine, planning_of, has_repeater, AreRepeated, set_closed}
-use Rattle.org_meta.specs.Replans.{GivesOk, FaultIn, HasNoRepeater, GivesRepeated, GivesRepeatedIn, FaultRepeated, repeated_line}
+use Rattle.org_meta.specs.Replans.{RewritesOk, FaultIn, HasNoRepeater, RewritesRepeated, RewritesRepeatedIn, FaultRepeated, repeated_line}
 use Rattle.org_meta.specs.Sections.{SectionParts, split, joined, parts_of, put, planning_size}
 use Rattle.org_meta.proofs.Puts.{joined_split}
 use Rattle.org_meta.proofs.AllLines.{AllByRecursion-take}
@@ -58,11 +58,11 @@ faulted IsDefined t i meta.OutOfMemory e = tt
 
 -- ---- a section that was replanned
 
-ok_parts : (r : Result SectionParts MetaFault) (section : List ℕ) (e : Edit) → GivesOk r section e → (p : SectionParts) × (r ≡ Ok p) × GivesParts e section p
+ok_parts : (r : Result SectionParts MetaFault) (section : List ℕ) (e : Edit) → RewritesOk r section e → (p : SectionParts) × (r ≡ Ok p) × RewritesParts e section p
 ok_parts (Ok p) section e g = (p, refl, g)
 ok_parts (Err fault) section e g = absurd g
 
-pub replanned_within : (r : Result SectionParts MetaFault) (section bytes : List ℕ) (e : Edit) → section ≡ bytes → GivesOk r section e → e.at + e.removed ≤ length bytes
+pub replanned_within : (r : Result SectionParts MetaFault) (section bytes : List ℕ) (e : Edit) → section ≡ bytes → RewritesOk r section e → e.at + e.removed ≤ length bytes
 replanned_within r section bytes e is g = let parts = ok_parts r section e g in omega (arith, parts.2.within, ap length is)
 
 pub replanned_refused : (plan : SectionParts → Result SectionParts MetaFault) (states : Keywords) (word : List ℕ) (own : Own) (section : List ℕ) (fault : MetaFault) → lines_of section ≡ own.section
@@ -71,14 +71,14 @@ replanned_refused plan states word own section fault lines (inl memory) = inl me
 replanned_refused plan states word own section fault lines (inr is) = inr (sym (ap (changed states word own) (ap (λ (ls : List (List ℕ)). plan (split ls)) (sym lines) ∙ is)))
 
 pub replanned_answers : (plan : SectionParts → Result SectionParts MetaFault) (states : Keywords) (word t : List ℕ) (i : ℕ) (section : List ℕ) (e : Edit) (result : Result (Vec Edit Global) StateFault)
-    → section ≡ print_lines (node_at (tree t) i).node.section → lines_of section ≡ (node_at (tree t) i).node.section → GivesOk (plan (parts_of section)) section e
-    → ((new : List (List ℕ)) → Gives e (print_lines (own_at (tree t) i).section) new → AnswersOwn (λ r. r ≡ Ok (with_lines states word (own_at (tree t) i) new)) t i result)
+    → section ≡ print_lines (node_at (tree t) i).node.section → lines_of section ≡ (node_at (tree t) i).node.section → RewritesOk (plan (parts_of section)) section e
+    → ((new : List (List ℕ)) → Rewrites e (print_lines (own_at (tree t) i).section) new → AnswersOwn (λ r. r ≡ Ok (with_lines states word (own_at (tree t) i) new)) t i result)
     → AnswersOwn (λ r. r ≡ changed states word (own_at (tree t) i) (plan (split (own_at (tree t) i).section))) t i result
 replanned_answers plan states word t i section e result bytes lines g made =
     let own : Own = own_at (tree t) i in
     let parts = ok_parts (plan (parts_of section)) section e g in
     let is : plan (split own.section) ≡ Ok parts.0 = ap (λ (ls : List (List ℕ)). plan (split ls)) (sym lines) ∙ parts.1 in
-    let gives : Gives e (print_lines own.section) (joined parts.0) = subst (λ (s : List ℕ). Gives e s (joined parts.0)) bytes parts.2 in
+    let gives : Rewrites e (print_lines own.section) (joined parts.0) = subst (λ (s : List ℕ). Rewrites e s (joined parts.0)) bytes parts.2 in
     subst (λ (x : Result Own StateFault). AnswersOwn (λ r. r ≡ x) t i result) (sym (ap (changed states word own) is)) (made (joined parts.0) gives)
 
 -- ---- repetition
@@ -102,12 +102,12 @@ pub record IsRepeating (now : Moment) (ls : List (List ℕ)) (e : Edit) : Type 0
   pub text : List ℕ
   pub is : repeating ls ≡ Some line
   pub are : AreRepeated line.entries now (Ok text)
-  pub gives : Gives e (print_lines ls) (repeated_line line text ∷ [])
+  pub gives : Rewrites e (print_lines ls) (repeated_line line text ∷ [])
 
 repeating_some : (l : List ℕ) (ls : List (List ℕ)) (p : PlanningLine) → planning_of l ≡ Some p → has_repeater p.entries ≡ true → repeating (l ∷ ls) ≡ Some p
 repeating_some l ls p is some = ap if_repeating is ∙ (let yes : if_repeating (Some p) ≡ Some p = rw some refl in yes)
 
-repeated_in : (now : Moment) (ls all : List (List ℕ)) (e : Edit) → GivesRepeatedIn now (record { planning = all; drawer = []; rest = [] }) (print_lines ls) e ls → IsRepeating now ls e
+repeated_in : (now : Moment) (ls all : List (List ℕ)) (e : Edit) → RewritesRepeatedIn now (record { planning = all; drawer = []; rest = [] }) (print_lines ls) e ls → IsRepeating now ls e
 repeated_in now [] all e g = absurd g
 repeated_in now (l ∷ ls) all e g = record {
   line = g.planning;
@@ -118,9 +118,9 @@ repeated_in now (l ∷ ls) all e g = record {
 }
 
 pub repeated_alone : (now : Moment) (ls : List (List ℕ)) (e : Edit) → AllByRecursion IsLine ls
-    → GivesRepeated now (parts_of (print_lines (split ls).planning)) (print_lines (split ls).planning) (Some e) → IsRepeating now (split ls).planning e
+    → RewritesRepeated now (parts_of (print_lines (split ls).planning)) (print_lines (split ls).planning) (Some e) → IsRepeating now (split ls).planning e
 repeated_alone now ls e all g =
-    let P : SectionParts → Type 0 = λ parts. GivesRepeated now parts (print_lines (split ls).planning) (Some e) in
+    let P : SectionParts → Type 0 = λ parts. RewritesRepeated now parts (print_lines (split ls).planning) (Some e) in
     repeated_in now (split ls).planning (split ls).planning e (subst P (planning_alone ls (print_lines (split ls).planning) all refl) g)
 
 -- why a planning line can't be repeated
@@ -150,26 +150,26 @@ repeat_refused states state now own line fault all is (inr wrong) =
 
 -- where nothing repeats, the entry is closed
 pub nothing_repeats : (now : Moment) (ls : List (List ℕ)) (line : List ℕ) (made : Option Edit) → AllByRecursion IsLine ls → line ≡ print_lines (split ls).planning
-    → GivesRepeated now (parts_of line) line made → made ≡ None → repeating (split ls).planning ≡ None
+    → RewritesRepeated now (parts_of line) line made → made ≡ None → repeating (split ls).planning ≡ None
 nothing_repeats now ls line made all is gives none =
-    let P : Option Edit → Type 0 = λ made. GivesRepeated now (parts_of line) line made in
+    let P : Option Edit → Type 0 = λ made. RewritesRepeated now (parts_of line) line made in
     let Q : List (List ℕ) → Type 0 = HasNoRepeater in
     none_repeats (split ls).planning (subst Q (planning_is ls line all is) (subst P none gives))
 
 -- the property is put before the rest, and the planning line before that
 pub property_within : (ls : List (List ℕ)) (front bytes : List ℕ) (p : SectionParts) (e : Edit) → front ≡ print_lines (joined (record (split ls) { rest = [] })) → bytes ≡ print_lines ls
-    → GivesParts e front p → e.at + e.removed ≤ length bytes
+    → RewritesParts e front p → e.at + e.removed ≤ length bytes
 property_within ls front bytes p e is whole g =
     let all : front ≡ print_lines ((split ls).planning ++ (split ls).drawer) = is ∙ ap (λ (d : List (List ℕ)). print_lines ((split ls).planning ++ d)) (append-nil (split ls).drawer) in
     omega (arith, g.within, front_short ls, ap length all, ap length whole)
 
 pub planning_within : (now : Moment) (ls : List (List ℕ)) (e : Edit) → AllByRecursion IsLine ls
-    → GivesRepeated now (parts_of (print_lines (split ls).planning)) (print_lines (split ls).planning) (Some e) → e.at + e.removed ≤ length (print_lines ls)
+    → RewritesRepeated now (parts_of (print_lines (split ls).planning)) (print_lines (split ls).planning) (Some e) → e.at + e.removed ≤ length (print_lines ls)
 planning_within now ls e all g = let r = repeated_alone now ls e all g in omega (arith, r.gives.within, planning_short ls)
 
 -- a property put above the rest
 property_put : (ls : List (List ℕ)) (front name value stamp : List ℕ) (e : Edit) → AllByRecursion IsLine ls → front ≡ print_lines (joined (record (split ls) { rest = [] })) → stamp ≡ value
-    → GivesParts e front (put name stamp (parts_of front)) → Gives e (print_lines ((split ls).planning ++ (split ls).drawer)) (joined (put name value (record (split ls) { rest = [] })))
+    → RewritesParts e front (put name stamp (parts_of front)) → Rewrites e (print_lines ((split ls).planning ++ (split ls).drawer)) (joined (put name value (record (split ls) { rest = [] })))
 property_put ls front name value stamp e all is same g =
     let above : List (List ℕ) = (split ls).planning ++ (split ls).drawer in
     let lines : joined (record (split ls) { rest = [] }) ≡ above = ap (λ (d : List (List ℕ)). (split ls).planning ++ d) (append-nil (split ls).drawer) in
@@ -178,9 +178,9 @@ property_put ls front name value stamp e all is same g =
     subst (AllByRecursion IsLine) (sym (joined_split ls) ∙ sym (append_assoc (split ls).planning (split ls).drawer (split ls).rest)) all in
     let own : AllByRecursion IsLine above = all_front above (split ls).rest whole in
     let parts : parts_of front ≡ record (split ls) { rest = [] } = ap split (ap lines_of bytes ∙ lines_of-print_lines above own) ∙ split_front ls in
-    subst (λ (b : List ℕ). Gives e b (joined (put name value (record (split ls) { rest = [] })))) bytes
-    (subst (λ (p : SectionParts). Gives e front (joined (put name value p))) parts
-    (subst (λ (v : List ℕ). Gives e front (joined (put name v (parts_of front)))) same g))
+    subst (λ (b : List ℕ). Rewrites e b (joined (put name value (record (split ls) { rest = [] })))) bytes
+    (subst (λ (p : SectionParts). Rewrites e front (joined (put name value p))) parts
+    (subst (λ (v : List ℕ). Rewrites e front (joined (put name v (parts_of front)))) same g))
   where
     all_front : (a b : List (List ℕ)) → AllByRecursion IsLine (a ++ b) → AllByRecursion IsLine a
     all_front [] b p = tt
@@ -192,9 +192,9 @@ pub repeat_made : (states : Keywords) (state : List ℕ) (now : Moment) (t : Lis
     → section ≡ print_lines (node_at (tree t) i).node.section → lines_of section ≡ (node_at (tree t) i).node.section
     → front ≡ print_lines (joined (record (split (node_at (tree t) i).node.section) { rest = [] }))
     → old ≡ keyword_in states (node_at (tree t) i).node.rest → stamp ≡ moment_text now → active ≡ first_active states
-    → GivesParts a section (with_note (note_line state old now) (parts_of section))
-    → GivesParts b front (put (codes "LAST_REPEAT") stamp (parts_of front))
-    → GivesRepeated now (parts_of (print_lines (split (node_at (tree t) i).node.section).planning)) (print_lines (split (node_at (tree t) i).node.section).planning) (Some c)
+    → RewritesParts a section (with_note (note_line state old now) (parts_of section))
+    → RewritesParts b front (put (codes "LAST_REPEAT") stamp (parts_of front))
+    → RewritesRepeated now (parts_of (print_lines (split (node_at (tree t) i).node.section).planning)) (print_lines (split (node_at (tree t) i).node.section).planning) (Some c)
     → a2 ≡ moved (section_start (tree t) i) a → b2 ≡ moved (section_start (tree t) i) b → c2 ≡ moved (section_start (tree t) i) c
     → EditsRest k (tree t) i (with_keyword states active (node_at (tree t) i).node.rest)
     → items ≡ a2 ∷ b2 ∷ c2 ∷ k ∷ []
@@ -207,10 +207,10 @@ repeat_made states state now t i section front old stamp active a b c a2 b2 c2 k
     let word : List ℕ = keyword_in states own.rest in
     let r = repeated_alone now ls c all plan in
     let n : List ℕ = note_line state word now in
-    let noted : Gives a (print_lines ls) (joined (with_note n (split ls))) =
-    subst (λ (s : List ℕ). Gives a s (joined (with_note n (split ls)))) bytes
-    (subst (λ (ls : List (List ℕ)). Gives a section (joined (with_note n (split ls)))) lines
-    (subst (λ (w : List ℕ). Gives a section (joined (with_note (note_line state w now) (parts_of section)))) old_is note)) in
+    let noted : Rewrites a (print_lines ls) (joined (with_note n (split ls))) =
+    subst (λ (s : List ℕ). Rewrites a s (joined (with_note n (split ls)))) bytes
+    (subst (λ (ls : List (List ℕ)). Rewrites a section (joined (with_note n (split ls)))) lines
+    (subst (λ (w : List ℕ). Rewrites a section (joined (with_note (note_line state w now) (parts_of section)))) old_is note)) in
     let put_in = property_put ls front (codes "LAST_REPEAT") (moment_text now) stamp b all front_is stamp_is property in
     let final : SectionParts = repeated_parts state word now r.line (split ls) r.text in
     let new : Own = with_lines states (first_active states) own (joined final) in

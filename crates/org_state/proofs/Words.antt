@@ -10,7 +10,7 @@ use Rattle.org_splice.specs.declared.edit.Edit.{Edit}
 use Rattle.org_splice.proofs.Places.{edited_at}
 use Rattle.org_outline.specs.States.{Keywords, has_word}
 use Rattle.org_outline.specs.Parts.{keyword_of}
-use Rattle.org_state.specs.Edits.{GivesRest}
+use Rattle.org_state.specs.Edits.{RewritesRest}
 use Rattle.org_state.specs.Keyword.{keyword_in, with_word, with_keyword}
 
 keyword_short : (states : Keywords) (l : List ℕ) → length (keyword_of states l) ≤ length l
@@ -33,7 +33,7 @@ pub record Exchanges (old text word bytes : List ℕ) (n : ℕ) : Type 0 where
 
 -- the edit of a rest, where it stands behind the gap
 pub keyword_gives : (e : Edit) (states : Keywords) (rest word old text : List ℕ) → old ≡ keyword_in states rest → text ≡ behind is_blank rest → e.at ≡ length (front is_blank rest)
-    → Exchanges old text word e.bytes e.removed → GivesRest e rest (with_keyword states word rest)
+    → Exchanges old text word e.bytes e.removed → RewritesRest e rest (with_keyword states word rest)
 keyword_gives e states rest word old text old_is text_is at ex =
     let f : List ℕ = front is_blank rest in
     let gone : List ℕ = take e.removed text in

@@ -1,7 +1,7 @@
 -- Edits of a heading's own lines, as edits of the text.
 use Rattle.std.specs.Prelude.{◌≡◌, ℕ, ◌+◌, ◌≤◌, List, length}
 use Rattle.org_splice.specs.Lines.{print_lines}
-use Rattle.org_meta.specs.Edits.{Gives}
+use Rattle.org_meta.specs.Edits.{Rewrites}
 use Rattle.org_splice.specs.declared.edit.Edit.{Edit}
 use Rattle.org_splice.specs.Edits.{applied}
 use Rattle.org_outline.specs.Text.{heading_line}
@@ -21,7 +21,7 @@ abbrev pub moved : ℕ → Edit → Edit
 moved start e = record { at = start + e.at; removed = e.removed; bytes = e.bytes }
 
 -- the edit lies in the rest of a heading line and gives this one
-pub record GivesRest (e : Edit) (rest new : List ℕ) : Type 0 where
+pub record RewritesRest (e : Edit) (rest new : List ℕ) : Type 0 where
   pub within : e.at + e.removed ≤ length rest
   pub gives : applied e rest ≡ new
 
@@ -29,10 +29,10 @@ pub record GivesRest (e : Edit) (rest new : List ℕ) : Type 0 where
 pub record EditsRest (e : Edit) (d : Document) (i : ℕ) (new : List ℕ) : Type 0 where
   pub own : Edit
   pub is : e ≡ moved (rest_start d i) own
-  pub gives : GivesRest own (node_at d i).node.rest new
+  pub gives : RewritesRest own (node_at d i).node.rest new
 
 -- the edit of the text makes of heading i's section these lines
 pub record EditsSection (e : Edit) (d : Document) (i : ℕ) (new : List (List ℕ)) : Type 0 where
   pub own : Edit
   pub is : e ≡ moved (section_start d i) own
-  pub gives : Gives own (print_lines (node_at d i).node.section) new
+  pub gives : Rewrites own (print_lines (node_at d i).node.section) new

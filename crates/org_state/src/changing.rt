@@ -3,10 +3,10 @@
 //! Edits are answered the last first, so that each stands where it does in the text as it was.
 ghost use Rattle.std.specs.Prelude.{◌≡◌, ◌<◌, ◌≤◌, ◌+◌, [], ◌∷◌, ℕ, List, length, codes, Some, Ok, IfOk, IfErr};
 ghost use Rattle.org_splice.specs.Lines.{print_lines, terminated};
-ghost use Rattle.org_meta.specs.Edits.{Gives, GivesParts};
+ghost use Rattle.org_meta.specs.Edits.{Rewrites, RewritesParts};
 ghost use Rattle.org_meta.specs.Moments.{moment_text};
 ghost use Rattle.org_meta.specs.Planning.{clear_closed, set_closed};
-ghost use Rattle.org_meta.specs.Replans.{GivesRepeated};
+ghost use Rattle.org_meta.specs.Replans.{RewritesRepeated};
 ghost use Rattle.org_meta.specs.Notes.{note_line, with_note};
 ghost use Rattle.org_meta.specs.Sections.{split, parts_of, joined, put};
 ghost use Rattle.org_outline.specs.Tree.{node_count, tree};
@@ -29,7 +29,7 @@ use std::alloc::{AllocError, Global};
 /// The edit that puts the property LAST_REPEAT into a section.
 fn last_repeat(alloc: Global, section: &[u8], now: Moment) -> Result<Edit, AllocError>
     requires { terminated section.now ≡ section.now }
-    ensures { IfOk result (λ edit. GivesParts edit section.now
+    ensures { IfOk result (λ edit. RewritesParts edit section.now
         (put (codes "LAST_REPEAT") (moment_text now) (parts_of section.now))) }
 {
     let stamp = Stamp::at(now, false, true).print(alloc)?;
@@ -49,8 +49,9 @@ fn noted(
     ensures { let parts = parts_of section.now in
         let above = print_lines (joined (record parts { rest = [] })) in
         IfOk result (λ edits.
-        GivesParts edits.0 section.now (with_note (note_line new.now old.now now) parts)
-        × GivesParts edits.1 above (put (codes "LAST_REPEAT") (moment_text now) (parts_of above))) }
+        RewritesParts edits.0 section.now (with_note (note_line new.now old.now now) parts)
+        × RewritesParts edits.1 above
+        (put (codes "LAST_REPEAT") (moment_text now) (parts_of above))) }
 {
     let note = add_note(alloc, section, new, old, now)?;
     let property = last_repeat(alloc, above_rest(section), now)?;
@@ -72,7 +73,7 @@ impl Change<'_> {
         requires node { self.now.node < node_count (tree self.now.outline.now.text) }
         requires within { edit.at + edit.removed
             ≤ length (print_lines (own_of self.now).section) }
-        ensures { (new : List (List ℕ)) → Gives edit (print_lines (own_of self.now).section) new
+        ensures { (new : List (List ℕ)) → Rewrites edit (print_lines (own_of self.now).section) new
             → AnswersChange (λ r. r ≡ Ok (with_lines self.now.outline.now.states
             self.now.state.now (own_of self.now) new)) self.now result }
     {
@@ -125,7 +126,7 @@ impl Change<'_> {
     fn repeat(&self, alloc: Global, planning: Edit) -> Result<Vec<Edit>, StateFault>
         requires node { self.now.node < node_count (tree self.now.outline.now.text) }
         requires planning { let line = print_lines (split (own_of self.now).section).planning in
-            GivesRepeated self.now.moment (parts_of line) line (Some planning) }
+            RewritesRepeated self.now.moment (parts_of line) line (Some planning) }
         ensures { let own = own_of self.now in
             AnswersChange (TurnsDone self.now.outline.now.states self.now.state.now self.now.moment
             own (repeating (split own.section).planning)) self.now result }

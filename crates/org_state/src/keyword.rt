@@ -1,7 +1,7 @@
 //! The keyword of a heading line.
 ghost use Rattle.std.specs.Prelude.{◌≡◌, IfOk};
 ghost use Rattle.org_state.specs.Keyword.{is_state, with_keyword};
-ghost use Rattle.org_state.specs.Edits.{GivesRest};
+ghost use Rattle.org_state.specs.Edits.{RewritesRest};
 
 use org_outline::{HeadParts, States};
 use org_splice::blanks::blank_count;
@@ -23,7 +23,7 @@ pub(crate) fn set_keyword(
     word: &[u8],
 ) -> Result<Edit, AllocError>
     ensures { IfOk result (λ edit.
-        GivesRest edit rest.now (with_keyword states.now word.now rest.now)) }
+        RewritesRest edit rest.now (with_keyword states.now word.now rest.now)) }
 {
     let old = HeadParts::of(states, rest).keyword;
     let (gap, text) = rest.split_at(blank_count(rest));

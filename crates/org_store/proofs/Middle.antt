@@ -1,7 +1,7 @@
 -- What lies on the disk between two parts of a call of a store.
 use Rattle.std.proofs.Common.{⊎_elim, ℕ, List, Result}
 use Rattle.org_disk.specs.declared.disk.Disk.{Ghosts}
-use Rattle.org_disk.specs.Accounts.{LeavesOver}
+use Rattle.org_disk.specs.CountsFailures.{LeavesOver}
 use Rattle.org_disk.specs.Disk.{FileState, AreImages}
 use Rattle.org_journal.specs.Recovered.{Image, SameFiles, contents}
 use Rattle.org_fileset.specs.Laws.{AreOtherFiles, IsBetween}

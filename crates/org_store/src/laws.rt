@@ -4,7 +4,7 @@
 ghost use Rattle.std.specs.Prelude.{◌≡◌, ◌<◌, ◌≤◌, ◌+◌, ◌++◌, ◌⊎◌, List, [], ◌∷◌, ℕ, length, slice_get, None, Some, Result, Ok, IsTrue, IsFalse, IsErrOf};
 ghost use Rattle.std.specs.List.{All, IsDistinct};
 ghost use Rattle.std.specs.Str.{bytes_eq};
-ghost use Rattle.org_disk.specs.Accounts.{LeavesOver};
+ghost use Rattle.org_disk.specs.CountsFailures.{LeavesOver};
 ghost use Rattle.org_journal.specs.Recovered.{Image, IsRecoverable};
 ghost use Rattle.org_disk.specs.Names.{IsDiskName, IsOrgFile};
 ghost use Rattle.org_fileset.specs.Names.{with_archives, AreSorted, AreFew, first_large};

@@ -4,7 +4,7 @@
 //! acknowledged. After a failure of the disk the store is broken, and makes no call.
 ghost use Rattle.std.specs.Prelude.{◌≡◌, IfOk, IfErr, IsErrOf};
 ghost use Rattle.std.specs.List.{All};
-ghost use Rattle.org_disk.specs.Accounts.{Accounts};
+ghost use Rattle.org_disk.specs.CountsFailures.{CountsFailures};
 ghost use Rattle.org_disk.specs.Names.{IsOrgFile};
 ghost use Rattle.org_fileset.specs.Opening.{Opens};
 ghost use Rattle.org_fileset.specs.Replay.{files_on};
@@ -151,7 +151,7 @@ impl<D: Disk> Store<D> {
         ensures counts { SettledCounts self.old.session result self.new.session }
         ensures idle { StaysWhereNeedless (Unit {0}) self.old result self.new }
         ensures broken { SaysBroken self.old.session result self.new.session }
-        ensures accounts { Accounts D.Disk self.old.disk self.new.disk
+        ensures accounts { CountsFailures D.Disk self.old.disk self.new.disk
             (IsErrOf result RunFault.Device) }
     {
         if self.executor.files.is_broken() {
@@ -185,7 +185,7 @@ impl<D: Disk> Store<D> {
         ensures counts { Counts self.old.session result self.new.session }
         ensures idle { StaysWhereNeedless (command.now ≡ Command.Settle) self.old result self.new }
         ensures broken { SaysBroken self.old.session result self.new.session }
-        ensures accounts { Accounts D.Disk self.old.disk self.new.disk
+        ensures accounts { CountsFailures D.Disk self.old.disk self.new.disk
             (IsErrOf result RunFault.Device) }
     {
         if self.executor.files.is_broken() {

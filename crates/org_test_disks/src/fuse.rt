@@ -57,7 +57,7 @@ impl<D: Disk> Fuse<D> {
 
 impl<D: Disk> Disk for Fuse<D> {
     ghost use Rattle.std.specs.Prelude.{◌<◌, ◌≤◌, length, take, drop, IfOk};
-    ghost use Rattle.org_disk.specs.Accounts.{Looks};
+    ghost use Rattle.org_disk.specs.CountsFailures.{Looks};
     ghost use Rattle.org_disk.specs.Disk.{AreLeftBy, Changes, cut, sync, write};
     ghost use Rattle.org_disk.specs.Calls.{PassesInCall};
     ghost use Rattle.org_test_disks.specs.Fuse.{fuse_failures, AccountsOfFuse, Burns};

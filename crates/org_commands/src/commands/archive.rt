@@ -3,7 +3,7 @@ ghost use Rattle.std.specs.Prelude.{◌≡◌, [], ◌∷◌, List, ℕ, Some, O
 ghost use Rattle.org_outline.specs.Paths.{find_path};
 ghost use Rattle.org_outline.specs.Tree.{tree};
 ghost use Rattle.org_texts.specs.Texts.{bytes_or, text_of};
-ghost use Rattle.org_move.specs.Answers.{Gives, GivesPlace};
+ghost use Rattle.org_move.specs.Answers.{IsMadeAs, IsPlaceAs};
 ghost use Rattle.org_move.specs.Archive.{archive_across_at, archive_within_at};
 ghost use Rattle.org_move.specs.Location.{location_at};
 ghost use Rattle.org_commands.specs.Files.{AreReadyForCommand, AreReady, IsPlanFor, IsReady};
@@ -45,7 +45,7 @@ fn find_location<D: Disk>(
     requires ready { AreReady (command.now.file ∷ []) files.old.held }
     requires heading { HasHeading files.old.held.now command.now.file node }
     ensures place { let seen = bytes_or [] (text_of files.new.held.now command.now.file) in
-        GivesPlace (location_at states.now command.now.file seen node) result }
+        IsPlaceAs (location_at states.now command.now.file seen node) result }
     ensures same { files.new ≡ files.old }
 {
     let file = &command.file;
@@ -72,8 +72,8 @@ fn plan_within<'a, D: Disk>(
     requires ready { IsReady command.now.file files.now.held }
     requires heading { HasHeading files.now.held.now command.now.file node }
     ensures { let seen = bytes_or [] (text_of files.now.held.now command.now.file) in
-        Gives (archive_within_at states.now command.now.file command.now.moment to.now (tree seen)
-        node) (MakesDocument command.now.file seen) result }
+        IsMadeAs (archive_within_at states.now command.now.file command.now.moment to.now
+        (tree seen) node) (MakesDocument command.now.file seen) result }
 {
     let alloc = files.alloc();
     let outline = outline_in(files, states, &command.file);
@@ -95,7 +95,7 @@ fn plan_across<'a, D: Disk>(
     requires heading { HasHeading files.now.held.now command.now.file node }
     ensures { let seen = bytes_or [] (text_of files.now.held.now command.now.file) in
         let target = bytes_or [] (text_of files.now.held.now to.now.file) in
-        Gives (archive_across_at states.now command.now.file command.now.moment (tree seen)
+        IsMadeAs (archive_across_at states.now command.now.file command.now.moment (tree seen)
         states.now to.now (tree target) node)
         (MakesDocuments command.now.file to.now.file seen target) result }
 {

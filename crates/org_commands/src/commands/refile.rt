@@ -1,7 +1,7 @@
 //! Subtrees moved to other headings, within a file or across two.
 ghost use Rattle.std.specs.Prelude.{◌≡◌, ◌∷◌, [], OnOk, false, true};
 ghost use Rattle.org_outline.specs.Tree.{tree};
-ghost use Rattle.org_move.specs.Answers.{Gives};
+ghost use Rattle.org_move.specs.Answers.{IsMadeAs};
 ghost use Rattle.org_move.specs.Refile.{refile_across, refile_within};
 ghost use Rattle.org_commands.specs.Files.{AreReadyForCommand, MakesReady};
 ghost use Rattle.org_commands.specs.InOrder.{is_name};
@@ -28,7 +28,7 @@ fn plan_within<'a>(
     command: &'a Refile,
 ) -> Result<Plan<'a>, MoveFault>
     requires ready { held.now.ready ≡ true }
-    ensures { Gives (refile_within states.now command.now.path command.now.to_path
+    ensures { IsMadeAs (refile_within states.now command.now.path command.now.to_path
         command.now.place (tree held.now.text.bytes))
         (MakesDocument command.now.file held.now.text.bytes) result }
 {
@@ -54,7 +54,7 @@ fn plan_across<'a>(
 ) -> Result<Plan<'a>, MoveFault>
     requires source { source.now.ready ≡ true }
     requires target { target.now.ready ≡ true }
-    ensures { Gives (refile_across states.now command.now.path (tree source.now.text.bytes)
+    ensures { IsMadeAs (refile_across states.now command.now.path (tree source.now.text.bytes)
         states.now command.now.to_path (tree target.now.text.bytes) command.now.place)
         (MakesDocuments command.now.file command.now.to_file source.now.text.bytes
         target.now.text.bytes) result }

@@ -25,7 +25,7 @@ enum Answer {
 fn answer_in(found: Result<Found, FindFault>) -> Answer {
     match found {
         Ok(Found::Closed) => Answer::Closed,
-        Ok(Found::Armed(record)) => if is_capture(&record) {
+        Ok(Found::Open(record)) => if is_capture(&record) {
             Answer::Capture
         } else {
             Answer::Other

@@ -12,7 +12,7 @@ ghost use Rattle.org_folder.specs.Note.{event_of};
 use super::access::{Access, OWNER, is_shared};
 use super::seen::Seen;
 use super::{Found, Opened, Reached, System};
-use crate::apart::Node;
+use crate::aliases::Node;
 use crate::list::ListFault;
 use crate::lock::{LockFault, held};
 use crate::record::{Call, Record};

@@ -103,9 +103,9 @@ pub fn pipe(
     group: u32,
     reader: &mut Pieces<'_>,
     writer: &mut Page,
-    turns: u64,
+    max_reads: u64,
 ) -> (ServeEnd, MemoryDisk) {
-    let Served { disk, end } = serve_over(rt, disk, Group::Of(group), reader, writer, turns);
+    let Served { disk, end } = serve_over(rt, disk, Group::Of(group), reader, writer, max_reads);
     match end {
         Ok(end) => (end, disk),
         Err(_) => panic!(rt; "not opened"),
@@ -118,16 +118,16 @@ fn end_of(
     rt: &(impl Abort + AllocGlobal),
     reader: &mut Pieces<'_>,
     writer: &mut Page,
-    turns: u64,
+    max_reads: u64,
 ) -> ServeEnd {
-    let (end, disk) = pipe(rt, two(rt, "", "* Z\n"), 1, reader, writer, turns);
+    let (end, disk) = pipe(rt, two(rt, "", "* Z\n"), 1, reader, writer, max_reads);
     drop(disk);
     end
 }
 
-// An input, the size of its pieces, which of its reads fails, if it isn't 0, and in how many turns
+// An input, the size of its pieces, which of its reads fails, if it isn't 0, and how many reads
 // it is served; how that ends, how many reads were made, and what was written. Where a read fails,
-// or the turns are used up, the lines that were read whole are answered.
+// or no more reads may be made, the lines that were read whole are answered.
 type Read = (&'static str, usize, u64, u64, ServeEnd, u64, &'static str);
 
 const READ: &[Read] = &[
@@ -156,17 +156,17 @@ const READ: &[Read] = &[
 
 // Whether the row's input is read so.
 fn is_read(rt: &(impl Abort + AllocGlobal), row: &Read) -> bool {
-    let (input, size, fails_at, turns, wanted, reads, written) = row;
+    let (input, size, fails_at, max_reads, wanted, reads, written) = row;
     let mut reader = in_pieces(input, *size, *fails_at);
     let mut writer = Page::new(rt.alloc(), 0);
-    let end = end_of(rt, &mut reader, &mut writer, *turns);
+    let end = end_of(rt, &mut reader, &mut writer, *max_reads);
     end == *wanted && reader.reads == *reads && writer.bytes.as_slice() == written.as_bytes()
 }
 
 #[test]
 fn a_read_that_fails_and_turns_that_end(rt: HostRuntime) {
     for row in READ {
-        assert!(rt; is_read(&rt, row), "turns {}", row.3);
+        assert!(rt; is_read(&rt, row), "max_reads {}", row.3);
     }
 }
 

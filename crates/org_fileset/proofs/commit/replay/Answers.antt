@@ -12,7 +12,7 @@ use Rattle.org_fileset.specs.Writes.{IsUnwritten}
 use Rattle.org_fileset.proofs.Writes.{alone_then, alone_applied, alone_journal}
 use Rattle.org_fileset.proofs.Takes.{journal_unnamed}
 use Rattle.org_fileset.proofs.Recovers.{replayed-takes}
-use Rattle.org_fileset.proofs.Armed.{replays_then, taking_recovers, replayable_armed, still_open, still_replayable, IsDone, closing_recovers, closed_after, rest_after, open_long, on_ok_both, on_ok_never}
+use Rattle.org_fileset.proofs.OpenGate.{replays_then, taking_recovers, replayable_open, still_open, still_replayable, IsDone, closing_recovers, closed_after, rest_after, open_long, on_ok_both, on_ok_never}
 use Rattle.org_fileset.proofs.commit.replay.Goals as goal
 
 pub returns-in_err-apply_all-clause-replays : goal.returns-in_err-apply_all-clause-replays
@@ -27,7 +27,7 @@ returns-in_err-apply_all-clause-replays g c ended =
     let failed : IsErr c.from_residual.result = search rules in
     record {
       any_moment = λ can. passes_as (applied can).any_moment (taking_recovers entries can.texts (files journal_name).content applicable is.opened is.found);
-      recoverable = λ can. inr (replayable_armed entries new applicable (still_open entries files new applicable is (c.apply_all.ensures.alone ended).same) (still_replayable can (applied can)));
+      recoverable = λ can. inr (replayable_open entries new applicable (still_open entries files new applicable is (c.apply_all.ensures.alone ended).same) (still_replayable can (applied can)));
       done = on_ok_never _ c.from_residual.result failed;
       alone = alone_applied g.D.Disk entries c.args.disk.now c.apply_all.new.disk (c.apply_all.ensures.alone ended);
     }
@@ -49,7 +49,7 @@ returns-in_err-sync_all-clause-replays g c ended =
     let failed : IsErr c.from_residual-in_err-sync_all.result = search rules in
     record {
       any_moment = λ can. passes_as (synced can).any_moment (taking_recovers entries can.texts (files journal_name).content applicable is.opened is.found);
-      recoverable = λ can. inr (replayable_armed entries last applicable is2 (still_replayable can (synced can)));
+      recoverable = λ can. inr (replayable_open entries last applicable is2 (still_replayable can (synced can)));
       done = on_ok_never _ c.from_residual-in_err-sync_all.result failed;
       alone = alone_then g.D.Disk (IsUnwritten entries) c.args.disk.now c.apply_all.new.disk c.sync_all.new.disk
           (alone_applied g.D.Disk entries c.args.disk.now c.apply_all.new.disk (c.apply_all.ensures.alone h1))

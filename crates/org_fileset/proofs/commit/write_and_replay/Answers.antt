@@ -10,7 +10,7 @@ use Rattle.org_fileset.specs.Replay.{IsAtRest, IsReplayable}
 use Rattle.org_fileset.specs.Writes.{IsUnwritten}
 use Rattle.org_fileset.proofs.Writes.{alone_then}
 use Rattle.org_fileset.proofs.Starting.{since_start}
-use Rattle.org_fileset.proofs.Armed.{on_ok_never}
+use Rattle.org_fileset.proofs.OpenGate.{on_ok_never}
 use Rattle.org_fileset.proofs.Commits.{at_rest_recovers, still_can, still_made, still_takes}
 use Rattle.org_fileset.proofs.commit.write_and_replay.Goals as goal
 

@@ -1,13 +1,13 @@
 use Rattle.org_disk.proofs.Accounting.{accounts_then, accounts_ok}
 use Rattle.org_journal.proofs.Accounted.{accounts_failed}
-use Rattle.org_fileset.proofs.Armed.{on_ok_never}
-use Rattle.org_fileset.proofs.Commits.{armed_writes, opened_writes}
+use Rattle.org_fileset.proofs.OpenGate.{on_ok_never}
+use Rattle.org_fileset.proofs.Commits.{open_writes, opened_writes}
 use Rattle.org_fileset.proofs.commit.write_record.Goals as goal
 
 pub returns-in_err-arm-clause-writes : goal.returns-in_err-arm-clause-writes
 returns-in_err-arm-clause-writes g c ended entries begins can =
     let d = g.D.Disk in
-    armed_writes d c.args.disk.now c.args.journal.now c.requires.journal entries can c.arm.new.disk c.arm.result c.from_residual.result
+    open_writes d c.args.disk.now c.args.journal.now c.requires.journal entries can c.arm.new.disk c.arm.result c.from_residual.result
     (c.arm.ensures.any_moment ended) (c.arm.ensures.puts ended) (on_ok_never _ c.from_residual.result c.from_residual.ensures.0)
 
 pub returns-clause-writes : goal.returns-clause-writes

@@ -1,5 +1,5 @@
 use Rattle.std.proofs.Common.{◌≡◌, drop}
-use Rattle.org_disk.specs.Accounts.{Accounts, LooksOver}
+use Rattle.org_disk.specs.CountsFailures.{CountsFailures, LooksOver}
 use Rattle.org_journal.specs.Recovered.{contents}
 use Rattle.org_fileset.specs.Names.{first_large}
 use Rattle.org_fileset.proofs.open.check_sizes.Given as goal
@@ -10,5 +10,5 @@ invariant-loop-name g l =
     record {
       sizes : disk.honest l.disk → first_large (contents (disk.files l.fn.disk)) (drop l.name-index l.names) ≡ first_large (contents (disk.files l.fn.disk)) l.names;
       looks : disk.honest l.disk → LooksOver disk l.fn.disk l.disk;
-      accounts : Accounts disk l.fn.disk l.disk ⊥;
+      accounts : CountsFailures disk l.fn.disk l.disk ⊥;
     }

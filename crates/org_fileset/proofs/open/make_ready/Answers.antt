@@ -3,7 +3,7 @@ use Rattle.std.specs.Prelude.{IsSomeAnd}
 use Rattle.org_disk.proofs.Moments.{passes_then}
 use Rattle.org_journal.specs.Recovered.{Image, SameFiles, IsRecoverable, contents}
 use Rattle.org_fileset.specs.Recovery.{IsReopened}
-use Rattle.org_fileset.proofs.Armed.{on_ok_always}
+use Rattle.org_fileset.proofs.OpenGate.{on_ok_always}
 use Rattle.org_disk.specs.Names.{journal_name}
 use Rattle.org_fileset.specs.Writes.{IsUnconcerned}
 use Rattle.org_journal.proofs.Accounted.{accounts_after}

@@ -2,7 +2,7 @@ use Rattle.std.proofs.Common.{◌≡◌, ◌≤◌, ◌<◌, ℕ, List, length, 
 use Rattle.org_disk.proofs.Accounting.{accounts_then, accounts_call, accounts_call_ok}
 use Rattle.org_journal.specs.Gate.{front_size}
 use Rattle.org_journal.proofs.Accounted.{accounts_failed, accounts_fine_test}
-use Rattle.org_fileset.proofs.Armed.{on_ok_never}
+use Rattle.org_fileset.proofs.OpenGate.{on_ok_never}
 use Rattle.org_fileset.proofs.Reopening.{gate_stays, gate_given}
 use Rattle.org_fileset.proofs.recover.give_gate.Goals as goal
 

@@ -1,6 +1,6 @@
 use Rattle.std.proofs.Common.{Ok, length, refl, sym, subst}
 use Rattle.std.proofs.lemmas.Option.{slice_get_read}
-use Rattle.org_disk.specs.Accounts.{Accounts}
+use Rattle.org_disk.specs.CountsFailures.{CountsFailures}
 use Rattle.org_disk.proofs.Accounting.{accounts_call_ok, accounts_then}
 use Rattle.org_fileset.specs.Writes.{TriesOver}
 use Rattle.org_fileset.proofs.Takes.{named_apart}
@@ -34,7 +34,7 @@ loop-entry-preserved g c =
       | then-is_whole-are_whole+in_ok-write_at w ↦
           let new = w.write_at.new.self in
           let back = w.write_at.ensures.accounts.was_honest in
-          subst (λ (disk : g.row.D.Denot). record { tries : g.D.Disk.honest disk → TriesOver g.D.Disk entries old disk (Ok tt); accounts : Accounts g.D.Disk old disk ⊥ })
+          subst (λ (disk : g.row.D.Denot). record { tries : g.D.Disk.honest disk → TriesOver g.D.Disk entries old disk (Ok tt); accounts : CountsFailures g.D.Disk old disk ⊥ })
           (sym w.disk-is)
           (record {
             tries = λ ended. tries_then g.D.Disk entries old mid new tt (Ok tt) (c.loop-entry.invariant.tries (back ended))
@@ -44,6 +44,6 @@ loop-entry-preserved g c =
             accounts = accounts_then c.loop-entry.invariant.accounts (accounts_call_ok w.in_ok-write_at.ensures.accounts);
           })
       | else-is_whole-are_whole w ↦
-          subst (λ (disk : g.row.D.Denot). record { tries : g.D.Disk.honest disk → TriesOver g.D.Disk entries old disk (Ok tt); accounts : Accounts g.D.Disk old disk ⊥ })
+          subst (λ (disk : g.row.D.Denot). record { tries : g.D.Disk.honest disk → TriesOver g.D.Disk entries old disk (Ok tt); accounts : CountsFailures g.D.Disk old disk ⊥ })
           (sym w.disk-is) c.loop-entry.invariant
     ]

@@ -1,5 +1,5 @@
 use Rattle.std.proofs.Common.{Ok}
-use Rattle.org_disk.specs.Accounts.{Accounts}
+use Rattle.org_disk.specs.CountsFailures.{CountsFailures}
 use Rattle.org_fileset.specs.Writes.{TriesOver}
 use Rattle.org_fileset.proofs.trying.try_those.Given as goal
 
@@ -9,5 +9,5 @@ invariant-loop-entry g l =
     let disk = g.D.Disk in
     record {
       tries : disk.honest l.disk → TriesOver disk l.entries l.fn.disk l.disk (Ok tt);
-      accounts : Accounts disk l.fn.disk l.disk ⊥;
+      accounts : CountsFailures disk l.fn.disk l.disk ⊥;
     }

@@ -1,5 +1,5 @@
 use Rattle.std.proofs.Common.{◌≡◌, drop}
-use Rattle.org_disk.specs.Accounts.{Accounts, LooksOver}
+use Rattle.org_disk.specs.CountsFailures.{CountsFailures, LooksOver}
 use Rattle.org_journal.specs.Recovered.{contents, all_fit}
 use Rattle.org_journal.specs.Finding.{HaveWellFormedPatches}
 use Rattle.org_journal.proofs.finding.all_fit.Given as goal
@@ -9,7 +9,7 @@ invariant-loop-entry g l =
     let disk = g.D.Disk in
     record {
       formed : HaveWellFormedPatches (drop l.entry-index l.entries);
-      accounts : Accounts disk l.fn.disk l.disk ⊥;
+      accounts : CountsFailures disk l.fn.disk l.disk ⊥;
       looks : disk.honest l.disk → LooksOver disk l.fn.disk l.disk;
       fit : disk.honest l.disk → all_fit (drop l.entry-index l.entries) (contents (disk.files l.fn.disk)) ≡ all_fit l.entries (contents (disk.files l.fn.disk));
     }

@@ -6,7 +6,7 @@ use Rattle.org_journal.specs.Finding.{FindsSize}
 use Rattle.org_journal.specs.declared.record.Version.TheVariants.{Two}
 use Rattle.org_disk.proofs.Accounting.{accounts_none, accounts_ok, looks_then}
 use Rattle.org_journal.proofs.Accounted.{accounts_after, accounts_passed, accounts_answered, accounts_bad, accounts_told}
-use Rattle.org_journal.proofs.Fitting.{bad_record, bad_size, found_armed, found_bad, formed_patches, record_held}
+use Rattle.org_journal.proofs.Fitting.{bad_record, bad_size, found_open, found_bad, formed_patches, record_held}
 use Rattle.org_splice.proofs.Failing.{no_value}
 use Rattle.org_journal.proofs.finding.find.Goals as goal
 
@@ -72,7 +72,7 @@ returns-clause-found g c ended =
     let before = c.all_fit.ensures.accounts.was_honest ended in
     let start = c.record_of.ensures.accounts.was_honest before in
     let files = g.D.Disk.files c.args.disk.now in
-    found_armed files (g.D.Disk.files c.size_of.new.disk) (g.D.Disk.files c.record_of.new.disk) c.args.journal.now c.in-Some.size c.in_ok-record.record c.requires
+    found_open files (g.D.Disk.files c.size_of.new.disk) (g.D.Disk.files c.record_of.new.disk) c.args.journal.now c.in-Some.size c.in_ok-record.record c.requires
     (rw c.in-Some.is at (c.in_ok-size.ensures.found start)) (c.size_of.ensures.looks start).same (c.record_of.ensures.looks before).same (c.in_ok-record.ensures.found before)
     c.in_ok-all_fit.field-0 (rw c.as_slice.ensures at (c.in_ok-all_fit.ensures.fit ended)) c.if-not-branch.false
 

@@ -1,4 +1,4 @@
-use Rattle.org_folder.specs.Apart.{MayReport}
+use Rattle.org_folder.specs.Aliases.{MayReport}
 use Rattle.std.proofs.Common.{IfErr}
 use Rattle.org_program.proofs.Files.{may_share}
 use Rattle.org_program.proofs.program.check_files.Goals as goal

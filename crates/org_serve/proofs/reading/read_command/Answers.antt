@@ -1,5 +1,5 @@
 use Rattle.std.proofs.Common.{refl, sym, subst}
-use Rattle.org_serve.specs.Grammar.{Gives}
+use Rattle.org_serve.specs.Grammar.{Parses}
 use Rattle.org_serve.proofs.Fields.{front_more, front_all, too_many}
 use Rattle.org_serve.proofs.reading.read_command.Goals as goal
 
@@ -11,7 +11,7 @@ loop-i-preserved c =
 pub returns-in_default : goal.returns-in_default
 returns-in_default c =
     let whole = front_all c.loop-i.fields c.loop-i.i c.loop-i.rest.now c.args.line.now c.loop-i.rest c.loop-i-test.true c.loop-i.invariant c.in_default.ensures refl in
-    subst (Gives c.command.result) (sym whole) c.command.ensures
+    subst (Parses c.command.result) (sym whole) c.command.ensures
 
 pub returns : goal.returns
 returns c = too_many c.loop-i.fields c.loop-i.i c.loop-i.rest.now c.args.line.now c.loop-i-test.false c.loop-i.invariant

@@ -1,6 +1,6 @@
 use Rattle.std.proofs.Common.{◌≡◌, ◌≤◌, ◌++◌, List, ℕ, [], length}
 use Rattle.std.specs.Prelude.{IsTrue}
-use Rattle.org_disk.specs.Accounts.{Accounts}
+use Rattle.org_disk.specs.CountsFailures.{CountsFailures}
 use Rattle.org_serve.specs.Lines.{cut, Stands}
 use Rattle.org_serve.specs.Serving.{HasBroken, stores_while_honest}
 use Rattle.org_serve.proofs.Feeding.{Fed}
@@ -13,7 +13,7 @@ invariant-loop-line g l =
     → Fed l.group (stores_while_honest g.D.Disk) l.initial.store (part ++ l.piece) l.rest l.store
     (g.W.Sink.written l.initial.writer) (g.W.Sink.written l.writer) l.pending)
     × (IsTrue l.initial.store.session.broken → l.store ≡ l.initial.store)
-    × Accounts g.D.Disk l.initial.store.disk l.store.disk (HasBroken l.initial.store.session l.store.session)
+    × CountsFailures g.D.Disk l.initial.store.disk l.store.disk (HasBroken l.initial.store.session l.store.session)
     × (g.W.Sink.failures l.writer ≡ g.W.Sink.failures l.initial.writer)
     × (length l.rest ≤ length l.piece)
 

@@ -18,7 +18,7 @@ use Rattle.org_serve.proofs.serving.serve.Goals as goal
 pub returns-in-Ok-eq0-clause-causes : goal.returns-in-Ok-eq0-clause-causes
 returns-in-Ok-eq0-clause-causes g c =
     ended_otherwise (exchange g.R.Source g.W.Sink c.args.reader.now c.read.new.self c.args.writer.now c.finish.new.writer) c.finish.result c.finish.ensures.never
-    (within_all c.args.turns c.loop.counter (g.R.Source.reads c.args.reader.now) (g.R.Source.reads c.read.new.self) (within_counted c.loop.counter (g.R.Source.reads c.args.reader.now) (g.R.Source.reads c.loop.reader) (g.R.Source.reads c.read.new.self) c.loop.invariant.6 c.in-Ok-eq0.ensures.counted) (omega arith))
+    (within_all c.args.max_reads c.loop.counter (g.R.Source.reads c.args.reader.now) (g.R.Source.reads c.read.new.self) (within_counted c.loop.counter (g.R.Source.reads c.args.reader.now) (g.R.Source.reads c.loop.reader) (g.R.Source.reads c.read.new.self) c.loop.invariant.6 c.in-Ok-eq0.ensures.counted) (omega arith))
     (c.in-Ok-eq0.ensures.ok ∙ c.loop.invariant.4) c.loop.invariant.5 (λ is. (c.finish.ensures.write is).1) (λ not. (c.finish.ensures.reported not).0)
 
 pub returns-in-Ok-eq0-clause-calls : goal.returns-in-Ok-eq0-clause-calls
@@ -59,7 +59,7 @@ returns-in-Ok-eq0-clause-did g c = λ honest.
 pub returns-in-Err-feed-clause-causes : goal.returns-in-Err-feed-clause-causes
 returns-in-Err-feed-clause-causes g c =
     ended_otherwise (exchange g.R.Source g.W.Sink c.args.reader.now c.read.new.self c.args.writer.now c.feed.new.writer) Write (λ e. absurd (cc))
-    (within_all c.args.turns c.loop.counter (g.R.Source.reads c.args.reader.now) (g.R.Source.reads c.read.new.self) (within_counted c.loop.counter (g.R.Source.reads c.args.reader.now) (g.R.Source.reads c.loop.reader) (g.R.Source.reads c.read.new.self) c.loop.invariant.6 c.in-Ok.ensures.counted) (omega arith))
+    (within_all c.args.max_reads c.loop.counter (g.R.Source.reads c.args.reader.now) (g.R.Source.reads c.read.new.self) (within_counted c.loop.counter (g.R.Source.reads c.args.reader.now) (g.R.Source.reads c.loop.reader) (g.R.Source.reads c.read.new.self) c.loop.invariant.6 c.in-Ok.ensures.counted) (omega arith))
     (c.in-Ok.ensures.ok ∙ c.loop.invariant.4) c.loop.invariant.5 (λ e. c.in-Err-feed.ensures.counts.counted) (λ not. absurd (not refl))
 
 pub returns-in-Err-feed-clause-calls : goal.returns-in-Err-feed-clause-calls
@@ -119,7 +119,7 @@ returns-in-Ok-Stop-clause-did g c = λ honest.
 pub returns-in-Err-clause-causes : goal.returns-in-Err-clause-causes
 returns-in-Err-clause-causes g c =
     ended_read (exchange g.R.Source g.W.Sink c.args.reader.now c.read.new.self c.args.writer.now c.loop.writer) c.loop.invariant.4 (inl c.in-Err.ensures.err)
-    (within_all c.args.turns c.loop.counter (g.R.Source.reads c.args.reader.now) (g.R.Source.reads c.read.new.self) (within_counted c.loop.counter (g.R.Source.reads c.args.reader.now) (g.R.Source.reads c.loop.reader) (g.R.Source.reads c.read.new.self) c.loop.invariant.6 c.in-Err.ensures.counted) (omega arith))
+    (within_all c.args.max_reads c.loop.counter (g.R.Source.reads c.args.reader.now) (g.R.Source.reads c.read.new.self) (within_counted c.loop.counter (g.R.Source.reads c.args.reader.now) (g.R.Source.reads c.loop.reader) (g.R.Source.reads c.read.new.self) c.loop.invariant.6 c.in-Err.ensures.counted) (omega arith))
     c.loop.invariant.5
 
 pub returns-in-Err-clause-calls : goal.returns-in-Err-clause-calls
@@ -141,7 +141,7 @@ returns-in-Err-clause-broken g c = tt
 
 pub returns-clause-causes : goal.returns-clause-causes
 returns-clause-causes g c =
-    let all : c.loop.counter ≡ c.args.turns = omega arith in
+    let all : c.loop.counter ≡ c.args.max_reads = omega arith in
     let risen = subst (λ n. HasRisenBy n (g.R.Source.reads c.args.reader.now) (g.R.Source.reads c.loop.reader)) all c.loop.invariant.3 in
     let had = subst (λ n. HasRead n (g.R.Source.left c.args.reader.now) (g.R.Source.left c.loop.reader)) all c.loop.invariant.7 in
     ended_read (exchange g.R.Source g.W.Sink c.args.reader.now c.loop.reader c.args.writer.now c.loop.writer) c.loop.invariant.4 (inr (risen, had)) (omega (arith, c.loop.invariant.6)) c.loop.invariant.5

@@ -1,7 +1,7 @@
 use Rattle.std.proofs.Common.{Option, refl, subst}
 use Rattle.std.specs.Prelude.{IsSomeAnd}
 use Rattle.org_journal.specs.Recovered.{Image, SameFiles, contents}
-use Rattle.org_disk.specs.Accounts.{Accounts, LeavesOver}
+use Rattle.org_disk.specs.CountsFailures.{CountsFailures, LeavesOver}
 use Rattle.org_disk.specs.Names.{journal_name}
 use Rattle.org_fileset.specs.Replay.{IsAtRest}
 use Rattle.org_fileset.specs.Recovery.{IsReopened, RecoversAsBefore}
@@ -25,7 +25,7 @@ returns-in-Ok-clause-runs g c =
     let opens = c.in-Ok.ensures.opened.session in
     let here = of_disk d setup c.args.disk store begun c.set_group.ensures opens in
     let reopens = c.in-Ok.ensures.opens.reopens in
-    let counts = here (λ k. Accounts d c.args.disk k ⊥) c.in-Ok.ensures.opens.accounts in
+    let counts = here (λ k. CountsFailures d c.args.disk k ⊥) c.in-Ok.ensures.opens.accounts in
     let sound = is_sound d setup c.args.disk store begun c.set_group.ensures opens in
     let served =
     serves_lasting d laws.only_now laws.counts_now setup c.args.disk store begun c.set_group.ensures opens

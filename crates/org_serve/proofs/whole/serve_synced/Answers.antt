@@ -1,6 +1,6 @@
 use Rattle.std.proofs.Common.{◌≡◌, ℕ, List, refl, rules, subst}
 use Rattle.std.proofs.lemmas.Result.{IfOk-weaker}
-use Rattle.org_disk.specs.Accounts.{Accounts}
+use Rattle.org_disk.specs.CountsFailures.{CountsFailures}
 use Rattle.org_journal.specs.Recovered.{contents}
 use Rattle.org_journal.proofs.Accounted.{accounts_after}
 use Rattle.org_fileset.specs.Names.{AreFew}
@@ -68,7 +68,7 @@ returns-in-Ok-clause-runs g c = record {
       let mid = c.sync_files.new.disk in
       let last = c.serve_disk.result.disk in
       let synced = c.in-Ok.ensures.accounts in
-      accounts_after synced (subst (λ (n : ℕ). Accounts d mid last (SaysFailure c.serve_disk.result.end n (d.failures last))) (synced.equal ok_apart) c.serve_disk.ensures.runs.accounts);
+      accounts_after synced (subst (λ (n : ℕ). CountsFailures d mid last (SaysFailure c.serve_disk.result.end n (d.failures last))) (synced.equal ok_apart) c.serve_disk.ensures.runs.accounts);
 }
 
 pub returns-in-Err-clause-runs : goal.returns-in-Err-clause-runs

@@ -1,6 +1,6 @@
 use Rattle.std.proofs.Common.{ℕ, List, length, ap, subst, arith}
 use Rattle.org_outline.specs.States.{Keywords}
-use Rattle.org_state.specs.Edits.{moved, GivesRest}
+use Rattle.org_state.specs.Edits.{moved, RewritesRest}
 use Rattle.org_state.specs.Keyword.{with_keyword}
 use Rattle.org_state.proofs.Steps.{section_bounds, rest_before}
 use Rattle.org_state.proofs.own.keyword_edit.Goals as goal
@@ -27,6 +27,6 @@ returns-clause-edits c =
       own = edit;
       is = ap (λ (n : ℕ). moved n edit) b.start;
       gives =
-          subst (λ (r : List ℕ). GivesRest edit r (with_keyword c.args.outline.now.states c.args.word.now r)) c.rest-rest.ensures
-          (subst (λ (k : Keywords). GivesRest edit c.rest-rest.result.now (with_keyword k c.args.word.now c.rest-rest.result.now)) c.states.ensures.value c.in_ok-edit.ensures);
+          subst (λ (r : List ℕ). RewritesRest edit r (with_keyword c.args.outline.now.states c.args.word.now r)) c.rest-rest.ensures
+          (subst (λ (k : Keywords). RewritesRest edit c.rest-rest.result.now (with_keyword k c.args.word.now c.rest-rest.result.now)) c.states.ensures.value c.in_ok-edit.ensures);
     }

@@ -4,7 +4,7 @@ use Rattle.org_outline.specs.Tree.{Document, tree}
 use Rattle.org_outline.proofs.Trees.{tree-terminated}
 use Rattle.org_texts.specs.Texts.{bytes_or}
 use Rattle.org_move.specs.declared.fault.MoveFault.{MoveFault}
-use Rattle.org_move.specs.Answers.{GivesPlace}
+use Rattle.org_move.specs.Answers.{IsPlaceAs}
 use Rattle.org_move.specs.Location.{Destination}
 use Rattle.org_commands.specs.Files.{AreReady, OpenFiles}
 use Rattle.org_commands.specs.Headings.{HasHeading}
@@ -70,7 +70,7 @@ returns-in_err-to g c = plans_refused g.D.Disk c.args.states.now _ c.from_residu
     let told = archive s k.file k.path k.moment (text_at s.names s.files k.file) in
     let seen = held_bytes files.held k.file in
     let found = ap (λ (b : List ℕ). find_path c.args.states.now (tree b) k.path) (ap (λ (f : OpenFiles g.row.D.Denot). held_bytes f.held k.file) same ∙ ap (bytes_or []) c.held.ensures.text) ∙ sym c.heading_at.ensures.value ∙ c.in_ok-node.was in
-    let gives = subst (λ (r : Result Destination MoveFault). GivesPlace r c.find_location.result) (sym (place_is c.args.states.now k.file k.path seen c.in_ok-node.node found)) c.find_location.ensures.place in
+    let gives = subst (λ (r : Result Destination MoveFault). IsPlaceAs r c.find_location.result) (sym (place_is c.args.states.now k.file k.path seen c.in_ok-node.node found)) c.find_location.ensures.place in
     plans_not_fit s (session_in g.D.Disk c.args.states.now files tally) told files.held (fault_of_move c.in_err-to.field-0.0) c.from_residual-in_err-to.result c.from_residual-in_err-to.ensures.1 read
     (place_refused s k.file k.path k.moment own.0 seen c.find_location.result c.in_err-to.field-0.0 c.requires.between.unbroken own.1 own.2 c.in_err-to.was gives))
     (subst (λ (f : OpenFiles g.row.D.Denot). OnlyReads g.D.Disk c.args.files.now f c.from_residual-in_err-to.result) (sym c.find_location.ensures.same)

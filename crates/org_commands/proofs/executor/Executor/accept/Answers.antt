@@ -4,7 +4,7 @@ use Rattle.org_texts.specs.Texts.{TextSet, held_over}
 use Rattle.org_commands.specs.declared.command.Reply.{Reply}
 use Rattle.org_commands.specs.declared.command.RunFault.{RunFault}
 use Rattle.org_commands.specs.declared.command.RunFault.TheVariants.{Device}
-use Rattle.org_disk.specs.Accounts.{Accounts}
+use Rattle.org_disk.specs.CountsFailures.{CountsFailures}
 use Rattle.org_commands.specs.Files.{PutsPlan, files_of}
 use Rattle.org_commands.specs.InOrder.{texts_of}
 use Rattle.org_commands.specs.Keeping.{ExecutesTo}
@@ -78,7 +78,7 @@ returns-clause-unedited g c = c.count.ensures.unedited
 
 pub returns-clause-accounts : goal.returns-clause-accounts
 returns-clause-accounts g c =
-    subst (λ disk. Accounts g.D.Disk disk c.count.new.self.files.disk (IsErrOf c.count.result Device)) c.put.ensures.memory.disk c.count.ensures.accounts
+    subst (λ disk. CountsFailures g.D.Disk disk c.count.new.self.files.disk (IsErrOf c.count.result Device)) c.put.ensures.memory.disk c.count.ensures.accounts
 
 pub returns-in_err-put-clause-accounts : goal.returns-in_err-put-clause-accounts
 returns-in_err-put-clause-accounts g c =

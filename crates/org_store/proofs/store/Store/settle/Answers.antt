@@ -1,7 +1,7 @@
 use Rattle.std.proofs.Common.{◌≡◌, [], ap, inl, false, Ok, Err, refl, sym, subst, rules}
 use Rattle.org_journal.specs.Recovered.{contents}
 use Rattle.org_commands.specs.declared.command.RunFault.TheVariants.{Broken}
-use Rattle.org_disk.specs.Accounts.{LeavesOver}
+use Rattle.org_disk.specs.CountsFailures.{LeavesOver}
 use Rattle.org_fileset.specs.Writes.{LeavesAlone, IsOther}
 use Rattle.org_texts.specs.Texts.{Holding, TextSet, held_over}
 use Rattle.org_commands.specs.InOrder.{HoldsEither, texts_of}

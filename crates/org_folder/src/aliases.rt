@@ -3,10 +3,10 @@
 //! Two names of one file (links) would be written as two. It looks and changes nothing.
 ghost use Rattle.std.specs.Prelude.{◌≡◌, ◌⊎◌, ◌<◌, ℕ, [], length, IfOk, IfErr, IfSome, IfNone, IsTrue, IsFalse};
 ghost use Rattle.std.specs.List.{list_any};
-ghost use Rattle.org_folder.specs.Apart.{is_again, is_same, MayReport};
+ghost use Rattle.org_folder.specs.Aliases.{is_again, is_same, MayReport};
 ghost use Rattle.org_folder.specs.Right.{HaveNoFiles};
 ghost use Rattle.org_folder.specs.Calls.{IsHeld, OnlyLooks};
-ghost use Rattle.org_folder.specs.declared.apart.AliasFault.TheVariants.{Device, OutOfMemory};
+ghost use Rattle.org_folder.specs.declared.aliases.AliasFault.TheVariants.{Device, OutOfMemory};
 
 use crate::list::ListFault;
 use crate::system::System;

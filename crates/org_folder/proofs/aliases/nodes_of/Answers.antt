@@ -1,6 +1,6 @@
 use Rattle.std.proofs.Common.{rules}
 use Rattle.org_folder.proofs.Looked.{looks_on}
-use Rattle.org_folder.proofs.apart.nodes_of.Goals as goal
+use Rattle.org_folder.proofs.aliases.nodes_of.Goals as goal
 
 pub returns-in_err-node-clause-looks : goal.returns-in_err-node-clause-looks
 returns-in_err-node-clause-looks g c =

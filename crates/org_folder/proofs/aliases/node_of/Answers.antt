@@ -1,5 +1,5 @@
 use Rattle.org_folder.proofs.Looked.{look_made}
-use Rattle.org_folder.proofs.apart.node_of.Goals as goal
+use Rattle.org_folder.proofs.aliases.node_of.Goals as goal
 
 pub returns-in_err-found-clause-looks : goal.returns-in_err-found-clause-looks
 returns-in_err-found-clause-looks g c =

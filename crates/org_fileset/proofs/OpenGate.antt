@@ -12,7 +12,7 @@ use Rattle.org_journal.specs.declared.record.Entry.{Entry}
 use Rattle.org_journal.specs.Gate.{front_size, is_open, HasClosedGate, LeavesBody}
 use Rattle.org_journal.specs.Reading.{journal_at}
 use Rattle.org_journal.specs.Record.{is_named}
-use Rattle.org_journal.specs.Recovered.{Image, SameFiles, RecoversTo, IsArmed, contents}
+use Rattle.org_journal.specs.Recovered.{Image, SameFiles, RecoversTo, IsOpenOverRecord, contents}
 use Rattle.org_fileset.specs.Replay.{TakesTo, AreApplicable, EachTakes, LeavesTaking, Replays, IsOpenOver, IsReplayable, IsAtRest}
 use Rattle.org_fileset.proofs.Takes.{journal_unnamed}
 use Rattle.org_fileset.proofs.Recovers.{recovers_open, recovers_closed}
@@ -36,8 +36,8 @@ taking_recovers entries texts journal applicable opened found image left =
     recovers_open entries texts image applicable (ap is_open left.same_journal ∙ opened) (ap (λ (l : List ℕ). journal_at (drop 1 l)) left.same_journal ∙ found) left.each
 
 -- such a disk is one with an open record
-pub replayable_armed : (entries : List Entry) (files : List ℕ → FileState) → AreApplicable entries → IsOpenOver entries files → IsReplayable entries files → IsArmed files
-replayable_armed entries files applicable is can = record {
+pub replayable_open : (entries : List Entry) (files : List ℕ → FileState) → AreApplicable entries → IsOpenOver entries files → IsReplayable entries files → IsOpenOverRecord files
+replayable_open entries files applicable is can = record {
   stable = is.stable;
   opened = is.opened;
   entries = entries;

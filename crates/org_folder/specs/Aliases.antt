@@ -1,9 +1,9 @@
 -- Which of a list of names leads to the file of one before it.
 use Rattle.std.specs.Prelude.{ℕ, Bool, false, ◌&&◌, nat_eq, List, get_or, take, drop, Option, Some, None}
 use Rattle.std.specs.List.{Contains, list_any}
-use Rattle.org_folder.specs.declared.apart.Node.{Node}
-use Rattle.org_folder.specs.declared.apart.AliasFault.{AliasFault}
-use Rattle.org_folder.specs.declared.apart.AliasFault.TheVariants.{SameFile, Device, OutOfMemory}
+use Rattle.org_folder.specs.declared.aliases.Node.{Node}
+use Rattle.org_folder.specs.declared.aliases.AliasFault.{AliasFault}
+use Rattle.org_folder.specs.declared.aliases.AliasFault.TheVariants.{SameFile, Device, OutOfMemory}
 
 -- both are files, and they are one
 abbrev pub is_same : Option Node → Option Node → Bool

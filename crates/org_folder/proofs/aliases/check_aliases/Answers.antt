@@ -1,7 +1,7 @@
 use Rattle.std.proofs.Common.{◌<◌, ◌∙◌, ap, sym, subst, length, drop, arith}
 use Rattle.std.specs.List.{Contains}
 use Rattle.org_folder.proofs.Places.{not_first, behind_first}
-use Rattle.org_folder.proofs.apart.check_aliases.Goals as goal
+use Rattle.org_folder.proofs.aliases.check_aliases.Goals as goal
 
 pub returns-in_ok-clone-in-Some-clause-fault : goal.returns-in_ok-clone-in-Some-clause-fault
 returns-in_ok-clone-in-Some-clause-fault g c =

@@ -10,7 +10,7 @@ use Rattle.org_disk.specs.declared.disk.Disk.{Ghosts}
 
 -- What a call makes of a disk's honesty and of its count of failures: the count rises, or is at its
 -- greatest, where the call answers the disk's fault (`Failed`), and stays where it doesn't.
-pub record Accounts {D : Type 0} (g : Ghosts D) (old new : D) (Failed : Type 0) : Type 0 where
+pub record CountsFailures {D : Type 0} (g : Ghosts D) (old new : D) (Failed : Type 0) : Type 0 where
   -- a wrong answer may end honesty, and nothing brings it back
   pub was_honest : g.honest new → g.honest old
   -- a truthful disk stays honest
