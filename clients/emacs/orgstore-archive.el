@@ -4,19 +4,16 @@
 ;;; Commentary:
 
 ;; `orgstore-archive-done' archives many entries by Org's own
-;; `org-archive-subtree', in groups that each are one step: a quit in the middle
-;; leaves each entry in one place.
+;; `org-archive-subtree', as one step: a quit in the middle keeps what is archived
+;; by then, and leaves each entry in one place.
 
 ;;; Code:
 
 (require 'org)
 (require 'org-archive)
-(require 'seq)
 (require 'orgstore-step)
 
 (defvar org-element--cache-interrupt-C-g) ; Else Org 9.7 takes a quit for its own.
-(defconst orgstore--archive-group 25
-  "How many entries are archived as one step.")
 
 (defun orgstore--closed-p (days)
   "Whether the entry at point was closed at least so many DAYS ago."
@@ -50,29 +47,24 @@ with DAYS, were closed at least so many days ago."
           (org-end-of-subtree t t))))
     (nreverse found)))
 
-(defun orgstore--archive-group (markers)
-  "Archive the entries at MARKERS.
-Return how many were, and whether the user quit between two of them."
-  (let ((count 0) (inhibit-quit t) (inhibit-message t)
-        org-element--cache-interrupt-C-g)
+(defun orgstore--archive-entries (markers)
+  "Archive the entries at MARKERS until the user quits; return how many were."
+  (let* ((all (length markers)) (done 0) (inhibit-quit t)
+         (progress (make-progress-reporter "Archiving..." 0 all))
+         org-element--cache-interrupt-C-g)
     (while (and markers (not quit-flag))
       (goto-char (pop markers))
-      (org-archive-subtree)
-      (setq count (1+ count)))
-    (cons count (prog1 quit-flag (setq quit-flag nil)))))
+      (let ((inhibit-message t)) (org-archive-subtree))
+      (setq done (1+ done))
+      (progress-reporter-update progress done))
+    (setq quit-flag nil)
+    done))
 
 (defun orgstore--archive-all (markers)
-  "Archive the entries at MARKERS, and say how far that came."
+  "Archive the entries at MARKERS as one step, and say how far that came."
   (let* ((all (length markers))
-         (progress (make-progress-reporter "Archiving..." 0 all))
-         (done 0) stopped)
-    (dolist (group (seq-partition markers orgstore--archive-group))
-      (unless stopped
-        (pcase-let ((`(,count . ,quit)
-                     (orgstore-as-step #'orgstore--archive-group group)))
-          (setq done (+ done count) stopped quit)
-          (progress-reporter-update progress done))))
-    (message (if stopped "Stopped: %d of %d subtrees are archived"
+         (done (orgstore-as-step #'orgstore--archive-entries markers)))
+    (message (if (< done all) "Stopped: %d of %d subtrees are archived"
                "Archived %d of %d subtrees")
              done all)))
 

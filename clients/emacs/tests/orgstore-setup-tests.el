@@ -213,12 +213,12 @@
 (ost-scenario archive-done (list (cons "a.org" ost-done))
   (ost-open "a.org")
   (let ((titles (append '("B" "D") (mapcar (lambda (i) (format "E%d" i)) (number-sequence 1 60)))))
-    (ost-cmd 3 (if ost-plain (ost-archive-by-hand titles)
+    (ost-cmd 1 (if ost-plain (ost-archive-by-hand titles)
                  (orgstore-archive-done 'buffer)))))
 
 (ost-scenario archive-done-days (list (cons "a.org" ost-done))
   (ost-open "a.org" "E59")
-  (ost-cmd 3 (if ost-plain
+  (ost-cmd 1 (if ost-plain
                  (ost-archive-by-hand (mapcar (lambda (i) (format "E%d" i)) (number-sequence 1 60)))
                (orgstore-archive-done 'buffer 10)))
   (ost-open "a.org" "C")
@@ -229,13 +229,17 @@
          (org-archive-hook (list (lambda ()
                                    (when (= 30 (cl-incf count)) (setq quit-flag t))))))
     (ost-open "a.org")
-    (ost-cmd 2 (orgstore-archive-done 'buffer))
+    (ost-cmd 1 (orgstore-archive-done 'buffer))
     (should (= 30 count))
     (should (= 30 (ost-how-many "^:ARCHIVE_TIME:\\|^:ARCHIVE_OLPATH:" 
                                (replace-regexp-in-string ":ARCHIVE_OLPATH:.*" ""
                                                          (ost-disk "a.org_archive")))))
-    (ost-cmd 2 (orgstore-archive-done 'buffer))
-    (should (= 62 count))))
+    (ost-cmd 1 (orgstore-archive-done 'buffer))
+    (should (= 62 count))
+    (ost-cmd 1 (orgstore-undo-last))
+    (should (= 30 (ost-how-many "^:ARCHIVE_TIME:" (ost-disk "a.org_archive"))))
+    (ost-cmd 1 (orgstore-undo-last))
+    (should (equal ost-done (ost-disk "a.org")))))
 
 (provide 'orgstore-setup-tests)
 ;;; orgstore-setup-tests.el ends here
