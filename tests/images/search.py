@@ -1,4 +1,4 @@
-"""Chains of sessions over one folder, each from where the one before was stopped; and what is told of them.
+"""Chains of sessions over one folder, each from where the one before was stopped; and the reports on them.
 
 The next session begins at a random point of the last one's trace: after a power cut, with one image of the disk; or
 after a kill, with what the system still holds, of which a later power cut may take what wasn't synced.
@@ -204,7 +204,7 @@ def following(run: Run, maker: Maker, rng: random.Random) -> Session:
     return replace(session, disk=stable(image), before=allowed or frozenset([files_of(image)]))
 
 
-# -- what is told
+# -- reports
 
 def mutant_table(tally: Tally) -> List[str]:
     form = "%-44s %8s %9s %11s"

@@ -1,5 +1,5 @@
 // Preloaded into a program, it refuses one of its allocations: the one whose number, from 1, is in REFUSE. With 0 it
-// refuses none, and tells on standard error how many there were.
+// refuses none, and writes to standard error how many there were.
 #include "preload.h"
 #include <stdio.h>
 

@@ -132,7 +132,7 @@
   (should (equal "* New\n" (ost-disk "b.org")))
   (cl-letf (((symbol-function 'yes-or-no-p) (lambda (_) t))) (ost-cmd 1 (save-some-buffers t))))
 
-;; A hook of the user's that fails behind the write: all is saved, and it is told.
+;; A hook of the user's that fails behind the write: all is saved, and it is reported.
 (ost-alone failing-after-save-hook ost-ab
   (ost-open "a.org")
   (let ((after-save-hook (list (lambda () (when (equal (buffer-name) "b.org") (error "Mine"))))))

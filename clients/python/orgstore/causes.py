@@ -1,4 +1,4 @@
-"""Why the machine refuses: what a folder and its files tell of it. Each function looks, and changes nothing."""
+"""Why the machine refuses: what a folder and its files show of it. Each function looks, and changes nothing."""
 from __future__ import annotations
 
 import errno

@@ -317,7 +317,7 @@ def _of_command(command: Command, code: int, files: Files) -> str:
 
 
 def refusal(reply: bytes, command: Command, files: Files) -> Refused:
-    """The refusal that a reply tells, with what it is about."""
+    """The refusal in a reply, with what it is about."""
     number, _, name = reply.partition(b" ")
     code = int(number)
     found = _of_place(command, code, files) if code in (NoSuchFile.code, NotFound.code, NotUnique.code) else None

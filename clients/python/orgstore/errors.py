@@ -31,7 +31,7 @@ class CannotOpen(Error):
 
     `name` is the program's word for it (`Locked`, `BadJournal`, `Device`, `SameFile NAME`, `TooLarge NAME`,
     `TooManyFiles`, `OutOfMemory`, `bad name NAME`, `bad states`, `usage`), `said` its line on standard error, `status`
-    its exit status. Of a `Device`, `cause` and `file` tell why, and `why` is a sentence on it.
+    its exit status. Of a `Device`, `cause` and `file` say why, and `why` is a sentence on it.
     """
 
     def __init__(self, message: str, *, name: str = "", said: str = "", status: int = 3, cause: Cause = "",
@@ -60,7 +60,7 @@ class Fault(Error):
     """The machine failed, not the command. `name` is `OutOfMemory` (nothing changed; go on), `Device` (a call of the
     disk failed), `Broken` (one failed before), or how the program ended. The first `safe` commands are on the disk.
 
-    Of a `Device`, `cause` and `file` tell why, and `why` is a sentence on it. `done` says what became of the commands
+    Of a `Device`, `cause` and `file` say why, and `why` is a sentence on it. `done` says what became of the commands
     behind the safe ones: False where nothing of them was written, True where opening the folder again finishes them,
     None where it finishes or forgets each.
     """
@@ -128,7 +128,7 @@ class Refused(Error):
 
 
 class CannotWrite(Refused):
-    """A file of the command can't be written or made, so the command wasn't given to the program. `cause` tells why,
+    """A file of the command can't be written or made, so the command wasn't given to the program. `cause` says why,
     and `why` is a sentence on it."""
 
     code, name = 0, "CannotWrite"

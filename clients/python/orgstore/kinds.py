@@ -29,7 +29,7 @@ Target = Union[Top, Head, Under, Date]
 """Where a capture goes."""
 
 Cause = Literal["no-folder", "permission", "name", "link", "kind", "full", "read-only", "device", ""]
-"""Why the machine failed, as far as the folder tells it: there is no such folder; a file or the folder may not be read
+"""Why the machine failed, as far as the folder shows it: there is no such folder; a file or the folder may not be read
 or written; an entry's name isn't UTF-8; a link leads in a circle or nowhere, or gives a file a second name; what has a
 file's name is none; the disk is full; it is mounted read-only; a call of the disk failed, and nothing of that is seen.
 It is empty where nothing was looked for."""

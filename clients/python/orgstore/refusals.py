@@ -1,4 +1,4 @@
-"""What a refusal is about, as far as the files tell it, and what to do next."""
+"""What a refusal is about, as far as the files show it, and what to do next."""
 from __future__ import annotations
 
 import re

@@ -431,7 +431,7 @@ class Store:
         self._writable.add(name)
 
     def _streamed(self, process: Process, commands: Iterable[Command]) -> Iterator[Union[Done, Refused]]:
-        """The answers to commands, in their order, each as it comes; some two groups are on the way at once."""
+        """The answers to commands, in their order, each as it comes; some two groups are sent ahead of them."""
         from collections import deque  # slow to load
 
         due: deque[Union[Command, Refused]] = deque()
@@ -570,7 +570,7 @@ class Store:
                         "finishes or forgets each other command" % (number, self._safe_words()), safe=self.acknowledged)
 
     def _fault(self, name: str) -> Union[Fault, Changed]:
-        """What is raised for a fault that the program told, or for its end."""
+        """What is raised for a fault that the program reported, or for its end."""
         if name == "Device" and not self._broken:
             return self._device()
         advice = {
@@ -584,7 +584,7 @@ class Store:
                      cause=why.cause if why else "", file=why.file if why else "", why=why.sentence if why else "")
 
     def _device(self) -> Union[Fault, Changed]:
-        """A call of the disk failed: says why, as far as the folder tells it, and what became of the command."""
+        """A call of the disk failed: says why, as far as the folder shows it, and what became of the command."""
         self._broken = True
         now, journal = self._look(), look_at_journal(self._place)
         untouched = journal == self._journal

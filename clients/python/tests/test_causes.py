@@ -152,7 +152,7 @@ class Saver(FolderTest):
             self.assert_files(folder, {"a.org": "* saved\n* 1\n"})
 
     def test_behind_the_commit(self) -> None:
-        """A file that was replaced with an older text is told; the store goes on over it."""
+        """A file that was replaced with an older text is reported; the store goes on over it."""
         folder = self.folder({"a.org": "* A\n", "b.org": "* B\n"})
         with Store(folder) as store:
             store.capture("a.org", "* 1")
@@ -179,14 +179,14 @@ class Saver(FolderTest):
                 store.capture("a.org", "* 1")
 
     def test_the_same_text(self) -> None:
-        """What a program saved that had read the change isn't told as lost."""
+        """What a program saved that had read the change isn't reported as lost."""
         folder = self.folder({"a.org": "* A\n"})
         with Store(folder) as store:
             self.before(store, "_keep_marks", lambda: self.save(folder, "* A\n* 1\n"))
             self.assertEqual(store.capture("a.org", "* 1"), Done(1, 1))
 
     def test_among_many(self) -> None:
-        """The commands that weren't safe are given up, what was saved stays, and it is told that it may lack others."""
+        """The commands that weren't safe are given up, what was saved stays, and the error says it may lack some."""
         folder = self.folder({"a.org": ""})
 
         def commands() -> Any:

@@ -183,7 +183,7 @@ class Faults(FolderTest):
         self.assert_files(folder, {"a.org": "* A\n* B\n"})
 
     def test_an_end_that_fails(self) -> None:
-        """What is pending at the end and can't be put on the disk is told by `close`."""
+        """What is pending at the end and can't be put on the disk is reported by `close`."""
         for name in ("Unsettled", "Read", "Write"):
             ended = self.script("read -r line", "echo safe 0", "read -r line", "echo ok 1", "read -r line",
                                 "echo 'orgstore: %s' >&2" % name, "exit 1")
@@ -196,7 +196,7 @@ class Faults(FolderTest):
                 % name))
 
     def test_an_error_in_the_block_and_an_end_that_fails(self) -> None:
-        """Both are told."""
+        """Both are reported."""
         ended = self.script("read -r line", "echo safe 0", "read -r line", "echo ok 1", "read -r line",
                             "echo 'orgstore: Unsettled' >&2", "exit 1")
         with self.assertRaises(Fault) as caught, Store(self.folder({}), ended, group=2) as store:

@@ -92,7 +92,7 @@ class Many(FolderTest):
         self.assertEqual((caught.exception.name, caught.exception.safe, store.closed), ("OutOfMemory", 1, True))
 
     def test_sigpipe(self) -> None:
-        """A program that is gone is told, also where SIGPIPE would end this process."""
+        """A program that is gone is reported, also where SIGPIPE would end this process."""
         old = signal.signal(signal.SIGPIPE, signal.SIG_DFL)
         self.addCleanup(signal.signal, signal.SIGPIPE, old)
         gone = self.script("read -r line", "echo safe 0", "exec 0<&-", "exit 7")
