@@ -35,15 +35,16 @@ from .light import TYPE_CHECKING
 
 if TYPE_CHECKING:
     from .commands import (Archive, Capture, CaptureTemplate, ClockIn, ClockOut, Command, Done, Edit, Refile, Todo)
-    from .errors import (AlreadyArchive, BadEntry, BadLine, BadLocation, BadRepeat, BadTemplate, CannotOpen, CannotRead,
-                         CannotWrite, Changed, ClockBackwards, Closed, DateRange, Died, Error, Fault, InsideItself,
-                         Locked, Misused, NoClock, NoProgram, NoSuchFile, NotFound, NotThere, NotUnique, OddPlanning,
-                         Refused, TimedOut, TooLarge, UnknownState)
+    from .errors import (CannotOpen, CannotRead, CannotWrite, Changed, Closed, Died, Error, Fault, Locked, Misused,
+                         NoProgram, Refused, TimedOut)
     from .heading import Heading, headings, lookup
     from .keywords import States
     from .kinds import Cause, Moment, Order, Path, Target, Text
     from .lines import Nth, titles
     from .process import program
+    from .refused import (AlreadyArchive, BadEntry, BadLine, BadLocation, BadRepeat, BadTemplate, ClockBackwards,
+                          DateRange, InsideItself, NoClock, NoSuchFile, NotFound, NotThere, NotUnique, OddPlanning,
+                          TooLarge, UnknownState)
     from .store import Store, many
     from .targets import Date, Head, Top, Under
 
@@ -63,6 +64,8 @@ __all__ = [
 _MODULES = {
     "commands": ("Archive", "Capture", "CaptureTemplate", "ClockIn", "ClockOut", "Command", "Done", "Edit", "Refile",
                  "Todo"),
+    "errors": ("CannotOpen", "CannotRead", "CannotWrite", "Changed", "Closed", "Died", "Error", "Fault", "Locked",
+               "Misused", "NoProgram", "Refused", "TimedOut"),
     "heading": ("Heading", "headings", "lookup"),
     "keywords": ("States",),
     "kinds": ("Cause", "Moment", "Order", "Path", "Target", "Text"),
@@ -81,7 +84,7 @@ def __getattr__(name: str) -> object:
     if name == "__version__":
         found: object = import_module(".version", __name__).version()
     else:
-        module = next((module for module, names in _MODULES.items() if name in names), "errors")
+        module = next((module for module, names in _MODULES.items() if name in names), "refused")
         found = getattr(import_module("." + module, __name__), name)
     globals()[name] = found
     return found

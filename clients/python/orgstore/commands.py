@@ -1,12 +1,9 @@
 """The commands of a store, and the answers to them."""
 from __future__ import annotations
 
-from .errors import (REFUSALS, BadEntry, BadLine, BadRepeat, BadTemplate, DateRange, InsideItself, NoSuchFile, NotFound,
-                     NotUnique, OddPlanning, Refused, UnknownState)
 from .light import TYPE_CHECKING, record
-from .lines import as_bytes, field_of, line_of, moment_field, path_field, place_field, titles
-from .names import name_fault
-from .targets import Date, Top, Under
+from .lines import as_bytes, field_of, line_of, moment_field, path_field, place_field
+from .targets import Top, Under
 
 if TYPE_CHECKING:
     from typing import List, Optional, Tuple
@@ -39,8 +36,8 @@ class Command:
         """The files that the command names, and where in each."""
         return []
 
-    def _why(self, code: int, files: Files) -> Optional[str]:
-        """What this command alone knows of a refusal."""
+    def why_refused(self, name: str, files: Files) -> Optional[str]:
+        """What this command alone knows of a refusal of this name."""
         return None
 
 
@@ -67,8 +64,8 @@ class Capture(Command):
     def places(self) -> List[Tuple[str, Optional[Target]]]:
         return [(self.file, self.to)]
 
-    def _why(self, code: int, files: Files) -> Optional[str]:
-        if code != BadEntry.code:
+    def why_refused(self, name: str, files: Files) -> Optional[str]:
+        if name != "BadEntry":
             return None
         from .refusals import entry_fault  # refusals are rare, here and below
 
@@ -94,8 +91,8 @@ class CaptureTemplate(Command):
     def places(self) -> List[Tuple[str, Optional[Target]]]:
         return [(self.file, self.to)]
 
-    def _why(self, code: int, files: Files) -> Optional[str]:
-        if code != BadTemplate.code:
+    def why_refused(self, name: str, files: Files) -> Optional[str]:
+        if name != "BadTemplate":
             return None
         from .refusals import template_fault
 
@@ -192,12 +189,12 @@ class Archive(_AtHeading):
     def line(self) -> bytes:
         return line_of(b"archive", field_of(self.file), path_field(self.path), moment_field(self.moment))
 
-    def _why(self, code: int, files: Files) -> Optional[str]:
-        if code == InsideItself.code:
+    def why_refused(self, name: str, files: Files) -> Optional[str]:
+        if name == "InsideItself":
             return "its archive location is the entry itself, or lies in it: archive what is below it"
-        if code not in (NoSuchFile.code, NotUnique.code) or not files.has(self.file, self.path):
+        if name not in ("NoSuchFile", "NotUnique") or not files.has(self.file, self.path):
             return None
-        named = "a file that the store doesn't have" if code == NoSuchFile.code else "a heading that is there twice"
+        named = "a file that the store doesn't have" if name == "NoSuchFile" else "a heading that is there twice"
         return "its archive location names %s: mend its ARCHIVE property, or the file's #+ARCHIVE: line" % named
 
 
@@ -212,14 +209,14 @@ class Todo(_AtHeading):
         return line_of(b"todo", field_of(self.file), path_field(self.path), field_of(self.state or ""),
                        moment_field(self.moment))
 
-    def _why(self, code: int, files: Files) -> Optional[str]:
-        if code == UnknownState.code:
+    def why_refused(self, name: str, files: Files) -> Optional[str]:
+        if name == "UnknownState":
             sentence = "'%s' isn't one of the states %s: choose one, or open the store with others"
             return sentence % (self.state, files.states)
-        if code in (OddPlanning.code, BadRepeat.code, DateRange.code):
+        if name in ("OddPlanning", "BadRepeat", "DateRange"):
             from .refusals import ADVICE
 
-            return ADVICE[code] + files.planning(self.file, self.path)
+            return ADVICE[name] + files.planning(self.file, self.path)
         return None
 
 
@@ -289,46 +286,3 @@ class Done:
 
     accepted: int
     safe: Optional[int] = None
-
-
-def _of_place(command: Command, code: int, files: Files) -> Optional[Refused]:
-    """The refusal of the first place that the command can't find, where that is why it was refused."""
-    for file, target in command.places():
-        refused = files.fault(file, target)
-        if refused and refused.code == code:
-            return refused.of(file)
-    return None
-
-
-def _of_command(command: Command, code: int, files: Files) -> str:
-    """What is said of a refusal that isn't of a place, or whose place can't be looked into."""
-    from .refusals import ADVICE, no_file
-
-    said = command._why(code, files)
-    if said:
-        return said
-    names = [file for file, _ in command.places()]
-    if code == NoSuchFile.code and len(names) == 1 and not isinstance(command, Archive):
-        return no_file(names[0])
-    if code == BadLine.code:
-        faults = [fault for fault in map(name_fault, names) if fault]
-        return faults[0] if faults else ADVICE[code]
-    return ADVICE.get(code, "the program refused it")
-
-
-def refusal(reply: bytes, command: Command, files: Files) -> Refused:
-    """The refusal in a reply, with what it is about."""
-    number, _, name = reply.partition(b" ")
-    code = int(number)
-    found = _of_place(command, code, files) if code in (NoSuchFile.code, NotFound.code, NotUnique.code) else None
-    if found:
-        return found
-    file, target = (command.places() or [("", None)])[0]
-    path = titles(target.path) if isinstance(target, (Under, Date)) else ()
-    from .phrases import short_path
-
-    place = [file] if file else []
-    if path:
-        place.append(short_path(path))
-    message = ": ".join(place + [_of_command(command, code, files)])
-    return REFUSALS.get(code, Refused)(message, file=file, path=path, code=code, name=name.decode())

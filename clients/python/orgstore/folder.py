@@ -1,12 +1,11 @@
 """A folder of Org files, read without a lock, and opened as a store for what changes it."""
 from __future__ import annotations
 
-import os
 import time
 
 from .errors import CannotRead
 from .keywords import states_of
-from .light import TYPE_CHECKING
+from .light import TYPE_CHECKING, os
 from .marks import look_at_journal
 from .names import ARCHIVE, is_archive, is_file_name, own_name
 

@@ -1,7 +1,6 @@
 """The headings of a text, by the store's own rules: their parts, their paths, their subtrees."""
 from __future__ import annotations
 
-from .errors import NotFound, NotUnique
 from .keywords import States, parts_of
 from .light import TYPE_CHECKING, pattern, record
 from .lines import Nth, as_bytes, steps, titles
@@ -122,12 +121,16 @@ def lookup(found: Sequence[Heading], path: Path) -> Heading:
             raise _not_one(titles(way[:depth + 1]), alike, children, found)
         first, last = bisect.bisect_right(starts, alike[0].start), bisect.bisect_left(starts, alike[0].end)
     if not way:
+        from .refused import NotFound  # refusals are rare, here and below
+
         raise NotFound("a path needs one title at least; the list is empty")
     return alike[0]
 
 
 def _not_one(path: Tuple[str, ...], alike: List[Heading], children: List[Heading], found: Sequence[Heading]) -> Refused:
     """Why the last title of a path leads to no heading, or to several."""
+    from .refused import NotFound, NotUnique
+
     where = "below %s" % quoted(path[:-1]) if path[:-1] else "at the top level"
     if alike:
         lines, title = listed([str(heading.line) for heading in alike]), short(path[-1])

@@ -1,22 +1,32 @@
 """Stand-ins for modules of the standard library that take longer to load than a command of `orgs` takes.
 
 `record` is `dataclasses.dataclass`, `pattern` is `re.compile` and `cached` is `functools.cached_property`, as far as
-this package uses them; `signals` is `signal` without its enumerations. Type checkers see the originals. What a command
-seldom needs is imported where it is needed.
+this package uses them; `signals` is `signal` without its enumerations. `os` has the system's calls and what is common
+of `os.path`; for the rest it loads the original, which takes a tenth of a capture. Type checkers see the originals, and
+programs that have loaded `os` use it. `Finder` finds the modules of this package. What a command seldom needs is
+imported where it is needed.
 """
 from __future__ import annotations
 
-__all__ = ["TYPE_CHECKING", "cached", "cast", "pattern", "record", "signals"]
+import sys
+
+__all__ = ["TYPE_CHECKING", "Finder", "cached", "cast", "os", "pattern", "record", "signals"]
 
 TYPE_CHECKING = False
 if TYPE_CHECKING:
     from dataclasses import dataclass as record
     from functools import cached_property as cached
+    from importlib.machinery import ModuleSpec, SourceFileLoader
+    from importlib.util import spec_from_file_location
     from re import compile as pattern
-    from typing import cast
+    from typing import Optional, cast
+    import os as os
     import signal as signals
 else:
+    from _frozen_importlib_external import SourceFileLoader, spec_from_file_location
+    from _stat import S_ISDIR, S_ISREG
     import _signal as signals
+    import posix
 
     def cast(kind, value):
         """The value, which is of this kind."""
@@ -123,3 +133,107 @@ else:
                 rows.append((name, "object", getattr(owner, name)) if hasattr(owner, name) else (name, "object"))
             like = dataclasses.make_dataclass(owner.__name__, rows)
             return inspect.signature(like) if self._what == "signature" else like.__dataclass_fields__
+
+    class _Path:
+        """`os.path` for paths that are text. What isn't here is the original's."""
+
+        def __getattr__(self, name):
+            import os
+
+            return getattr(os.path, name)
+
+        def join(self, path, *more):
+            for part in more:
+                between = "" if not path or path.endswith("/") else "/"
+                path = part if part.startswith("/") else path + between + part
+            return path
+
+        def split(self, path):
+            at = path.rfind("/") + 1
+            return path[:at].rstrip("/") or path[:at], path[at:]
+
+        def dirname(self, path):
+            return self.split(path)[0]
+
+        def basename(self, path):
+            return self.split(path)[1]
+
+        def exists(self, path):
+            return _mode(path) is not None
+
+        def isfile(self, path):
+            return S_ISREG(_mode(path) or 0)
+
+        def isdir(self, path):
+            return S_ISDIR(_mode(path) or 0)
+
+        def abspath(self, path):
+            parts = []
+            for part in (path if path.startswith("/") else self.join(posix.getcwd(), path)).split("/"):
+                if part == "..":
+                    del parts[-1:]
+                elif part not in ("", "."):
+                    parts.append(part)
+            return "/" + "/".join(parts)
+
+        def realpath(self, path):
+            try:  # the system knows the real path of what is open
+                stream = posix.open(path, posix.O_PATH | posix.O_CLOEXEC)
+                try:
+                    return _System.fsdecode(posix.readlink("/proc/self/fd/%d" % stream))
+                finally:
+                    posix.close(stream)
+            except OSError:
+                return self.__getattr__("realpath")(path)
+
+    def _mode(path):
+        """The type of a file and who may use it; None where there is none."""
+        try:
+            return posix.stat(path).st_mode
+        except (OSError, ValueError):
+            return None
+
+    class _System:
+        """`os`: the system's calls, and what is common besides them. All else is the original's."""
+
+        def __init__(self):
+            self.path = _Path()
+            self.environ = {self.fsdecode(name): self.fsdecode(value) for name, value in posix.environ.items()}
+
+        def __getattr__(self, name):
+            if not hasattr(posix, name):
+                import os
+
+                return getattr(os, name)
+            found = self.__dict__[name] = getattr(posix, name)
+            return found
+
+        @staticmethod
+        def fsdecode(text):
+            return text.decode("utf-8", "surrogateescape") if isinstance(text, bytes) else text
+
+        @staticmethod
+        def fsencode(text):
+            return text.encode("utf-8", "surrogateescape") if isinstance(text, str) else text
+
+    # Python's `site` loads it, without which `orgs` runs
+    os = sys.modules.get("os") or _System()
+
+
+class Finder:
+    """Finds the modules of this package by their names, for `sys.meta_path`. Python's own finders look through folders
+    for each of them, which takes longer than to load it; its own loader does the rest."""
+
+    packages = ("orgstore", "orgstore.cli")
+
+    def __init__(self, folder: str) -> None:
+        self._folder = folder
+
+    def find_spec(self, name: str, path: object = None, target: object = None) -> Optional[ModuleSpec]:
+        """Where a module is; None for one of another package."""
+        if name.partition(".")[0] != "orgstore":
+            return None
+        place = "%s/%s" % (self._folder, name.replace(".", "/"))
+        file, inside = (place + "/__init__.py", [place]) if name in self.packages else (place + ".py", None)
+        return spec_from_file_location(name, file, loader=SourceFileLoader(name, file),
+                                       submodule_search_locations=inside)

@@ -3,7 +3,6 @@ from __future__ import annotations
 
 import time
 
-from .errors import BadLine, NotFound
 from .light import TYPE_CHECKING, pattern, record
 
 if TYPE_CHECKING:
@@ -44,6 +43,8 @@ def path_field(path: Path) -> bytes:
     """A path of one title or more as a field."""
     given = steps(path)
     if not given:
+        from .refused import NotFound  # refusals are rare, here and below
+
         raise NotFound("a path needs one title at least; the list is empty")
     return as_bytes(path_text(given))
 
@@ -82,6 +83,8 @@ def steps(path: Path, strict: bool = True) -> Tuple[Step, ...]:
             return _ESCAPED[found[1]]
         if not strict:
             return found[0]
+        from .refused import BadLine
+
         raise BadLine("the path '%s' has a backslash that stands for nothing: write \\\\ for a backslash, \\s for a "
                       "slash, or give a list of titles" % path)
 
@@ -130,6 +133,8 @@ def line_of(*fields: bytes) -> bytes:
     """The line of these fields, its newline with it."""
     line = b"\t".join(fields)
     if len(line) > LINE_LIMIT:
+        from .refused import BadLine
+
         raise BadLine("as a line the command has %d bytes, and the program takes %d (a newline, a tab and a backslash "
                       "count twice): capture less at once" % (len(line), LINE_LIMIT))
     return line + b"\n"

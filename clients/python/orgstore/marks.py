@@ -1,10 +1,9 @@
 """Whether another program wrote a file: what the system tells of each file of a folder, before and after a command."""
 from __future__ import annotations
 
-import os
-import stat
+from _stat import S_ISREG
 
-from .light import TYPE_CHECKING, record
+from .light import TYPE_CHECKING, os, record
 from .names import JOURNAL
 
 if TYPE_CHECKING:
@@ -35,7 +34,7 @@ def look(folder: str, only: Optional[Iterable[str]] = None) -> Dict[str, Mark]:
                 known = os.stat(os.path.join(folder, name))
             except OSError:
                 continue
-            if stat.S_ISREG(known.st_mode):
+            if S_ISREG(known.st_mode):
                 marks[name] = mark_of(known)
         return marks
     try:

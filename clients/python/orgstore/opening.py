@@ -1,10 +1,8 @@
 """How a store is opened: the program is started on a folder, and answers once that is open."""
 from __future__ import annotations
 
-import os
-
 from .errors import CannotOpen, Died, Locked, NoProgram, TimedOut
-from .light import TYPE_CHECKING, record
+from .light import TYPE_CHECKING, os, record
 from .lines import as_bytes
 from .marks import look, look_at_journal
 from .names import ARCHIVE, own_name

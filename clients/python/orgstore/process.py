@@ -2,12 +2,11 @@
 from __future__ import annotations
 
 import _socket  # what `socket` has without its enumerations, which take longer to load
-import os
 import select
 import time
 
 from .errors import NoProgram
-from .light import TYPE_CHECKING, signals
+from .light import TYPE_CHECKING, os, signals
 from .lines import LINE_LIMIT
 
 if TYPE_CHECKING:
@@ -44,7 +43,7 @@ def here() -> str:
 
 def program_places(folder: str) -> List[str]:
     """Where the program may be that belongs to a package in this folder."""
-    checkout = os.path.normpath(os.path.join(folder, "..", "..", ".."))
+    checkout = os.path.dirname(os.path.dirname(os.path.dirname(folder)))
     if os.path.isdir(os.path.join(checkout, "crates", "orgstore")):
         return [os.path.join(checkout, "run")]
     above = os.path.dirname(folder)

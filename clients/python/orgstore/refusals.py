@@ -3,38 +3,42 @@ from __future__ import annotations
 
 import re
 
-from .errors import Error, NoSuchFile, NotFound, NotUnique, Refused
+from .commands import Archive
+from .errors import Error, Refused
 from .heading import headings, lookup
 from .light import TYPE_CHECKING
 from .lines import as_string, titles
-from .phrases import listed, short
+from .names import name_fault
+from .phrases import listed, short, short_path
+from .refused import REFUSALS, NoSuchFile, NotFound, NotUnique
 from .targets import Date, Head, Under
 
 if TYPE_CHECKING:
     from typing import Callable, Dict, List, Optional
 
+    from .commands import Command
     from .heading import Heading
     from .keywords import States
     from .kinds import Path, Target
 
-ADVICE: Dict[int, str] = {
-    1: "the store lacks a file that the command, or an archive location, names: check the name, or give it to the "
-       "store with new=[..]",
-    3: "what the template makes isn't one entry: that is one heading, and below it only deeper ones",
-    4: "no heading has the title that a step of the path asks for",
-    5: "several headings have the title that a step of the path asks for: say which one, as in A\\#2",
-    6: "the subtree would be moved into itself: choose a target that isn't below it",
-    7: "it is in its archive already: refile it, to move it elsewhere",
-    9: "the planning line must be SCHEDULED, DEADLINE or CLOSED, each once and with a timestamp: mend it",
-    10: "a repeater in hours needs a timestamp with one time: give it a time, or repeat it by another unit",
-    11: "a timestamp would repeat past the year 9999: mend its date or its repeater",
-    12: "no clock runs in the store's files: clock in first",
-    13: "the running clock was started behind the moment: give a later one, or mend the clock's line",
-    14: "a file would grow past 64 MiB: archive or refile something from it first",
-    15: "its archive location can't be read: the ARCHIVE property, or the file's #+ARCHIVE: line, is a file or "
-        "nothing, then '::', then a heading or nothing",
-    16: "the bytes that are to be replaced don't stand there: the file has changed since it was read",
-    20: "the program doesn't take the line",
+ADVICE: Dict[str, str] = {
+    "NoSuchFile": "the store lacks a file that the command, or an archive location, names: check the name, or give "
+                  "it to the store with new=[..]",
+    "BadEntry": "what the template makes isn't one entry: that is one heading, and below it only deeper ones",
+    "NotFound": "no heading has the title that a step of the path asks for",
+    "NotUnique": "several headings have the title that a step of the path asks for: say which one, as in A\\#2",
+    "InsideItself": "the subtree would be moved into itself: choose a target that isn't below it",
+    "AlreadyArchive": "it is in its archive already: refile it, to move it elsewhere",
+    "OddPlanning": "the planning line must be SCHEDULED, DEADLINE or CLOSED, each once and with a timestamp: mend it",
+    "BadRepeat": "a repeater in hours needs a timestamp with one time: give it a time, or repeat it by another unit",
+    "DateRange": "a timestamp would repeat past the year 9999: mend its date or its repeater",
+    "NoClock": "no clock runs in the store's files: clock in first",
+    "ClockBackwards": "the running clock was started behind the moment: give a later one, or mend the clock's line",
+    "TooLarge": "a file would grow past 64 MiB: archive or refile something from it first",
+    "BadLocation": "its archive location can't be read: the ARCHIVE property, or the file's #+ARCHIVE: line, is a "
+                   "file or nothing, then '::', then a heading or nothing",
+    "NotThere": "the bytes that are to be replaced don't stand there: the file has changed since it was read",
+    "BadLine": "the program doesn't take the line",
 }
 
 
@@ -121,3 +125,43 @@ def template_fault(template: bytes) -> str:
     wrong = next((escape.decode() for escape in escapes if escape not in (b"t", b"T", b"u", b"U", b"i")), "..")
     return "the template's %%%s isn't served: %%t, %%T, %%u, %%U, %%i and %%? are; a text that isn't to be read as a " \
            "template can be captured as it is" % wrong
+
+
+def _of_place(command: Command, code: int, files: Files) -> Optional[Refused]:
+    """The refusal of the first place that the command can't find, where that is why it was refused."""
+    for file, target in command.places():
+        refused = files.fault(file, target)
+        if refused and refused.code == code:
+            return refused.of(file)
+    return None
+
+
+def _of_command(command: Command, code: int, files: Files) -> str:
+    """What is said of a refusal that isn't of a place, or whose place can't be looked into."""
+    name = REFUSALS.get(code, Refused).name
+    said = command.why_refused(name, files)
+    if said:
+        return said
+    names = [file for file, _ in command.places()]
+    if name == "NoSuchFile" and len(names) == 1 and not isinstance(command, Archive):
+        return no_file(names[0])
+    if name == "BadLine":
+        faults = [fault for fault in map(name_fault, names) if fault]
+        return faults[0] if faults else ADVICE[name]
+    return ADVICE.get(name, "the program refused it")
+
+
+def refusal(reply: bytes, command: Command, files: Files) -> Refused:
+    """The refusal in a reply, with what it is about."""
+    number, _, name = reply.partition(b" ")
+    code = int(number)
+    found = _of_place(command, code, files) if code in (NoSuchFile.code, NotFound.code, NotUnique.code) else None
+    if found:
+        return found
+    file, target = (command.places() or [("", None)])[0]
+    path = titles(target.path) if isinstance(target, (Under, Date)) else ()
+    place = [file] if file else []
+    if path:
+        place.append(short_path(path))
+    message = ": ".join(place + [_of_command(command, code, files)])
+    return REFUSALS.get(code, Refused)(message, file=file, path=path, code=code, name=name.decode())

@@ -1,9 +1,7 @@
 """The settings of a folder: what its file .orgstore says."""
 from __future__ import annotations
 
-import os
-
-from .light import TYPE_CHECKING, pattern
+from .light import TYPE_CHECKING, os, pattern
 
 if TYPE_CHECKING:
     from typing import Dict

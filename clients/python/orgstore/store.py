@@ -1,16 +1,14 @@
 """A store: the program, open on one folder."""
 from __future__ import annotations
 
-import os
 import sys
 import time
 from _thread import get_ident
 
-from .commands import (Archive, Capture, CaptureTemplate, ClockIn, ClockOut, Done, Edit, Refile, Settle, Show, Time,
-                       Todo, refusal)
+from .commands import Archive, Capture, CaptureTemplate, ClockIn, ClockOut, Done, Edit, Refile, Settle, Show, Time, Todo
 from .errors import CannotWrite, Changed, Closed, Died, Error, Fault, Locked, Misused, Refused, TimedOut
 from .keywords import States
-from .light import TYPE_CHECKING, cast
+from .light import TYPE_CHECKING, cast, os
 from .lines import titles
 from .marks import differing, doubtful, look_at_journal, replaced
 from .names import is_archive, is_file_name, own_name
@@ -28,7 +26,6 @@ if TYPE_CHECKING:
     from .heading import Heading
     from .kinds import Moment, Order, Path, Target, Text
     from .marks import Mark
-    from .refusals import Files
 
 _UNKNOWN = ("a call of the disk failed: close the store, find out what is wrong with the disk, and unmount it or "
             "restart the machine before you open the folder again")
@@ -507,9 +504,9 @@ class Store:
             return Done(self.accepted, self.acknowledged)
         if word == b"refused" and self.whole:
             self._finish()
-            raise refusal(rest, command, self._files(None))
+            raise self._refusal(rest, command, None)
         if word == b"refused":
-            return refusal(rest, command, self._files(show))
+            return self._refusal(rest, command, show)
         if word == b"fault":
             raise self._fault(rest.decode())
         if word == b"text":
@@ -520,11 +517,11 @@ class Store:
             raise Error("the program answered %r, which is no reply of orgstore; the store is closed" % word[:40])
         return rest
 
-    def _files(self, show: Optional[Callable[[str], bytes]]) -> Files:
-        """The files as `show` has them."""
-        from .refusals import Files
+    def _refusal(self, reply: bytes, command: Command, show: Optional[Callable[[str], bytes]]) -> Refused:
+        """The refusal in a reply, with what the files say of it, as `show` has them."""
+        from .refusals import Files, refusal  # refusals are rare
 
-        return Files(self.states, show)
+        return refusal(reply, command, Files(self.states, show))
 
     def _text(self, length: int) -> bytes:
         """The text of a reply."""

@@ -8,14 +8,13 @@ file, the position, the bytes of before and those of after.
 from __future__ import annotations
 
 import fcntl
-import os
 
 from .commands import Change
-from .light import TYPE_CHECKING, pattern, record
+from .light import TYPE_CHECKING, os, pattern, record
 from .lines import as_bytes, as_string, field_of
 
 if TYPE_CHECKING:
-    from typing import Callable, Dict, Iterator, List, Sequence, Tuple
+    from typing import BinaryIO, Callable, Dict, Iterator, List, Sequence, Tuple
 
 __all__ = ["Log", "Record", "differences", "taken_back"]
 
@@ -152,7 +151,10 @@ class Log:
     """The records of a folder."""
 
     def __init__(self, folder: str) -> None:
-        state = os.environ.get("XDG_STATE_HOME") or os.path.expanduser("~/.local/state")
+        state = os.environ.get("XDG_STATE_HOME")
+        if not state:
+            home = os.environ.get("HOME") or os.path.expanduser("~")
+            state = os.path.join(home, ".local", "state")
         name = os.path.realpath(folder).replace("%", "%25").replace("/", "%2F")
         if len(as_bytes(name)) > 200:
             import hashlib  # rarely needed, and slow to load
@@ -174,8 +176,7 @@ class Log:
         """Keeps a record, and gives the oldest ones up where they are too many. Where that fails, the command can't be
         taken back, and that is all."""
         try:
-            os.makedirs(os.path.dirname(self.path), mode=0o700, exist_ok=True)
-            with open(self.path, "ab", opener=_private) as file:
+            with self._opened() as file:
                 fcntl.flock(file, fcntl.LOCK_EX)
                 file.write(record.line())
                 file.flush()
@@ -188,6 +189,14 @@ class Log:
         lines = self._lines()
         if lines and lines[-1] == record.line():
             self._write(lines[:-1])
+
+    def _opened(self) -> BinaryIO:
+        """The log, to be written at its end."""
+        try:
+            return open(self.path, "ab", opener=_private)
+        except FileNotFoundError:
+            os.makedirs(os.path.dirname(self.path), mode=0o700, exist_ok=True)
+            return open(self.path, "ab", opener=_private)
 
     def _lines(self) -> List[bytes]:
         try:

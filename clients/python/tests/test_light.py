@@ -6,10 +6,12 @@ import inspect
 import os
 import pickle
 import re
+import shutil
 import subprocess
 import sys
 import unittest
-from typing import Iterator, List, Set
+from importlib.machinery import PathFinder
+from typing import Any, Iterator, List, Set
 
 from orgstore import Capture, Done, Nth, States, Top, light
 
@@ -18,8 +20,8 @@ from .support import FolderTest
 PACKAGE = os.path.dirname(light.__file__)
 ORGS = os.path.join(PACKAGE, "..", "..", "shell", "orgs")
 # what takes longer to load than a command takes
-SLOW = {"argparse", "dataclasses", "datetime", "enum", "functools", "importlib", "inspect", "json", "pathlib", "re",
-        "selectors", "shutil", "socket", "subprocess", "tempfile", "threading", "typing"}
+SLOW = {"argparse", "dataclasses", "datetime", "enum", "functools", "importlib", "inspect", "json", "os", "pathlib",
+        "re", "selectors", "shutil", "socket", "subprocess", "tempfile", "threading", "typing"}
 
 
 class Records(unittest.TestCase):
@@ -49,6 +51,92 @@ class Records(unittest.TestCase):
         self.assertEqual(pattern.sub("", "* a"), re.sub(r"(?m)^(\*+) ", "", "* a"))
 
 
+class System(FolderTest):
+    """`light.os`, as it is where `os` isn't loaded."""
+
+    def setUp(self) -> None:
+        super().setUp()
+        self.system: Any = getattr(light, "_System")()
+
+    def test_paths_as_texts(self) -> None:
+        path = self.system.path
+        parts = ["", "/", "a", "/a", "a/", "a//", "//a", "/a/b", "../a", "a/./b", "/a/../../b/", ".", "..", "~", "é"]
+        for one in parts:
+            for name in ("split", "dirname", "basename", "expanduser"):
+                self.assertEqual(getattr(path, name)(one), getattr(os.path, name)(one), (name, one))
+            self.assertEqual(path.abspath(one), re.sub("^//", "/", os.path.abspath(one)), one)
+            for other in parts:
+                self.assertEqual(path.join(one, other, "z"), os.path.join(one, other, "z"), (one, other))
+
+    def test_paths_of_files(self) -> None:
+        folder = self.folder({"a": "", "é": ""})
+        os.mkdir(os.path.join(folder, "d"))
+        for name, target in (("to_a", "a"), ("to_d", "d"), ("to_nothing", "nothing"), ("round", "round"),
+                             ("over", "d/../to_a")):
+            os.symlink(target, os.path.join(folder, name))
+        for name in ["", *os.listdir(folder), "d/../a", "to_d/../a", "a/x", "nothing", "\0", "x" * 300]:
+            one = os.path.join(folder, name)
+            for asked in ("exists", "isfile", "isdir"):
+                self.assertEqual(getattr(self.system.path, asked)(one), getattr(os.path, asked)(one), (asked, name))
+            if name != "\0":
+                self.assertEqual(self.system.path.realpath(one), os.path.realpath(one), name)
+
+    def test_the_rest(self) -> None:
+        self.assertEqual(self.system.environ, dict(os.environ))
+        self.assertEqual((self.system.getpid(), self.system.O_RDWR), (os.getpid(), os.O_RDWR))
+        self.assertEqual((self.system.sep, self.system.makedirs), (os.sep, os.makedirs))
+        texts: List[Any] = ["é\udcff", b"\xc3\xa9\xff"]
+        for text in texts:
+            self.assertEqual(self.system.fsencode(text), os.fsencode(text))
+            self.assertEqual(self.system.fsdecode(text), os.fsdecode(text))
+        with self.assertRaises(AttributeError):
+            self.system.nothing
+
+
+class Found(FolderTest):
+    def test_as_python_finds(self) -> None:
+        """The finder answers what Python's own does, for each module there is."""
+        above = os.path.dirname(PACKAGE)
+        finder, names = light.Finder(above), set()
+        for root, _, files in os.walk(PACKAGE):
+            for file in files:
+                if file.endswith(".py"):
+                    name = os.path.relpath(os.path.join(root, file), above)[:-len(".py")].replace("/", ".")
+                    names.add(name[:-len(".__init__")] if name.endswith(".__init__") else name)
+        for name in names:
+            there = os.path.join(above, *name.split(".")[:-1])
+            specs: List[Any] = [finder.find_spec(name), PathFinder.find_spec(name, [there])]
+            mine, wanted = ((spec.name, spec.origin, spec.cached, spec.submodule_search_locations, type(spec.loader),
+                             spec.loader.path, spec.has_location, spec.parent) for spec in specs)
+            self.assertEqual(mine, wanted)
+        self.assertEqual([finder.find_spec(name) for name in ("os", "orgstore2", "os.orgstore")], [None, None, None])
+
+    def test_old_code(self) -> None:
+        """What was compiled before isn't run where the source is another, or where it was damaged."""
+        prefix = os.path.join(self.room, "prefix")
+        package = os.path.join(prefix, "lib", "orgstore", "orgstore")
+        shutil.copytree(PACKAGE, package, ignore=shutil.ignore_patterns("__pycache__"))
+        os.mkdir(os.path.join(prefix, "bin"))
+        orgs = shutil.copy(ORGS, os.path.join(prefix, "bin", "orgs"))
+        self.write(package, "version.py", "def version():\n    return '1'\n")
+
+        def run() -> "subprocess.CompletedProcess[str]":
+            return subprocess.run([sys.executable, "-ISXutf8", orgs, "--version"], capture_output=True, text=True,
+                                  timeout=60, env={"PATH": os.defpath})
+
+        self.assertEqual([run().stdout for _ in range(2)], 2 * ["orgs 1\n"])
+        compiled = os.path.join(package, "__pycache__", "version.%s.pyc" % sys.implementation.cache_tag)
+        self.assertTrue(os.path.isfile(compiled))
+        self.write(package, "version.py", "def version():\n    return '2.0'\n")
+        self.assertEqual(run().stdout, "orgs 2.0\n")
+        self.write(os.path.dirname(compiled), os.path.basename(compiled), "nothing")
+        self.assertEqual(run().stdout, "orgs 2.0\n")
+        os.remove(os.path.join(package, "cli", "parsing.py"))
+        ended = run()
+        self.assertEqual((ended.returncode, ended.stdout), (1, ""))
+        self.assertRegex(ended.stderr, r"\Aorgs: its package .* isn't found \(.*parsing\.py'\); install it again\n\Z")
+
+
 class Loaded(FolderTest):
     def loaded(self, *words: str) -> Set[str]:
         """The modules that a run of orgs loads."""
@@ -61,7 +149,7 @@ class Loaded(FolderTest):
         for words in (["capture", "New", "--todo", "TODO", "--tag", "x"], ["capture", "inbox.org", "New"]):
             self.assertEqual(self.loaded("-C", folder, *words) & SLOW, set())
         listing = self.loaded("-C", folder, "ls") & SLOW
-        self.assertLessEqual(listing, {"re", "enum", "functools"})  # re loads the others
+        self.assertLessEqual(listing, {"re", "enum", "functools", "os"})  # re loads the others
 
     def test_names_of_types(self) -> None:
         """What is imported for type checkers alone is used in annotations alone."""

@@ -1,15 +1,13 @@
 """`orgs capture`."""
 from __future__ import annotations
 
-import os
 import sys
 
 from ..errors import CannotWrite, Refused
 from ..keywords import title_of
-from ..light import TYPE_CHECKING
+from ..light import TYPE_CHECKING, os
 from ..names import is_file_name, own_name
 from ..settings import SETTINGS
-from ..targets import Date, Head, Top, Under
 from .naming import file_of, named, names_file
 from .parsing import AT_OPTION, COMMON, FILE_OPTION, INBOX, Command, Options, Reader, defaults, flag, option
 from .run import check_state
@@ -179,6 +177,8 @@ def capture(run: Run) -> int:
     place: Order = "first" if options.first else "last"
 
     def act(store: Store, found: List[Entry]) -> int:
+        from ..targets import Date, Head, Top, Under  # loaded by the store
+
         above = found[0].heading.path if found else ()
         under = found[0].path(store.states) if found else ()
         target: Target = Under(under) if found else Top()

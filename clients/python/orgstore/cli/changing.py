@@ -6,8 +6,9 @@ import sys
 
 from .. import changes
 from ..changes import Change
-from ..errors import NotThere, Refused
+from ..errors import Refused
 from ..light import TYPE_CHECKING
+from ..refused import NotThere
 from ..store import Store
 from .entries import Entry
 from .parsing import AT_OPTION, FILE_OPTION, NAMING, Command, flag

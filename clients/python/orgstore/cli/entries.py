@@ -7,7 +7,7 @@ from ..lines import Nth, path_text
 from . import streams
 from .naming import Place, named
 from .report import ask, shown
-from .stops import CODES, REFUSED, Stop
+from .stops import REFUSED, Stop
 
 if TYPE_CHECKING:
     from typing import List, Optional
@@ -59,9 +59,11 @@ class Ambiguous(Stop):
     """Several headings fit what was asked for: the refusal has all of them."""
 
     def __init__(self, place: Place, found: List[Entry]) -> None:
+        from ..refused import NotUnique  # rare
+
         lines = ["'%s' fits %d headings; name one by its FILE:LINE:" % (place.text, len(found))]
         lines += ["  " + entry.line() for entry in found]
-        super().__init__(REFUSED, "\n".join(lines), reply="refused", code=CODES["NotUnique"], name="NotUnique",
+        super().__init__(REFUSED, "\n".join(lines), reply="refused", code=NotUnique.code, name=NotUnique.name,
                          file=place.file, candidates=[entry.fields() for entry in found])
         self.place, self.found = place, found
 

@@ -1,9 +1,7 @@
 """Names of files and headings on a command line: a path, a part of a title, FILE:LINE, a line of `ls` or `grep -n`."""
 from __future__ import annotations
 
-import os
-
-from ..light import TYPE_CHECKING, pattern, record
+from ..light import TYPE_CHECKING, os, pattern, record
 from ..lines import Nth, path_text, steps
 from ..names import is_file_name
 from .report import shown

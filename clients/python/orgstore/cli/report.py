@@ -1,10 +1,9 @@
 """What a run of `orgs` says: lines for people, or objects."""
 from __future__ import annotations
 
-import os
 import sys
 
-from ..light import TYPE_CHECKING, pattern, signals
+from ..light import TYPE_CHECKING, os, pattern, signals
 from . import streams
 from .stops import FAULT, OK
 
@@ -51,7 +50,7 @@ class Report:
     def warn(self, text: str) -> None:
         """Tells people something more, on standard error."""
         if not self.as_json:
-            streams.tell("orgs: %s\n" % text)
+            self._tell(text)
 
     def caution(self, name: str, text: str) -> None:
         """Tells people and programs what to think of what is printed."""
@@ -65,8 +64,21 @@ class Report:
         if self.as_json:
             self.print_object(stop.fields)
         else:
-            streams.tell("orgs: %s\n" % stop)
+            self._tell(str(stop))
         return stop.status
+
+    def _tell(self, text: str) -> None:
+        """Writes a line to standard error, behind what was printed before, also where both are one pipe."""
+        self._flush()
+        streams.tell("orgs: %s\n" % text)
+
+    def _flush(self) -> None:
+        """Has standard output take what was printed, as long as it does."""
+        if self.unheard is None:
+            try:
+                streams.flush()
+            except OSError as fault:
+                self.unheard = fault
 
     def print_object(self, fields: Dict[str, Any]) -> None:
         """Prints an object on a line; fields of None are left out."""
@@ -76,11 +88,7 @@ class Report:
 
     def end(self, status: int) -> int:
         """The status of the run, once its output is where it goes, or has nowhere to go."""
-        if self.unheard is None:
-            try:
-                streams.flush()
-            except OSError as fault:
-                self.unheard = fault
+        self._flush()
         if self.unheard is None or self.acknowledged or status != OK:
             return status
         if isinstance(self.unheard, BrokenPipeError):

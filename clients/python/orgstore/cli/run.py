@@ -1,20 +1,18 @@
 """One run of a command of `orgs`: its options, its words, and where it works."""
 from __future__ import annotations
 
-import os
 import time
 
 from ..errors import CannotRead, CannotWrite
 from ..folder import Folder
 from ..keywords import States
-from ..light import TYPE_CHECKING, cached
+from ..light import TYPE_CHECKING, cached, os
 from ..lines import steps
 from ..names import ARCHIVE, JOURNAL, own_name
 from ..settings import SETTINGS, settings
 from .naming import FILE_LINE, LISTED, Place, existing, file_of, named, names_file
 from .report import at_terminal, shown
 from .stops import OK, Usage, cannot, cannot_write, refusal
-from .waiting import waiting
 
 if TYPE_CHECKING:
     import datetime
@@ -170,6 +168,8 @@ class Run:
             states = found[0].outline.states if found else self.folder.states
             only = names or self.folder.names(archives=False)[:1] or None  # a clock that doesn't run is in no file
             with self.folder.open(new=new, states=states, only=only, whole=whole) as store:
+                from .waiting import waiting  # not needed by what only reads
+
                 now = self.find_again(found)
                 missed = [name for name in map(own_name, also(now)) if name not in names and self.folder.has(name)]
                 if missed or now and now[0].outline.states != states:

@@ -1,7 +1,6 @@
 """How a run of `orgs` ends early: its status, and what it says."""
 from __future__ import annotations
 
-from ..errors import REFUSALS
 from ..light import TYPE_CHECKING
 
 if TYPE_CHECKING:
@@ -12,8 +11,6 @@ if TYPE_CHECKING:
     Titles = Tuple[str, ...]
 
 OK, REFUSED, USAGE, CANNOT_OPEN, FAULT, INTERRUPTED = 0, 1, 2, 3, 4, 130
-
-CODES = {kind.name: code for code, kind in REFUSALS.items()}
 
 
 class Usage(Exception):
@@ -35,6 +32,8 @@ class Stop(Exception):
 
 def refusal(name: str, message: str, file: Optional[str] = None, path: Optional[Titles] = None, **more: Any) -> Stop:
     """A command that was refused, by the store or before it was asked; nothing changed."""
+    from ..refused import CODES  # not needed by what is done
+
     return Stop(REFUSED, message, reply="refused", code=CODES.get(name), name=name, file=file,
                 path=None if path is None else list(path), **more)
 

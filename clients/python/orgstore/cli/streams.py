@@ -2,10 +2,9 @@
 from __future__ import annotations
 
 import io
-import os
 import sys
 
-from ..light import TYPE_CHECKING
+from ..light import TYPE_CHECKING, os
 
 if TYPE_CHECKING:
     from typing import Union

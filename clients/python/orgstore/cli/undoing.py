@@ -1,10 +1,9 @@
 """`orgs undo`."""
 from __future__ import annotations
 
-
-from ..errors import NotThere
 from ..light import TYPE_CHECKING
 from ..names import own_name
+from ..refused import NotThere
 from ..undo import Log, Record, taken_back
 from .changing import changed_meanwhile
 from .parsing import Command, flag

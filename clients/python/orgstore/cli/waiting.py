@@ -1,9 +1,7 @@
 """Ctrl-C, and the signals that end a process, while a command is on its way to the disk."""
 from __future__ import annotations
 
-import os
-
-from ..light import TYPE_CHECKING, signals
+from ..light import TYPE_CHECKING, os, signals
 from .stops import Left
 
 if TYPE_CHECKING:
