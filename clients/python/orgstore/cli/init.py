@@ -19,7 +19,7 @@ def init(run: Run) -> int:
         raise Usage("a word too many, '%s'" % words[1])
     if options.show:
         return show(run, find_folder(words[0] if words else options.directory))
-    path = words[0] if words else options.directory or "."
+    path = words[0] if words else options.directory or os.environ.get("ORGSTORE_DIR") or "."
     try:
         os.makedirs(path, exist_ok=True)
     except OSError as fault:
@@ -52,7 +52,7 @@ def show(run: Run, path: str) -> int:
 COMMANDS = {
     "init": Command(
         "[DIR]", "begins a folder and writes its states to .orgstore", init,
-        "Makes DIR, else takes the folder that one stands in; --states gives the states.",
+        "Makes DIR; else takes that of -C or $ORGSTORE_DIR, else the one that one stands in. --states gives states.",
         "orgs init ~/org --states 'TODO WAIT | DONE CANCELLED'\norgs init --show",
         (flag("--show", help="say what holds in the folder, and begin none"),), begins=True),
 }

@@ -28,6 +28,13 @@ MODULES = {
 """The subcommands in the order of the help, and the module that has each in its `COMMANDS`: only what is called is
 loaded."""
 
+OTHERS = {
+    "add": "capture", "new": "capture", "list": "ls", "next": "agenda", "search": "find", "grep": "find",
+    "modify": "schedule, deadline, tag, priority, rename or prop", "annotate": "note", "start": "in", "stop": "out",
+    "move": "refile", "mv": "refile", "remove": "delete", "rm": "delete",
+}
+"""What other programs call a command, and its name here."""
+
 ABOUT = """usage: %s
 
 %s
@@ -121,7 +128,8 @@ def run_words(arguments: List[str], report: Report) -> int:
         report.print(help_on(given[0] if given else None) + "\n")
         return OK
     if name not in MODULES:
-        return misused("", Usage("no command%s; `orgs --help` lists them" % (" '%s'" % name if name else "")))
+        here = "; it is %s here, and" % OTHERS[name] if name in OTHERS else ";"
+        return misused("", Usage("no command%s%s `orgs --help` lists them" % (" '%s'" % name if name else "", here)))
     return execute(options, given, report)
 
 
