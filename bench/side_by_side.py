@@ -33,6 +33,7 @@ WARM_UP = 2         # groups of commands before the clock runs
 SETTLED = 10        # commands after which no memory should be mapped or given back, if a group is full by then
 PIPE = 1 << 20      # bytes of replies that wait to be read, at most
 LOOK = 0.0005       # seconds between two looks for replies
+TURN = 50           # groups of commands of one program before it is the other's turn, where two programs are measured
 MAPPINGS = ("mmap", "munmap", "mremap", "brk", "madvise")
 
 # Files of a folder by name, the lines that are run on it, and how many of them are settled together.
@@ -248,6 +249,31 @@ class Bench:
         count = len(case.lines) - warm
         return Cost(clock / count, processor / count), used
 
+    def costs_by_turns(self, case, script, replies, first):
+        """What a command costs in one run of each of two programs, which are open at once and take turns: so what else
+        the machine does meanwhile meets both."""
+        runs = {who: Run(self.words(who, self.fresh(who, case), case, script)) for who in ("program", "bare")}
+        warm = min(WARM_UP * case.group, len(case.lines) // 2)
+        for run in runs.values():
+            run.send(b"".join(case.lines[:warm]))
+            run.wait_for(end_of_replies(replies, warm))
+        clock = dict.fromkeys(runs, 0.0)
+        before = {who: run.processor() for who, run in runs.items()}
+        for turn, begin in enumerate(range(warm, len(case.lines), TURN * case.group)):
+            end = min(begin + TURN * case.group, len(case.lines))
+            for who in sorted(runs, reverse=(turn + first) % 2 == 0):
+                since = time.perf_counter()
+                runs[who].send(b"".join(case.lines[begin:end]))
+                runs[who].look_for(end_of_replies(replies, end))
+                clock[who] += time.perf_counter() - since
+        count = len(case.lines) - warm
+        costs = {who: Cost(clock[who] / count, (run.processor() - before[who]) / count) for who, run in runs.items()}
+        for who, run in runs.items():
+            run.end()
+            if run.replies != replies:
+                fail("%s answers otherwise than when it was recorded" % who)
+        return costs
+
     def alike(self):
         """Whether both left the same files and the same journal."""
         folders = [os.path.join(self.room, who) for who in ("program", "bare")]
@@ -260,6 +286,10 @@ class Bench:
         script, replies, total = self.record(case)
         costs = {"program": [], "bare": []}
         for number in range(rounds):
+            if self.beside:
+                for who, cost in self.costs_by_turns(case, script, replies, number).items():
+                    costs[who].append(cost)
+                continue
             order = ("program", "bare") if number % 2 == 0 else ("bare", "program")
             for who in order:
                 costs[who].append(self.cost(who, case, script, replies)[0])
@@ -337,11 +367,11 @@ COST_HEAD = ("record of a command | orgstore | bare loop | ratio | processor tim
 
 
 def cost_cells(costs, record):
-    """The cells of one measurement: the medians, their ratio with that of the least and the greatest round, and the
-    processor time. And the ratio itself."""
+    """The cells of one measurement: the medians, the ratio of the median round with that of the least and the greatest
+    one, and the processor time. And the ratio itself."""
     clock = {who: statistics.median(cost.clock for cost in costs[who]) for who in costs}
     rounds = [its.clock / bare.clock for its, bare in zip(costs["program"], costs["bare"])]
-    ratio = clock["program"] / clock["bare"]
+    ratio = statistics.median(rounds)
     own = statistics.median(cost.processor for cost in costs["program"]) \
         - statistics.median(cost.processor for cost in costs["bare"])
     return "%s | %s | %s | %.2f (%.2f to %.2f) | %s |" % (

@@ -19,6 +19,7 @@ use crate::record::{Call, Record};
 use crate::start::Start;
 use org_disk::{DiskFault, FileName};
 use std::alloc::{AllocError, Global};
+use std::cell::Cell;
 use std::fs::{File, Files, Metadata, OpenFile, OpenOptions, TryLockError};
 use std::io::{Error, ErrorKind};
 use std::marker::PhantomData;
@@ -53,6 +54,8 @@ pub struct HostSystem<R: Files, S: Start> {
     streams: [Option<R::File>; 3],
     // the folder was synced, and this has made no file since
     is_synced: bool,
+    // the folder as it was when the journal was found in it, where any later change of it shows
+    unchanged: Cell<Option<Seen>>,
     pub(crate) log: Record,
     start: PhantomData<S>,
 }
@@ -71,6 +74,7 @@ where
             lock: None,
             streams: [None, None, None],
             is_synced: false,
+            unchanged: Cell::new(None),
             log: Record::new(),
             start: PhantomData,
         }
@@ -203,12 +207,34 @@ where
     // A file that may be written, and to which its name leads; it is as the calls so far left it.
     fn try_file(&self, opened: &Opened<R::File>) -> io::Result<()> {
         opened.file.write_at(&[], 0)?;
+        if is_journal(&opened.name) {
+            return self.try_journal(opened);
+        }
         let path = self.path_of(&opened.name)?;
-        let now = Seen::of(&fs::metadata(&self.rt, path.as_path())?);
-        if opened.seen.get().is_still(&now) {
-            Ok(())
-        } else {
-            Err(Error::from(ErrorKind::Other))
+        only_same(opened, &fs::metadata(&self.rt, path.as_path())?)
+    }
+
+    // Where the folder has changed no entry since the journal was found in it, its name leads there
+    // still. So the journal isn't looked at before each write: many systems note times at greater
+    // cost where these were looked at.
+    fn try_journal(&self, opened: &Opened<R::File>) -> io::Result<()> {
+        let folder = Seen::of(&fs::metadata(&self.rt, Path::new(self.path.as_str()))?);
+        if self.is_unchanged(&folder) {
+            return Ok(());
+        }
+        let path = self.path_of(&opened.name)?;
+        only_same(opened, &fs::metadata(&self.rt, path.as_path())?)?;
+        let entry = fs::symlink_metadata(&self.rt, path.as_path())?;
+        let is_later = entry.is_file() && Seen::of(&entry).is_later_than(&folder);
+        self.unchanged
+            .set(if is_later { Some(folder) } else { None });
+        Ok(())
+    }
+
+    fn is_unchanged(&self, folder: &Seen) -> bool {
+        match self.unchanged.get() {
+            Some(before) => before.is_still(folder),
+            None => false,
         }
     }
 
@@ -232,7 +258,7 @@ fn is_journal(name: &FileName) -> bool {
     !FileName::accepts(name.as_str())
 }
 
-// A file that was found absent. One that has bytes by now was made by another name or another
+// A file that was found absent. One that has bytes was made by another name or another
 // program since: it isn't written over.
 fn only_empty(metadata: &Metadata) -> io::Result<()> {
     if metadata.len() > 0 {
@@ -241,9 +267,11 @@ fn only_empty(metadata: &Metadata) -> io::Result<()> {
     Ok(())
 }
 
-fn write_all<F: OpenFile + FileExt>(opened: &Opened<F>, from: u64, bytes: &[u8]) -> io::Result<()> {
-    opened.file.write_all_at(bytes, from)?;
-    opened.seen.set(opened.seen.get().written());
+// What a name leads to now is the file that was opened, and it is as the calls so far left it.
+fn only_same<F>(opened: &Opened<F>, now: &Metadata) -> io::Result<()> {
+    if !opened.seen.get().is_still(&Seen::of(now)) {
+        return Err(Error::from(ErrorKind::Other));
+    }
     Ok(())
 }
 
@@ -373,7 +401,8 @@ where
         let answer = answered(if bytes.is_empty() {
             self.try_file(opened)
         } else {
-            write_all(opened, from, bytes)
+            opened.seen.set(opened.seen.get().written());
+            opened.file.write_all_at(bytes, from)
         });
         self.note(Call::Write(from, answer.is_ok()), &opened.name, bytes);
         answer

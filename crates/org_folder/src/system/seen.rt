@@ -52,4 +52,16 @@ impl Seen {
         };
         is_left && self.device == now.device && self.number == now.number
     }
+
+    // Whether this was changed last behind the last change of the other one: then a change of that
+    // which follows gets another time, however seldom the system's clock goes on.
+    pub(super) fn is_later_than(&self, other: &Seen) -> bool {
+        match (&self.left, &other.left) {
+            (Some(own), Some(other)) => {
+                own.seconds > other.seconds
+                    || own.seconds == other.seconds && own.nanoseconds > other.nanoseconds
+            }
+            _ => false,
+        }
+    }
 }
