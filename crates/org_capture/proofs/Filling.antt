@@ -5,7 +5,7 @@ use Rattle.std.proofs.lemmas.Bool.{cases_Bool}
 use Rattle.std.proofs.lemmas.List.{append-nil, take_more}
 use Rattle.org_stamp.specs.Calendar.{Moment}
 use Rattle.org_capture.specs.declared.piece.Piece.{Piece}
-use Rattle.org_capture.specs.declared.fault.CaptureFault.TheVariants.{BadTemplate}
+use Rattle.org_fault.specs.declared.refusal.Refusal.TheVariants.{BadTemplate}
 use Rattle.org_capture.specs.Template.{last_line, with_prefix, text_of, filled}
 
 pub with_prefix-append : (prefix xs ys : List ℕ) → with_prefix prefix (xs ++ ys) ≡ with_prefix prefix xs ++ with_prefix prefix ys

@@ -29,7 +29,7 @@ use Rattle.org_stamp.specs.Calendar.{CivilDay, Moment, weekday_of}
 use Rattle.org_stamp.specs.Stamp.{date_text}
 use Rattle.org_capture.specs.declared.dates.DateKind.{DateKind}
 use Rattle.org_capture.specs.declared.dates.DateKind.TheVariants.{Year, Month, Day}
-use Rattle.org_capture.specs.declared.fault.CaptureFault.{CaptureFault}
+use Rattle.org_fault.specs.declared.refusal.Refusal.{Refusal}
 use Rattle.org_capture.specs.declared.target.Target.{Target}
 use Rattle.org_capture.specs.declared.target.Target.TheVariants.{Top, Head, Path, Date}
 use Rattle.org_capture.specs.Entry.{entry_in, only_root}
@@ -61,7 +61,7 @@ dated_way states place day entry d P ways (kind ∷ kinds) up within =
     (ways.dates kind kinds up within)
 
 -- what an answer holds
-ok_holds : (P : Document → Type 0) (d new : Document) → ◌≡◌ {A = Result Document CaptureFault} (Ok d) (Ok new) → P d → P new
+ok_holds : (P : Document → Type 0) (d new : Document) → ◌≡◌ {A = Result Document Refusal} (Ok d) (Ok new) → P d → P new
 ok_holds P d new is holds = let same : d ≡ new = cc in subst P same holds
 
 head_way : (states : Keywords) (place : Place) (day : CivilDay) (entry : Node) (d new : Document) (P : List (List ℕ) → Document → Type 0) → Ways states place day entry d P

@@ -13,7 +13,7 @@ use Rattle.org_outline.specs.Tree.{Forest, Empty, Tree, Node, Document, tree, tr
 use Rattle.org_outline.specs.Moves.{IsPrinted}
 use Rattle.org_outline.proofs.LineWalk.{cut_found, last-terminated, no_line}
 use Rattle.org_outline.proofs.Trees.{tree-is}
-use Rattle.org_capture.specs.declared.fault.CaptureFault.TheVariants.{BadEntry}
+use Rattle.org_fault.specs.declared.refusal.Refusal.TheVariants.{BadEntry}
 use Rattle.org_capture.specs.Entry.{one_root, only_root, entry_in, terminated_if_one, entry_text, IsEntry}
 
 root_prints : (pre : List (List ℕ)) (f : Forest) (k : ℕ) (node : Node) → only_root pre f ≡ Some node

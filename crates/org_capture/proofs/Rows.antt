@@ -6,8 +6,8 @@ use Rattle.org_outline.specs.declared.steps.Step.{Step}
 use Rattle.org_outline.specs.States.{Keywords}
 use Rattle.org_outline.specs.Tree.{Empty, Node, Document, tree, print}
 use Rattle.org_stamp.specs.Calendar.{Moment, civil_day}
-use Rattle.org_capture.specs.declared.fault.CaptureFault.{CaptureFault}
-use Rattle.org_capture.specs.declared.fault.CaptureFault.TheVariants.{BadTemplate, BadEntry}
+use Rattle.org_fault.specs.declared.refusal.Refusal.{Refusal}
+use Rattle.org_fault.specs.declared.refusal.Refusal.TheVariants.{BadTemplate, BadEntry}
 use Rattle.org_capture.specs.declared.target.Target.{Target}
 use Rattle.org_capture.specs.declared.target.Target.TheVariants.{Top, Head, Path, Date}
 use Rattle.org_capture.specs.declared.dates.DateKind.TheVariants.{Year, Month}
@@ -79,7 +79,7 @@ abbrev with_entry : List ℕ → Target → List ℕ
 with_entry text target =
     printed (captured states target Last now entry (tree text))
   where
-    printed : Result Document CaptureFault → List ℕ
+    printed : Result Document Refusal → List ℕ
     printed (Ok d) = print d
     printed (Err fault) = []
 

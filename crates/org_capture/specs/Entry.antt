@@ -1,10 +1,10 @@
 -- Entries: texts that are one heading with what lies below it (Org manual, "Template elements":
 -- type `entry`).
 use Rattle.std.specs.Prelude.{◌≡◌, ℕ, List, [], ◌∷◌, Option, Some, None, Result, Ok, Err}
+use Rattle.org_fault.specs.declared.refusal.Refusal.{Refusal}
+use Rattle.org_fault.specs.declared.refusal.Refusal.TheVariants.{BadEntry}
 use Rattle.org_splice.specs.Lines.{terminated}
 use Rattle.org_outline.specs.Tree.{Forest, Empty, Tree, Node, tree}
-use Rattle.org_capture.specs.declared.fault.CaptureFault.{CaptureFault}
-use Rattle.org_capture.specs.declared.fault.CaptureFault.TheVariants.{BadEntry}
 
 -- the one tree of a forest
 abbrev pub one_root : Forest → Option Node
@@ -23,11 +23,11 @@ abbrev pub entry_in : List ℕ → Option Node
 entry_in text = only_root (tree text).preamble (tree text).forest
 
 -- the terminated text of an entry
-abbrev pub terminated_if_one : Option Node → List ℕ → Result (List ℕ) CaptureFault
+abbrev pub terminated_if_one : Option Node → List ℕ → Result (List ℕ) Refusal
 terminated_if_one None text = Err BadEntry
 terminated_if_one (Some node) text = Ok (terminated text)
 
-abbrev pub entry_text : List ℕ → Result (List ℕ) CaptureFault
+abbrev pub entry_text : List ℕ → Result (List ℕ) Refusal
 entry_text text = terminated_if_one (entry_in text) text
 
 -- a terminated text that is this entry

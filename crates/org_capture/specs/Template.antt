@@ -6,8 +6,8 @@ use Rattle.org_stamp.specs.Calendar.{Moment}
 use Rattle.org_stamp.specs.Stamp.{stamp_of, stamp_text}
 use Rattle.org_capture.specs.declared.piece.Piece.{Piece}
 use Rattle.org_capture.specs.declared.piece.Piece.TheVariants.{Byte, Stamp, Initial, Cursor, Unknown}
-use Rattle.org_capture.specs.declared.fault.CaptureFault.{CaptureFault}
-use Rattle.org_capture.specs.declared.fault.CaptureFault.TheVariants.{BadTemplate}
+use Rattle.org_fault.specs.declared.refusal.Refusal.{Refusal}
+use Rattle.org_fault.specs.declared.refusal.Refusal.TheVariants.{BadTemplate}
 
 -- one of `( [ < ^ : * \`, which begin escapes that aren't served
 abbrev pub is_escape_mark : ℕ → Bool
@@ -58,18 +58,18 @@ text_of moment initial line Cursor = Some []
 text_of moment initial line Unknown = None
 
 -- what goes on with a text, where there is one
-abbrev pub with_text : Option (List ℕ) → (List ℕ → Result (List ℕ) CaptureFault)
-    → Result (List ℕ) CaptureFault
+abbrev pub with_text : Option (List ℕ) → (List ℕ → Result (List ℕ) Refusal)
+    → Result (List ℕ) Refusal
 with_text None go_on = Err BadTemplate
 with_text (Some text) go_on = go_on text
 
 -- the pieces filled in, one after the other, behind a text
-abbrev pub filled : Moment → List ℕ → List ℕ → List Piece → Result (List ℕ) CaptureFault
+abbrev pub filled : Moment → List ℕ → List ℕ → List Piece → Result (List ℕ) Refusal
 filled moment initial text [] = Ok text
 filled moment initial text (piece ∷ pieces) =
     with_text (text_of moment initial (last_line text) piece)
     (λ more. filled moment initial (text ++ more) pieces)
 
 -- the template with its pieces filled in; what is filled in isn't read for escapes
-abbrev pub expanded : List ℕ → Moment → List ℕ → Result (List ℕ) CaptureFault
+abbrev pub expanded : List ℕ → Moment → List ℕ → Result (List ℕ) Refusal
 expanded template moment initial = filled moment initial [] (pieces_of template)

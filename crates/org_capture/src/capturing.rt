@@ -11,10 +11,10 @@ ghost use Rattle.org_capture.specs.Answers.{AnswersEdit};
 
 use crate::date_trees::dated_insertion;
 use crate::dates::DateKind;
-use crate::fault::CaptureFault;
 use crate::inserting::insertion;
 use crate::made_heads::{can_be_title, made_head};
 use crate::target::Target;
+use org_fault::{Fault, Refusal};
 use org_outline::{Node, Outline, PathFault, Place, Step};
 use org_splice::Edit;
 use org_stamp::Moment;
@@ -41,7 +41,7 @@ fn below_head(
     head: &Step,
     place: Place,
     entry: Vec<u8>,
-) -> Result<Edit, CaptureFault>
+) -> Result<Edit, Fault<Refusal>>
     requires { (node : NodeOf) × IsEntry entry.items node }
     ensures { let states = outline.now.states in
         let d = tree outline.now.text in
@@ -54,7 +54,7 @@ fn below_head(
     }
     let title = head.title.as_slice();
     if !can_be_title(alloc, title, outline.states())? {
-        return Err(CaptureFault::NotFound);
+        return Err(Fault::Refused(Refusal::NotFound));
     }
     Ok(made_head(alloc, outline, title, place, &entry)?)
 }
@@ -76,7 +76,7 @@ pub fn capture(
     place: Place,
     moment: Moment,
     entry: Vec<u8>,
-) -> Result<Edit, CaptureFault>
+) -> Result<Edit, Fault<Refusal>>
     requires { (node : NodeOf) × IsEntry entry.items node }
     ensures { (node : NodeOf) → IsEntry entry.items node
         → AnswersEdit (captured outline.now.states target.now place moment node

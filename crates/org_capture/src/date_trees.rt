@@ -12,8 +12,8 @@ ghost use Rattle.org_capture.specs.Dates.{dated, first_dated, key_on, made_lines
 ghost use Rattle.org_capture.specs.Answers.{AnswersEdit};
 
 use crate::dates::{DateKind, date_title, first_dated, key_on};
-use crate::fault::CaptureFault;
 use crate::inserting::{insertion, level_below, push_heading};
+use org_fault::{Fault, Refusal};
 use org_outline::{Node, Outline, Place, shift};
 use org_splice::{Bytes, Edit};
 use org_stamp::Moment;
@@ -95,7 +95,7 @@ pub(crate) fn dated_insertion(
     place: Place,
     moment: Moment,
     entry: Vec<u8>,
-) -> Result<Edit, CaptureFault>
+) -> Result<Edit, Fault<Refusal>>
     requires parent { ForSome parent.now (λ node. node < node_count (tree outline.now.text)) }
     requires few { length kinds.now < 2 ^ 32 }
     requires entry { (node : NodeOf) × IsEntry entry.items node }
@@ -112,7 +112,7 @@ pub(crate) fn dated_insertion(
     }
     let level = level_below(outline, *parent);
     if level > DEEPEST {
-        return Err(CaptureFault::OutOfMemory);
+        return Err(Fault::OutOfMemory);
     }
     let at = dated_place(outline, parent, *kind, key.as_slice());
     prove!(at <= outline.text().len());

@@ -9,8 +9,8 @@ ghost use Rattle.org_outline.specs.Tree.{Empty, Node as NodeOf, others, tree};
 ghost use Rattle.org_capture.specs.Entry.{IsEntry, entry_in, entry_text};
 ghost use Rattle.org_capture.specs.Answers.{AnswersBytes};
 
-use crate::fault::CaptureFault;
 use memchr::memchr;
+use org_fault::{Fault, Refusal};
 use org_outline::{heading_level, is_terminated};
 use std::alloc::AllocError;
 
@@ -97,13 +97,13 @@ fn terminate(text: &mut Vec<u8>) -> Result<(), AllocError>
 ///
 /// - `BadEntry`: the text has something before its first heading, or not exactly one root.
 /// - `OutOfMemory`.
-pub fn entry(mut text: Vec<u8>) -> Result<Vec<u8>, CaptureFault>
+pub fn entry(mut text: Vec<u8>) -> Result<Vec<u8>, Fault<Refusal>>
     ensures value { AnswersBytes (entry_text text.items) result }
     ensures one { IfOk result (λ entry. (node : NodeOf) × IsEntry entry.items node) }
 {
     terminate(&mut text)?;
     if !is_one_heading(text.as_slice()) {
-        return Err(CaptureFault::BadEntry);
+        return Err(Fault::Refused(Refusal::BadEntry));
     }
     Ok(text)
 }

@@ -10,7 +10,7 @@ ghost use Rattle.org_capture.specs.Entry.{IsEntry};
 ghost use Rattle.org_capture.specs.Capture.{rest_of};
 ghost use Rattle.org_capture.specs.Answers.{AnswersEdit};
 
-use crate::fault::CaptureFault;
+use org_fault::{Fault, Refusal};
 use org_outline::{Node, Outline, Place, heading_level, shift};
 use org_splice::{Bytes, Edit};
 use std::alloc::{AllocError, Global};
@@ -54,7 +54,7 @@ pub(crate) fn insertion(
     parent: Option<Node>,
     place: Place,
     entry: Vec<u8>,
-) -> Result<Edit, CaptureFault>
+) -> Result<Edit, Fault<Refusal>>
     requires parent { ForSome parent (λ node. node < node_count (tree outline.now.text)) }
     requires entry { (node : NodeOf) × IsEntry entry.items node }
     ensures { (node : NodeOf) → IsEntry entry.items node

@@ -6,10 +6,10 @@ ghost use Rattle.std.specs.Prelude.{◌≡◌, ℕ, List, ◌++◌, ◌==◌, co
 ghost use Rattle.org_capture.specs.Template.{expanded, last_line, text_of, with_prefix};
 ghost use Rattle.org_capture.specs.Lengths.{AnswersLength, Grows, sizes_of};
 
-use crate::fault::CaptureFault;
 use crate::piece::{Piece, first_piece};
 use crate::template::{last_line_len, split_plain};
 use memchr::memchr_iter;
+use org_fault::{Fault, Refusal};
 use org_stamp::{Moment, Stamp};
 use std::alloc::Global;
 
@@ -63,7 +63,7 @@ fn with_piece(
     piece: Piece,
     moment: Moment,
     initial_text: &[u8],
-) -> Result<Sizes, CaptureFault>
+) -> Result<Sizes, Fault<Refusal>>
     ensures { (text : List ℕ) → sizes ≡ sizes_of text
         → Grows (text_of moment initial_text.now (last_line text) piece) text result }
 {
@@ -75,7 +75,7 @@ fn with_piece(
         }
         Piece::Initial => Ok(with_initial(sizes, initial_text)),
         Piece::Cursor => Ok(with_bytes(sizes, &[])),
-        Piece::Unknown => Err(CaptureFault::BadTemplate),
+        Piece::Unknown => Err(Fault::Refused(Refusal::BadTemplate)),
     }
 }
 
@@ -92,7 +92,7 @@ pub fn expanded_length(
     template: &[u8],
     moment: Moment,
     initial_text: &[u8],
-) -> Result<usize, CaptureFault>
+) -> Result<usize, Fault<Refusal>>
     ensures { AnswersLength (expanded template.now moment initial_text.now) result }
 {
     let mut sizes = Sizes { whole: 0, line: 0 };

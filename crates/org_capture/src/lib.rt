@@ -5,7 +5,6 @@ mod capturing;
 mod date_trees;
 mod dates;
 mod entries;
-mod fault;
 mod inserting;
 pub mod laws;
 mod lengths;
@@ -16,7 +15,6 @@ mod template;
 
 pub use capturing::capture;
 pub use entries::entry;
-pub use fault::CaptureFault;
 pub use lengths::expanded_length;
 pub use target::Target;
 pub use template::expand;

@@ -7,9 +7,9 @@ ghost use Rattle.org_stamp.specs.Calendar.{Moment};
 ghost use Rattle.org_capture.specs.Template.{expanded, filled, last_line, pieces_of, text_of, with_prefix};
 ghost use Rattle.org_capture.specs.Answers.{Adds, AnswersBytes};
 
-use crate::fault::CaptureFault;
 use crate::piece::{Piece, first_piece};
 use memchr::{memchr, memrchr};
+use org_fault::{Fault, Refusal};
 use org_stamp::{Moment, Stamp};
 use std::alloc::{AllocError, Global};
 
@@ -62,7 +62,7 @@ fn push_piece(
     piece: Piece,
     moment: Moment,
     initial_text: &[u8],
-) -> Result<(), CaptureFault>
+) -> Result<(), Fault<Refusal>>
     ensures { Adds (text_of moment initial_text.now (last_line text.old.items) piece)
         text.old.items text.new.items result }
 {
@@ -80,7 +80,7 @@ fn push_piece(
             push_with_prefix(text, prefix.as_slice(), initial_text)?;
         }
         Piece::Cursor => {}
-        Piece::Unknown => return Err(CaptureFault::BadTemplate),
+        Piece::Unknown => return Err(Fault::Refused(Refusal::BadTemplate)),
     }
     Ok(())
 }
@@ -100,7 +100,7 @@ pub fn expand(
     template: &[u8],
     moment: Moment,
     initial_text: &[u8],
-) -> Result<Vec<u8>, CaptureFault>
+) -> Result<Vec<u8>, Fault<Refusal>>
     ensures { AnswersBytes (expanded template.now moment initial_text.now) result }
 {
     // The newline that a last line may lack finds room too.

@@ -9,8 +9,8 @@ use Rattle.org_outline.specs.States.{Keywords}
 use Rattle.org_journal.specs.Recovered.{Image, contents}
 use Rattle.org_texts.specs.declared.plan.Plan.{Plan}
 use Rattle.org_texts.specs.Texts.{Holding}
-use Rattle.org_commands.specs.declared.command.Refusal.{Refusal}
-use Rattle.org_commands.specs.declared.command.Refusal.TheVariants.{NoSuchFile, BadTemplate, BadEntry, NotFound, NotUnique, InsideItself, AlreadyArchive, UnknownState, OddPlanning, BadRepeat, DateRange, NoClock, ClockBackwards, BadLocation, NotThere, TooLarge}
+use Rattle.org_fault.specs.declared.refusal.Refusal.{Refusal}
+use Rattle.org_fault.specs.declared.refusal.Refusal.TheVariants.{NoSuchFile, BadTemplate, BadEntry, NotFound, NotUnique, InsideItself, AlreadyArchive, UnknownState, OddPlanning, BadRepeat, DateRange, NoClock, ClockBackwards, BadLocation, NotThere, TooLarge}
 use Rattle.org_commands.specs.declared.command.Reply.{Reply}
 use Rattle.org_commands.specs.declared.command.Reply.TheVariants.{Done, Safe, Text, Time}
 use Rattle.org_commands.specs.declared.command.RunFault.{RunFault}

@@ -5,6 +5,10 @@ use Rattle.std.specs.Result.{IsErrAnd}
 use Rattle.std.specs.Str.{bytes_eq}
 use Rattle.std.proofs.lemmas.Bool.{false≢true}
 use Rattle.std.proofs.lemmas.Slice.Eq.{bytes_eq-Decides}
+use Rattle.org_fault.specs.declared.fault.Fault.{Fault}
+use Rattle.org_fault.specs.declared.fault.Fault.TheVariants as fault
+use Rattle.org_fault.specs.declared.refusal.Refusal.{Refusal}
+use Rattle.org_fault.specs.declared.refusal.Refusal.TheVariants.{NoSuchFile}
 use Rattle.org_disk.specs.declared.disk.Disk.{Ghosts}
 use Rattle.org_outline.specs.declared.steps.Step.{Step}
 use Rattle.org_splice.specs.Lines.{terminated}
@@ -13,8 +17,7 @@ use Rattle.org_splice.specs.Texts.{EditedText}
 use Rattle.org_splice.proofs.Lines.{lines_of-terminated}
 use Rattle.org_journal.specs.Recovered.{contents}
 use Rattle.org_outline.specs.declared.paths.PathFault.{PathFault}
-use Rattle.org_outline.specs.declared.paths.PathFault.TheVariants as path_fault
-use Rattle.org_outline.specs.Paths.{find_path}
+use Rattle.org_outline.specs.Paths.{find_path, refusal_of}
 use Rattle.org_outline.specs.States.{Keywords}
 use Rattle.org_outline.specs.Tree.{Document, node_count, print, tree}
 use Rattle.org_outline.proofs.Trees.{tree-terminated}
@@ -23,20 +26,18 @@ use Rattle.org_texts.specs.declared.plan.FileEdits.{FileEdits}
 use Rattle.org_texts.specs.declared.plan.Plan.{Plan}
 use Rattle.org_texts.specs.Texts.{Holding, TextSet, bytes_or, text_of}
 use Rattle.org_texts.proofs.Looking.{not_equal, the_value}
-use Rattle.org_move.specs.declared.fault.MoveFault.{MoveFault}
-use Rattle.org_move.specs.declared.fault.MoveFault.TheVariants as fault
 use Rattle.org_move.specs.Answers.{IsMadeAs, IsPlaceAs}
 use Rattle.org_move.specs.Archive.{archive_across, archive_across_at, archive_within, archive_within_at}
 use Rattle.org_move.specs.Location.{Destination, location, location_at}
-use Rattle.org_move.specs.Refile.{Moved, fault_of, with_found}
-use Rattle.org_commands.specs.declared.command.Refusal.TheVariants.{NoSuchFile}
+use Rattle.org_move.specs.Refile.{Moved, with_found}
 use Rattle.org_commands.specs.declared.command.RunFault.{RunFault}
+use Rattle.org_commands.specs.declared.command.RunFault.TheVariants.{Refused}
 use Rattle.org_commands.specs.declared.tally.Tally.{Tally}
 use Rattle.org_commands.specs.Files.{AreReady, IsPlanFor, IsReady, KeepsHeld, OpenFiles, new_texts}
 use Rattle.org_commands.specs.Headings.{HasHeading}
 use Rattle.org_commands.specs.InOrder.{is_name, text_at}
-use Rattle.org_commands.specs.Keeping.{Plans, fault_of_move, fault_of_path}
-use Rattle.org_commands.specs.Outcome.{Outcome, Refuses, archive, archive_at, archive_to, refusal_of_move, refusal_of_path, with_moved}
+use Rattle.org_commands.specs.Keeping.{Plans, fault_of}
+use Rattle.org_commands.specs.Outcome.{Outcome, Refuses, archive, archive_at, archive_to, with_moved}
 use Rattle.org_commands.specs.Refile.{MakesDocument, MakesDocuments, text_within, texts_across}
 use Rattle.org_commands.specs.Session.{BetweenSessions, Session}
 use Rattle.org_commands.specs.Step.{Steps}
@@ -124,11 +125,6 @@ location_terminated states name path text = rw (lines_of-terminated text) refl
 pub place_is : (states : Keywords) (name : List ℕ) (path : List Step) (text : List ℕ) (i : ℕ) → find_path states (tree text) path ≡ Ok i → location states name path text ≡ location_at states name text i
 place_is states name path text i found = ap (λ (f : Result ℕ PathFault). with_found f (λ i. location_at states name text i)) found
 
--- one that isn't
-one_refusal : (why : PathFault) → Refuses (refusal_of_move (fault_of why)) ≡ Refuses (refusal_of_path why)
-one_refusal path_fault.NotFound = refl
-one_refusal path_fault.NotUnique = refl
-
 module _ (s : Session) (file : List ℕ) (path : List Step) (moment : Moment) where
   -- what an archiving is to do with the store's text of the file
   abbrev pub told : Outcome
@@ -144,24 +140,24 @@ module _ (s : Session) (file : List ℕ) (path : List Step) (moment : Moment) wh
       ∙ ap (archive_at s file path moment text) (sym (ap (location s.states file path) stays_terminated ∙ location_terminated s.states file path text))
 
   -- there is no heading at the path
-  pub path_refused : (text seen : List ℕ) (why : PathFault) → s.broken ≡ false → text_at s.names s.files file ≡ Some text → seen ≡ terminated text → find_path s.states (tree seen) path ≡ Err why → Steps s told (Err (fault_of_path why)) s
+  pub path_refused : (text seen : List ℕ) (why : PathFault) → s.broken ≡ false → text_at s.names s.files file ≡ Some text → seen ≡ terminated text → find_path s.states (tree seen) path ≡ Err why → Steps s told (Err (Refused (refusal_of why))) s
   path_refused text seen why unbroken at stays_terminated none =
-      (unbroken, told_at text seen at stays_terminated ∙ ap (λ (f : Result ℕ PathFault). archive_at s file path moment text (with_found f (λ i. location_at s.states file seen i))) none ∙ one_refusal why, refl)
+      (unbroken, told_at text seen at stays_terminated ∙ ap (λ (f : Result ℕ PathFault). archive_at s file path moment text (with_found f (λ i. location_at s.states file seen i))) none, refl)
 
   -- an archiving without a location
-  pub place_refused : (text seen : List ℕ) (result : Result Destination MoveFault) (why : MoveFault) → s.broken ≡ false → text_at s.names s.files file ≡ Some text → seen ≡ terminated text → result ≡ Err why
-      → IsPlaceAs (location s.states file path seen) result → Steps s told (Err (fault_of_move why)) s
+  pub place_refused : (text seen : List ℕ) (result : Result Destination (Fault Refusal)) (why : Fault Refusal) → s.broken ≡ false → text_at s.names s.files file ≡ Some text → seen ≡ terminated text → result ≡ Err why
+      → IsPlaceAs (location s.states file path seen) result → Steps s told (Err (fault_of why)) s
   place_refused text seen result why unbroken at stays_terminated was gives = go why (subst (IsPlaceAs said) was gives)
     where
-      said : Result Destination MoveFault
+      said : Result Destination Refusal
       said = location s.states file path seen
 
-      refuses : (w : MoveFault) → said ≡ Err w → told ≡ Refuses (refusal_of_move w)
+      refuses : (w : Refusal) → said ≡ Err w → told ≡ Refuses w
       refuses w none = told_at text seen at stays_terminated ∙ ap (archive_at s file path moment text) none
 
-      go : (w : MoveFault) → IsPlaceAs said (Err w) → Steps s told (Err (fault_of_move w)) s
+      go : (w : Fault Refusal) → IsPlaceAs said (Err w) → Steps s told (Err (fault_of w)) s
       go fault.OutOfMemory gives = (unbroken, refl)
-      go w gives = (unbroken, refuses w gives, refl)
+      go (fault.Refused w) gives = (unbroken, refuses w gives, refl)
 
   -- .. and one with a location
   pub place_found : (text seen : List ℕ) (to : Destination) → text_at s.names s.files file ≡ Some text → seen ≡ terminated text → IsPlaceAs (location s.states file path seen) (Ok to) → told ≡ told_to text to
@@ -204,7 +200,7 @@ module _ {D : Type 0} (g : Ghosts D) (states : Keywords) (files : OpenFiles D) (
   abbrev seen : List ℕ
   seen = held_bytes files.held file
 
-  abbrev said : Result Document MoveFault
+  abbrev said : Result Document Refusal
   said = archive_within_at states file moment to (tree seen) i
 
   abbrev told_within : Outcome
@@ -215,7 +211,7 @@ module _ {D : Type 0} (g : Ghosts D) (states : Keywords) (files : OpenFiles D) (
       let store = store_text g states files tally s (file ∷ []) file refl ready (one_name file) there in
       within_is s file path moment text seen to i at (same_terminated text store.0 seen (sym at ∙ store.1) store.2) own found
 
-  pub within_fails : text_at s.names s.files file ≡ Some text → find_path states (tree text) path ≡ Ok i → (result : Result Plan MoveFault) {why : MoveFault} (answer : Result Plan RunFault) → result ≡ Err why → IsMadeAs said (MakesDocument file seen) result → IsErrAnd answer (λ y. y ≡ fault_of_move why)
+  pub within_fails : text_at s.names s.files file ≡ Some text → find_path states (tree text) path ≡ Ok i → (result : Result Plan (Fault Refusal)) {why : Fault Refusal} (answer : Result Plan RunFault) → result ≡ Err why → IsMadeAs said (MakesDocument file seen) result → IsErrAnd answer (λ y. y ≡ fault_of why)
       → Plans s told_within answer files.held s
   within_fails at found result answer was gives handed = move_fails files.held (text_within file) said (MakesDocument file seen) result answer unbroken refl (told_within_is at found) was gives handed
 
@@ -247,7 +243,7 @@ both_ready g states old new file to_file copy is differ has there was ready name
 }
 
 module _ {D : Type 0} {g : Ghosts D} {states : Keywords} {old new : OpenFiles D} (file : List ℕ) (path : List Step) (moment : Moment) (to : Destination) (i : ℕ) (both : AreBothReady g states old new file to.file) where
-  abbrev made : Result Moved MoveFault
+  abbrev made : Result Moved Refusal
   made = archive_across_at states file moment (tree (held_bytes new.held file)) states to (tree (held_bytes new.held to.file)) i
 
   abbrev Makes : Moved → Plan → Type 0
@@ -270,7 +266,7 @@ module _ {D : Type 0} {g : Ghosts D} {states : Keywords} {old new : OpenFiles D}
         let other = store_text g states new tally before (to.file ∷ file ∷ []) to.file read both.ready (first_name to.file (file ∷ [])) both.also in
         across_is before file path moment text (held_bytes new.held file) other.0 (held_bytes new.held to.file) to i other.1 (same_terminated text own.0 (held_bytes new.held file) (sym at ∙ own.1) own.2) other.2 both.apart found
 
-    pub across_fails : (result : Result Plan MoveFault) {why : MoveFault} (answer : Result Plan RunFault) → old.broken ≡ false → result ≡ Err why → IsMadeAs made Makes result → IsErrAnd answer (λ y. y ≡ fault_of_move why)
+    pub across_fails : (result : Result Plan (Fault Refusal)) {why : Fault Refusal} (answer : Result Plan RunFault) → old.broken ≡ false → result ≡ Err why → IsMadeAs made Makes result → IsErrAnd answer (λ y. y ≡ fault_of why)
         → Plans before (told_to before file path moment text to) answer new.held (session_in g states new tally)
     across_fails result answer unbroken was gives handed = move_fails new.held (texts_across file to.file) made Makes result answer unbroken (both.reads tally honest) told_across was gives handed
 

@@ -4,6 +4,9 @@ use Rattle.std.specs.Global.{Global}
 use Rattle.std.specs.Option.{is_some, unwrap_or}
 use Rattle.std.specs.Result.{result_map_both}
 use Rattle.std.proofs.lemmas.Bool.{false≢true}
+use Rattle.org_fault.specs.declared.fault.Fault.{Fault}
+use Rattle.org_fault.specs.declared.fault.Fault.TheVariants as fault
+use Rattle.org_fault.specs.declared.refusal.Refusal.{Refusal}
 use Rattle.org_disk.proofs.Names.{name_cases}
 use Rattle.org_outline.specs.declared.steps.Step.{Step}
 use Rattle.org_splice.specs.declared.edit.Edit.{Edit}
@@ -11,9 +14,8 @@ use Rattle.org_splice.specs.Edits.{AreEdits}
 use Rattle.org_splice.specs.Texts.{EditedText}
 use Rattle.org_journal.specs.Recovered.{Image}
 use Rattle.org_outline.specs.declared.paths.PathFault.{PathFault}
-use Rattle.org_outline.specs.declared.paths.PathFault.TheVariants as path
 use Rattle.org_outline.specs.States.{Keywords}
-use Rattle.org_outline.specs.Paths.{find_path}
+use Rattle.org_outline.specs.Paths.{find_path, refusal_of}
 use Rattle.org_outline.specs.Tree.{Document, node_count, print, tree}
 use Rattle.org_outline.proofs.Trees.{tree-terminated}
 use Rattle.org_stamp.specs.Calendar.{Moment}
@@ -21,11 +23,8 @@ use Rattle.org_texts.specs.declared.plan.Plan.{Plan}
 use Rattle.org_texts.specs.Texts.{Holding, held_over, text_of}
 use Rattle.org_move.specs.Refile.{Moved}
 use Rattle.org_state.specs.declared.run.Running.{Running}
-use Rattle.org_state.specs.declared.fault.StateFault.{StateFault}
-use Rattle.org_state.specs.declared.fault.StateFault.TheVariants as fault
 use Rattle.org_state.specs.Answers.{Makes}
 use Rattle.org_state.specs.Clock.{AnswersClosing, AnswersSwitch, running_in, switched, with_closed, with_opened}
-use Rattle.org_state.specs.Todo.{fault_of_path}
 use Rattle.org_commands.specs.declared.command.RunFault.{RunFault}
 use Rattle.org_commands.specs.declared.command.RunFault.TheVariants.{Refused, OutOfMemory, Device, Broken}
 use Rattle.org_commands.specs.declared.tally.Tally.{Tally}
@@ -34,8 +33,8 @@ use Rattle.org_commands.specs.Clocks.{RunsHeld, running_over}
 use Rattle.org_commands.specs.Files.{AreReady, KeepsHeld, OpenFiles}
 use Rattle.org_commands.specs.Headings.{HasHeading}
 use Rattle.org_commands.specs.InOrder.{is_name, text_at, texts_of}
-use Rattle.org_commands.specs.Keeping.{LooksUp, Reads, fault_of_state}
-use Rattle.org_commands.specs.Outcome.{Outcome, Refuses, clock_in, clock_in_beside, refusal_of_path, refusal_of_state, with_clock_moved, with_state}
+use Rattle.org_commands.specs.Keeping.{LooksUp, Reads, fault_of}
+use Rattle.org_commands.specs.Outcome.{Outcome, Refuses, clock_in, clock_in_beside, with_clock_moved, with_state}
 use Rattle.org_commands.specs.Refile.{MakesDocuments}
 use Rattle.org_commands.specs.Session.{Session, session_over}
 use Rattle.org_commands.specs.Step.{Steps}
@@ -45,32 +44,20 @@ use Rattle.org_commands.proofs.Plans.{ready_text, text_held}
 -- ---- the edits of one text
 
 -- no edits, for this reason, unless there was no memory
-pub not_planned : (file text : List ℕ) (said : Result (Option Document) StateFault) (result : Result (Option Plan) StateFault) (why : StateFault) → result ≡ Err why → (why ≢ fault.OutOfMemory → said ≡ Err why) → PlansState file text said result
+pub not_planned : (file text : List ℕ) (said : Result (Option Document) Refusal) (result : Result (Option Plan) (Fault Refusal)) (why : Fault Refusal) → result ≡ Err why → ((w : Refusal) → why ≡ fault.Refused w → said ≡ Err w) → PlansState file text said result
 not_planned file text said result why is told = subst (PlansState file text said) (sym is) (go why told)
   where
-    go : (w : StateFault) → (w ≢ fault.OutOfMemory → said ≡ Err w) → PlansState file text said (Err w)
+    go : (f : Fault Refusal) → ((w : Refusal) → f ≡ fault.Refused w → said ≡ Err w) → PlansState file text said (Err f)
     go fault.OutOfMemory told = tt
-    go fault.NotFound told = told (λ is. cc)
-    go fault.NotUnique told = told (λ is. cc)
-    go fault.UnknownState told = told (λ is. cc)
-    go fault.OddPlanning told = told (λ is. cc)
-    go fault.BadRepeat told = told (λ is. cc)
-    go fault.DateRange told = told (λ is. cc)
-    go fault.ClockBackwards told = told (λ is. cc)
+    go (fault.Refused w) told = told w refl
 
 -- the same of two texts
-pub not_moved : (other file text target : List ℕ) (said : Result Moved StateFault) (result : Result Plan StateFault) (why : StateFault) → result ≡ Err why → (why ≢ fault.OutOfMemory → said ≡ Err why) → PlansClocks other file text target said result
+pub not_moved : (other file text target : List ℕ) (said : Result Moved Refusal) (result : Result Plan (Fault Refusal)) (why : Fault Refusal) → result ≡ Err why → ((w : Refusal) → why ≡ fault.Refused w → said ≡ Err w) → PlansClocks other file text target said result
 not_moved other file text target said result why is told = subst (PlansClocks other file text target said) (sym is) (go why told)
   where
-    go : (w : StateFault) → (w ≢ fault.OutOfMemory → said ≡ Err w) → PlansClocks other file text target said (Err w)
+    go : (f : Fault Refusal) → ((w : Refusal) → f ≡ fault.Refused w → said ≡ Err w) → PlansClocks other file text target said (Err f)
     go fault.OutOfMemory told = tt
-    go fault.NotFound told = told (λ is. cc)
-    go fault.NotUnique told = told (λ is. cc)
-    go fault.UnknownState told = told (λ is. cc)
-    go fault.OddPlanning told = told (λ is. cc)
-    go fault.BadRepeat told = told (λ is. cc)
-    go fault.DateRange told = told (λ is. cc)
-    go fault.ClockBackwards told = told (λ is. cc)
+    go (fault.Refused w) told = told w refl
 
 -- ---- a clock opened
 
@@ -83,18 +70,11 @@ start_made now text seen i edit edits same are makes =
 
 -- ---- a clock moved within a text
 
-pub switch_told : (now : Moment) (from i : ℕ) (text seen : List ℕ) (answer : Result (Vec Edit Global) StateFault) → seen ≡ text → AnswersSwitch now seen from i answer → AnswersSwitch now text from i answer
+pub switch_told : (now : Moment) (from i : ℕ) (text seen : List ℕ) (answer : Result (Vec Edit Global) (Fault Refusal)) → seen ≡ text → AnswersSwitch now seen from i answer → AnswersSwitch now text from i answer
 switch_told now from i text seen answer same answers = subst (λ (b : List ℕ). AnswersSwitch now b from i answer) same answers
 
-pub switch_refused : (now : Moment) (text : List ℕ) (from i : ℕ) (why : StateFault) → AnswersSwitch now text from i (Err why) → why ≢ fault.OutOfMemory → switched now from (tree text) i ≡ Err why
-switch_refused now text from i fault.OutOfMemory answers some = absurd (some refl)
-switch_refused now text from i fault.NotFound answers some = answers
-switch_refused now text from i fault.NotUnique answers some = answers
-switch_refused now text from i fault.UnknownState answers some = answers
-switch_refused now text from i fault.OddPlanning answers some = answers
-switch_refused now text from i fault.BadRepeat answers some = answers
-switch_refused now text from i fault.DateRange answers some = answers
-switch_refused now text from i fault.ClockBackwards answers some = answers
+pub switch_refused : (now : Moment) (text : List ℕ) (from i : ℕ) (why : Fault Refusal) → AnswersSwitch now text from i (Err why) → (w : Refusal) → why ≡ fault.Refused w → switched now from (tree text) i ≡ Err w
+switch_refused now text from i why answers w is = subst (λ (f : Fault Refusal). AnswersSwitch now text from i (Err f)) is answers
 
 pub switch_stays : (now : Moment) (text : List ℕ) (from i : ℕ) (edits : Vec Edit Global) → edits.items ≡ [] → AnswersSwitch now text from i (Ok edits) → switched now from (tree text) i ≡ Ok None
 switch_stays now text from i edits none (new, is, makes) = go new is makes
@@ -113,41 +93,34 @@ switch_made now text from i edits some (new, is, makes) = go new is makes
 
 -- ---- a clock closed
 
-closing_fault : (now : Moment) (text : List ℕ) (i : ℕ) (why : StateFault) → AnswersClosing now text i (Err why) → why ≢ fault.OutOfMemory → with_closed now i (tree text) ≡ Err why
-closing_fault now text i fault.OutOfMemory answers some = absurd (some refl)
-closing_fault now text i fault.NotFound answers some = answers
-closing_fault now text i fault.NotUnique answers some = answers
-closing_fault now text i fault.UnknownState answers some = answers
-closing_fault now text i fault.OddPlanning answers some = answers
-closing_fault now text i fault.BadRepeat answers some = answers
-closing_fault now text i fault.DateRange answers some = answers
-closing_fault now text i fault.ClockBackwards answers some = answers
+closing_fault : (now : Moment) (text : List ℕ) (i : ℕ) (why : Fault Refusal) → AnswersClosing now text i (Err why) → (w : Refusal) → why ≡ fault.Refused w → with_closed now i (tree text) ≡ Err w
+closing_fault now text i why answers w is = subst (λ (f : Fault Refusal). AnswersClosing now text i (Err f)) is answers
 
-pub stop_refused : (now : Moment) (text seen : List ℕ) (running : Running) (why : StateFault) → seen ≡ text → AnswersClosing now seen running.heading (Err why) → why ≢ fault.OutOfMemory → clocked_out now running (tree text) ≡ Err why
-stop_refused now text seen running why same answers some =
-    ap (result_map_both (λ (new : Document). Some new) (λ (f : StateFault). f)) (closing_fault now text running.heading why (subst (λ (b : List ℕ). AnswersClosing now b running.heading (Err why)) same answers) some)
+pub stop_refused : (now : Moment) (text seen : List ℕ) (running : Running) (why : Fault Refusal) → seen ≡ text → AnswersClosing now seen running.heading (Err why) → (w : Refusal) → why ≡ fault.Refused w → clocked_out now running (tree text) ≡ Err w
+stop_refused now text seen running why same answers w is =
+    ap (result_map_both (λ (new : Document). Some new) (λ (f : Refusal). f)) (closing_fault now text running.heading why (subst (λ (b : List ℕ). AnswersClosing now b running.heading (Err why)) same answers) w is)
 
 pub stop_made : (now : Moment) (text seen : List ℕ) (running : Running) (edit : Edit) (edits : List Edit) → seen ≡ text → edits ≡ edit ∷ [] → AnswersClosing now seen running.heading (Ok edit)
     → (new : Document) × (clocked_out now running (tree text) ≡ Ok (Some new)) × AreEdits edits text (print new)
 stop_made now text seen running edit edits same are answers =
     let made = subst (λ (b : List ℕ). AnswersClosing now b running.heading (Ok edit)) same answers in (
       made.0,
-      ap (result_map_both (λ (new : Document). Some new) (λ (f : StateFault). f)) made.1,
+      ap (result_map_both (λ (new : Document). Some new) (λ (f : Refusal). f)) made.1,
       subst (λ (es : List Edit). AreEdits es text (print made.0)) (sym are) made.2,
     )
 
 -- ---- a clock moved to another text
 
 module _ (now : Moment) (other text : List ℕ) (running : Running) (i : ℕ) where
-  abbrev pub said : Result Moved StateFault
+  abbrev pub said : Result Moved Refusal
   said = clock_moved now running (tree other) (tree text) (Ok i)
 
   abbrev moved : Document → Moved
   moved new = record { source = new; target = with_opened now i (tree text) }
 
-  pub move_not_stopped : (why : StateFault) (seen : List ℕ) → seen ≡ other → AnswersClosing now seen running.heading (Err why) → why ≢ fault.OutOfMemory → said ≡ Err why
-  move_not_stopped why seen same answers some =
-      ap (result_map_both moved (λ (f : StateFault). f)) (closing_fault now other running.heading why (subst (λ (b : List ℕ). AnswersClosing now b running.heading (Err why)) same answers) some)
+  pub move_not_stopped : (why : Fault Refusal) (seen : List ℕ) → seen ≡ other → AnswersClosing now seen running.heading (Err why) → (w : Refusal) → why ≡ fault.Refused w → said ≡ Err w
+  move_not_stopped why seen same answers w is =
+      ap (result_map_both moved (λ (f : Refusal). f)) (closing_fault now other running.heading why (subst (λ (b : List ℕ). AnswersClosing now b running.heading (Err why)) same answers) w is)
 
   pub move_made : (file to_file : List ℕ) (start stop : Edit) (plan : Plan) (seen found : List ℕ) → seen ≡ other → found ≡ text → AreEdits (start ∷ []) found (print (with_opened now i (tree found))) → AnswersClosing now seen running.heading (Ok stop)
       → ((new : Moved) → AreEdits (stop ∷ []) other (print new.source) → AreEdits (start ∷ []) text (print new.target) → MakesDocuments file to_file other text new plan)
@@ -155,7 +128,7 @@ module _ (now : Moment) (other text : List ℕ) (running : Running) (i : ℕ) wh
   move_made file to_file start stop plan seen found same is starts closing makes =
       let closes = subst (λ (b : List ℕ). AnswersClosing now b running.heading (Ok stop)) same closing in
       let opens = subst (λ (b : List ℕ). AreEdits (start ∷ []) b (print (with_opened now i (tree b)))) is starts in
-      (moved closes.0, ap (result_map_both moved (λ (f : StateFault). f)) closes.1, makes (moved closes.0) closes.2 opens)
+      (moved closes.0, ap (result_map_both moved (λ (f : Refusal). f)) closes.1, makes (moved closes.0) closes.2 opens)
 
 -- ---- what the planners see of the files
 
@@ -206,21 +179,17 @@ reads_look_up s new found Broken same = absurd same
 reads_look_up s new found (Refused why) same = absurd same
 
 -- one that isn't there
-one_refusal : (why : PathFault) → Refuses (refusal_of_state (fault_of_path why)) ≡ Refuses (refusal_of_path why)
-one_refusal path.NotFound = refl
-one_refusal path.NotUnique = refl
-
 pub path_fails : (s : Session) (file : List ℕ) (moment : Moment) (d : Document) (found : Result ℕ PathFault) (clock : Option (List ℕ × Running)) (why : PathFault) → found ≡ Err why
-    → clock_in_beside s file moment d found clock ≡ Refuses (refusal_of_path why)
-path_fails s file moment d found None why is = ap (λ (f : Result ℕ PathFault). with_state s file (clocked_in moment None d f)) is ∙ one_refusal why
+    → clock_in_beside s file moment d found clock ≡ Refuses (refusal_of why)
+path_fails s file moment d found None why is = ap (λ (f : Result ℕ PathFault). with_state s file (clocked_in moment None d f)) is
 path_fails s file moment d found (Some clock) why is = elim (name_cases clock.0 file) [
-  | inl same ↦ let t = same.1 in rw t (ap (λ (f : Result ℕ PathFault). with_state s file (clocked_in moment (Some clock.1) d f)) is ∙ one_refusal why)
+  | inl same ↦ let t = same.1 in rw t (ap (λ (f : Result ℕ PathFault). with_state s file (clocked_in moment (Some clock.1) d f)) is)
   | inr not ↦
       let f = not.1 in
-      rw f (ap (λ (r : Result ℕ PathFault). with_clock_moved s clock.0 file (clock_moved moment clock.1 (tree (unwrap_or (text_at s.names s.files clock.0) [])) d r)) is ∙ one_refusal why)
+      rw f (ap (λ (r : Result ℕ PathFault). with_clock_moved s clock.0 file (clock_moved moment clock.1 (tree (unwrap_or (text_at s.names s.files clock.0) [])) d r)) is)
 ]
 
-pub look_up_fails : (s new : Session) (found : Result ℕ PathFault) (told : Outcome) (why : RunFault) → s.broken ≡ false → ((none : PathFault) → found ≡ Err none → told ≡ Refuses (refusal_of_path none))
+pub look_up_fails : (s new : Session) (found : Result ℕ PathFault) (told : Outcome) (why : RunFault) → s.broken ≡ false → ((none : PathFault) → found ≡ Err none → told ≡ Refuses (refusal_of none))
     → LooksUp s found (Err why) new → Steps s told (Err why) new
 look_up_fails s new found told (Refused why) unbroken is ((none, failed, named), same) = (unbroken, is none failed ∙ ap (λ r. Refuses r) (sym named), same)
 look_up_fails s new found told OutOfMemory unbroken is same = (unbroken, same)
@@ -255,19 +224,13 @@ beside_other s file moment d found clock apart = elim (name_cases clock.0 file) 
 ]
 
 -- two files that aren't changed
-pub move_not_made : (s : Session) (other file text target : List ℕ) (told : Outcome) (said : Result Moved StateFault) (result : Result Plan StateFault) (why : StateFault) → s.broken ≡ false → told ≡ with_clock_moved s other file said
-    → result ≡ Err why → PlansClocks other file text target said result → Steps s told (Err (fault_of_state why)) s
+pub move_not_made : (s : Session) (other file text target : List ℕ) (told : Outcome) (said : Result Moved Refusal) (result : Result Plan (Fault Refusal)) (why : Fault Refusal) → s.broken ≡ false → told ≡ with_clock_moved s other file said
+    → result ≡ Err why → PlansClocks other file text target said result → Steps s told (Err (fault_of why)) s
 move_not_made s other file text target told said result why unbroken is was plans = go why (subst (PlansClocks other file text target said) was plans)
   where
-    refuses : (w : StateFault) → said ≡ Err w → told ≡ Refuses (refusal_of_state w)
+    refuses : (w : Refusal) → said ≡ Err w → told ≡ Refuses w
     refuses w none = is ∙ ap (with_clock_moved s other file) none
 
-    go : (w : StateFault) → PlansClocks other file text target said (Err w) → Steps s told (Err (fault_of_state w)) s
+    go : (f : Fault Refusal) → PlansClocks other file text target said (Err f) → Steps s told (Err (fault_of f)) s
     go fault.OutOfMemory plans = (unbroken, refl)
-    go fault.NotFound plans = (unbroken, refuses fault.NotFound plans, refl)
-    go fault.NotUnique plans = (unbroken, refuses fault.NotUnique plans, refl)
-    go fault.UnknownState plans = (unbroken, refuses fault.UnknownState plans, refl)
-    go fault.OddPlanning plans = (unbroken, refuses fault.OddPlanning plans, refl)
-    go fault.BadRepeat plans = (unbroken, refuses fault.BadRepeat plans, refl)
-    go fault.DateRange plans = (unbroken, refuses fault.DateRange plans, refl)
-    go fault.ClockBackwards plans = (unbroken, refuses fault.ClockBackwards plans, refl)
+    go (fault.Refused w) plans = (unbroken, refuses w plans, refl)

@@ -21,7 +21,7 @@ use Rattle.org_texts.specs.Files.{is_dirty}
 use Rattle.org_texts.specs.Texts.{TextSet, text_of}
 use Rattle.org_commands.specs.declared.command.RunFault.{RunFault}
 use Rattle.org_commands.specs.declared.command.RunFault.TheVariants.{OutOfMemory, Device, Broken, Refused}
-use Rattle.org_commands.specs.declared.command.Refusal.TheVariants as refusal
+use Rattle.org_fault.specs.declared.refusal.Refusal.TheVariants as refusal
 use Rattle.org_commands.specs.declared.tally.Tally.{Tally}
 use Rattle.org_commands.specs.Edit.{Replaces}
 use Rattle.org_commands.specs.Files.{AreReadyForCommand, AreTouched, IsPlanFor, OpenFiles, files_of, new_texts, second_file}

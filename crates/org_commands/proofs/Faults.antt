@@ -1,19 +1,15 @@
 -- Answers of calls, and what their faults say of the files and of the accounts.
 use Rattle.std.proofs.Common.{◌≡◌, ◌∙◌, Bool, false, true, Result, Ok, Err, refl, sym, subst}
+use Rattle.org_fault.specs.declared.fault.Fault.{Fault}
+use Rattle.org_fault.specs.declared.fault.Fault.TheVariants as fault
 use Rattle.org_disk.specs.declared.disk.Disk.{Ghosts}
 use Rattle.std.specs.Prelude.{◌↔◌, IfOk, IsErrOf, IsTrue}
 use Rattle.org_disk.specs.CountsFailures.{CountsFailures}
 use Rattle.org_disk.proofs.Accounting.{accounts_fine, accounts_none, accounts_then}
 use Rattle.org_commands.specs.declared.command.RunFault.{RunFault}
-use Rattle.org_commands.specs.declared.command.Refusal.{Refusal}
+use Rattle.org_fault.specs.declared.refusal.Refusal.{Refusal}
 use Rattle.org_commands.specs.declared.command.RunFault.TheVariants.{Broken, Device, Refused}
-use Rattle.org_commands.specs.Keeping.{fault_of_capture, fault_of_move, fault_of_state}
-use Rattle.org_capture.specs.declared.fault.CaptureFault.{CaptureFault}
-use Rattle.org_capture.specs.declared.fault.CaptureFault.TheVariants as capture
-use Rattle.org_move.specs.declared.fault.MoveFault.{MoveFault}
-use Rattle.org_move.specs.declared.fault.MoveFault.TheVariants as move
-use Rattle.org_state.specs.declared.fault.StateFault.{StateFault}
-use Rattle.org_state.specs.declared.fault.StateFault.TheVariants as state
+use Rattle.org_commands.specs.Keeping.{fault_of}
 
 -- one fault, in answers of two types
 pub same_fault : {A B : Type 0} (fault other : RunFault) → ◌≡◌ {A = Result A RunFault} (Err fault) (Err other) → ◌≡◌ {A = Result B RunFault} (Err fault) (Err other)
@@ -40,20 +36,12 @@ abbrev pub IsOwn : RunFault → Type 0
 IsOwn fault = (fault ≡ Broken → ⊥) × (fault ≡ Device → ⊥)
 
 -- .. as all are of a text's edits
-pub capture_own : (why : CaptureFault) → IsOwn (fault_of_capture why)
-capture_own capture.OutOfMemory = (λ no. cc, λ no. cc)
-capture_own why = (λ no. cc, λ no. cc)
-
-pub move_own : (why : MoveFault) → IsOwn (fault_of_move why)
-move_own move.OutOfMemory = (λ no. cc, λ no. cc)
-move_own why = (λ no. cc, λ no. cc)
+pub planned_own : (met : Fault Refusal) → IsOwn (fault_of met)
+planned_own fault.OutOfMemory = (λ no. cc, λ no. cc)
+planned_own (fault.Refused why) = (λ no. cc, λ no. cc)
 
 pub refused_own : (why : Refusal) → IsOwn (Refused why)
 refused_own why = (λ no. cc, λ no. cc)
-
-pub state_own : (why : StateFault) → IsOwn (fault_of_state why)
-state_own state.OutOfMemory = (λ no. cc, λ no. cc)
-state_own why = (λ no. cc, λ no. cc)
 
 -- behind an answer that is Ok nothing is broken
 pub whole_behind : {A E : Type 0} (answer : Result A E) (x : A) (device : E) (broken : Bool) → answer ≡ Ok x → IsErrOf answer device ↔ IsTrue broken → broken ≡ false

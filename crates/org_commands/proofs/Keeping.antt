@@ -6,7 +6,7 @@ use Rattle.org_fileset.specs.Replay.{IsAtRest}
 use Rattle.org_fileset.proofs.Commits.{at_rest_recovers}
 use Rattle.org_commands.specs.declared.command.Reply.{Reply}
 use Rattle.org_commands.specs.declared.command.RunFault.{RunFault}
-use Rattle.org_commands.specs.declared.command.Refusal.TheVariants.{TooLarge}
+use Rattle.org_fault.specs.declared.refusal.Refusal.TheVariants.{TooLarge}
 use Rattle.org_commands.specs.Files.{has_large}
 use Rattle.org_commands.specs.InOrder.{texts_of, with_all, with_texts}
 use Rattle.org_commands.specs.Session.{Session, Holds}

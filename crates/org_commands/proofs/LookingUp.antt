@@ -6,14 +6,15 @@ use Rattle.org_disk.specs.declared.disk.Disk.{Ghosts}
 use Rattle.org_outline.specs.declared.steps.Step.{Step}
 use Rattle.org_splice.specs.Texts.{EditedText}
 use Rattle.org_outline.specs.declared.paths.PathFault.{PathFault}
-use Rattle.org_outline.specs.Paths.{find_path}
+use Rattle.org_outline.specs.Paths.{find_path, refusal_of}
 use Rattle.org_outline.specs.States.{Keywords}
 use Rattle.org_outline.specs.Tree.{Document, tree}
 use Rattle.org_commands.specs.declared.command.RunFault.{RunFault}
+use Rattle.org_commands.specs.declared.command.RunFault.TheVariants.{Refused}
 use Rattle.org_commands.specs.declared.tally.Tally.{Tally}
 use Rattle.org_commands.specs.Files.{OpenFiles}
 use Rattle.org_commands.specs.InOrder.{text_at}
-use Rattle.org_commands.specs.Keeping.{LooksUp, Reads, fault_of_path}
+use Rattle.org_commands.specs.Keeping.{LooksUp, Reads}
 use Rattle.org_commands.specs.Session.{Session}
 use Rattle.org_commands.proofs.Clocks.{reads_look_up}
 use Rattle.org_commands.proofs.Handing.{handed_on}
@@ -38,9 +39,9 @@ module _ {D : Type 0} {g : Ghosts D} {states : Keywords} {old new : OpenFiles D}
   found_is = ap (λ (d : Document). find_path states d path) (document_seen sees tally honest)
 
   -- it isn't there
-  pub look_up_fails : {why : PathFault} (answer : Result ℕ RunFault) → IsErrAnd answer (λ y. y ≡ fault_of_path why) → find_path states (tree seen.bytes) path ≡ Err why → LooksUp s found answer (session_in g states new tally)
+  pub look_up_fails : {why : PathFault} (answer : Result ℕ RunFault) → IsErrAnd answer (λ y. y ≡ Refused (refusal_of why)) → find_path states (tree seen.bytes) path ≡ Err why → LooksUp s found answer (session_in g states new tally)
   look_up_fails {why} answer handed none =
-      subst (λ (r : Result ℕ RunFault). LooksUp s found r (session_in g states new tally)) (sym (handed_on answer (fault_of_path why) handed)) ((why, found_is ∙ none, refl), sees.reads tally honest)
+      subst (λ (r : Result ℕ RunFault). LooksUp s found r (session_in g states new tally)) (sym (handed_on answer (Refused (refusal_of why)) handed)) ((why, found_is ∙ none, refl), sees.reads tally honest)
 
   -- .. or it is, and the command's edits were taken back
   pub look_up_finds : {undone : Session} (i : ℕ) → find_path states (tree seen.bytes) path ≡ Ok i → undone ≡ session_in g states new tally → LooksUp s found (Ok i) undone

@@ -4,7 +4,7 @@ use Rattle.std.specs.Result.{IsErrAnd}
 use Rattle.org_disk.specs.declared.disk.Disk.{Ghosts}
 use Rattle.org_outline.specs.States.{Keywords}
 use Rattle.org_texts.specs.declared.plan.Plan.{Plan}
-use Rattle.org_commands.specs.declared.command.Refusal.TheVariants.{NoSuchFile}
+use Rattle.org_fault.specs.declared.refusal.Refusal.TheVariants.{NoSuchFile}
 use Rattle.org_commands.specs.declared.command.RunFault.{RunFault}
 use Rattle.org_commands.specs.declared.command.RunFault.TheVariants.{Refused}
 use Rattle.org_commands.specs.declared.tally.Tally.{Tally}

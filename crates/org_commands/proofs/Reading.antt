@@ -8,7 +8,7 @@ use Rattle.org_disk.proofs.Accounting.{accounts_fine, accounts_none, accounts_th
 use Rattle.org_fileset.specs.declared.fault.SetFault.{SetFault}
 use Rattle.org_fileset.specs.declared.fault.SetFault.TheVariants as set
 use Rattle.org_texts.specs.Texts.{TextSet}
-use Rattle.org_commands.specs.declared.command.Refusal.{Refusal}
+use Rattle.org_fault.specs.declared.refusal.Refusal.{Refusal}
 use Rattle.org_commands.specs.declared.command.RunFault.{RunFault}
 use Rattle.org_commands.specs.declared.command.RunFault.TheVariants.{Device, Broken, OutOfMemory, Refused}
 use Rattle.org_commands.specs.Files.{OpenFiles, StaysInMemory}

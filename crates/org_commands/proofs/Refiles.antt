@@ -2,6 +2,10 @@
 use Rattle.std.proofs.Common.{◌≡◌, ◌≢◌, inl, inr, ℕ, false, List, [], ◌∷◌, Option, Some, None, Result, Ok, Err, refl, sym, ◌∙◌, ap, subst}
 use Rattle.std.specs.Prelude.{IsSomeAnd}
 use Rattle.std.specs.Result.{IsErrAnd}
+use Rattle.org_fault.specs.declared.fault.Fault.{Fault}
+use Rattle.org_fault.specs.declared.fault.Fault.TheVariants as fault
+use Rattle.org_fault.specs.declared.refusal.Refusal.{Refusal}
+use Rattle.org_fault.specs.declared.refusal.Refusal.TheVariants.{NoSuchFile}
 use Rattle.org_disk.specs.declared.disk.Disk.{Ghosts}
 use Rattle.org_disk.proofs.Names.{name_cases, same_name}
 use Rattle.org_outline.specs.declared.steps.Step.{Step}
@@ -15,16 +19,13 @@ use Rattle.org_outline.proofs.Trees.{tree-terminated}
 use Rattle.org_texts.specs.declared.plan.FileEdits.{FileEdits}
 use Rattle.org_texts.specs.declared.plan.Plan.{Plan}
 use Rattle.org_texts.specs.Texts.{Holding}
-use Rattle.org_move.specs.declared.fault.MoveFault.{MoveFault}
-use Rattle.org_move.specs.declared.fault.MoveFault.TheVariants as fault
 use Rattle.org_move.specs.Answers.{IsMadeAs}
 use Rattle.org_move.specs.Refile.{Moved, refile_across, refile_within}
-use Rattle.org_commands.specs.declared.command.Refusal.TheVariants.{NoSuchFile}
 use Rattle.org_commands.specs.declared.command.RunFault.{RunFault}
 use Rattle.org_commands.specs.Files.{OpenFiles, new_texts}
 use Rattle.org_commands.specs.InOrder.{text_at}
-use Rattle.org_commands.specs.Keeping.{Plans, fault_of_move}
-use Rattle.org_commands.specs.Outcome.{Outcome, Refuses, changed, refile, refusal_of_move, with_moved}
+use Rattle.org_commands.specs.Keeping.{Plans, fault_of}
+use Rattle.org_commands.specs.Outcome.{Outcome, Refuses, changed, refile, with_moved}
 use Rattle.org_commands.specs.Refile.{MakesDocuments, text_within, texts_across}
 use Rattle.org_commands.specs.Session.{BetweenSessions, Session}
 use Rattle.org_commands.specs.Step.{Steps}
@@ -61,25 +62,25 @@ across_is {D} {g} {states} {old} {file = file} {to_file = to_file} {seen = seen}
     ]
 
 -- a subtree that isn't moved
-move_refused : {A B : Type 0} (s : Session) (texts : B → List (List ℕ × List ℕ)) (told : Outcome) (said : Result B MoveFault) (Fits : B → A → Type 0) (result : Result A MoveFault) (why : MoveFault)
-    → s.broken ≡ false → told ≡ with_moved s texts said → result ≡ Err why → IsMadeAs said Fits result → Steps s told (Err (fault_of_move why)) s
+move_refused : {A B : Type 0} (s : Session) (texts : B → List (List ℕ × List ℕ)) (told : Outcome) (said : Result B Refusal) (Fits : B → A → Type 0) (result : Result A (Fault Refusal)) (why : Fault Refusal)
+    → s.broken ≡ false → told ≡ with_moved s texts said → result ≡ Err why → IsMadeAs said Fits result → Steps s told (Err (fault_of why)) s
 move_refused {A} {B} s texts told said Fits result why unbroken is was gives = go why (subst (IsMadeAs said Fits) was gives)
   where
-    refuses : (w : MoveFault) → said ≡ Err w → told ≡ Refuses (refusal_of_move w)
+    refuses : (w : Refusal) → said ≡ Err w → told ≡ Refuses w
     refuses w none = is ∙ ap (with_moved s texts) none
 
-    go : (w : MoveFault) → IsMadeAs said Fits (Err w) → Steps s told (Err (fault_of_move w)) s
+    go : (w : Fault Refusal) → IsMadeAs said Fits (Err w) → Steps s told (Err (fault_of w)) s
     go fault.OutOfMemory gives = (unbroken, refl)
-    go w gives = (unbroken, refuses w gives, refl)
+    go (fault.Refused w) gives = (unbroken, refuses w gives, refl)
 
 -- .. so nothing is planned
-pub move_fails : {B : Type 0} {s t : Session} {told : Outcome} (held : Holding) (texts : B → List (List ℕ × List ℕ)) (said : Result B MoveFault) (Fits : B → Plan → Type 0) (result : Result Plan MoveFault) {why : MoveFault} (answer : Result Plan RunFault) → s.broken ≡ false → t ≡ s → told ≡ with_moved s texts said → result ≡ Err why → IsMadeAs said Fits result → IsErrAnd answer (λ y. y ≡ fault_of_move why)
+pub move_fails : {B : Type 0} {s t : Session} {told : Outcome} (held : Holding) (texts : B → List (List ℕ × List ℕ)) (said : Result B Refusal) (Fits : B → Plan → Type 0) (result : Result Plan (Fault Refusal)) {why : Fault Refusal} (answer : Result Plan RunFault) → s.broken ≡ false → t ≡ s → told ≡ with_moved s texts said → result ≡ Err why → IsMadeAs said Fits result → IsErrAnd answer (λ y. y ≡ fault_of why)
     → Plans s told answer held t
 move_fails {s = s} {t = t} {told = told} held texts said Fits result {why} answer unbroken read is was gives handed =
-    plans_not_fit s t told held (fault_of_move why) answer handed read (move_refused s texts told said Fits result why unbroken is was gives)
+    plans_not_fit s t told held (fault_of why) answer handed read (move_refused s texts told said Fits result why unbroken is was gives)
 
 -- one that is
-pub move_planned : {B : Type 0} {s t : Session} {told : Outcome} (held : Holding) (texts : B → List (List ℕ × List ℕ)) (said : Result B MoveFault) (new : B) (plan : Plan)
+pub move_planned : {B : Type 0} {s t : Session} {told : Outcome} (held : Holding) (texts : B → List (List ℕ × List ℕ)) (said : Result B Refusal) (new : B) (plan : Plan)
     → t ≡ s → told ≡ with_moved s texts said → said ≡ Ok new → new_texts plan held.now ≡ texts new → Plans s told (Ok plan) held t
 move_planned {s = s} held texts said new plan read is made are = (is ∙ ap (with_moved s texts) made ∙ ap (changed s) (sym are), read)
 

@@ -7,7 +7,7 @@ use Rattle.org_capture.specs.declared.target.Target.TheVariants.{Top}
 use Rattle.org_stamp.specs.Calendar.{Moment, at_minute, civil_day}
 use Rattle.org_splice.specs.Lines.{print_lines}
 use Rattle.org_move.specs.Counts.{count_over}
-use Rattle.org_commands.specs.declared.command.Refusal.TheVariants.{NoSuchFile, BadTemplate, BadEntry, NotFound, InsideItself, NotThere}
+use Rattle.org_fault.specs.declared.refusal.Refusal.TheVariants.{NoSuchFile, BadTemplate, BadEntry, NotFound, InsideItself, NotThere}
 use Rattle.org_outline.specs.declared.steps.Step.{Step}
 use Rattle.org_outline.specs.States.{Keywords}
 use Rattle.org_commands.specs.InOrder.{text_at}

@@ -5,16 +5,18 @@ use Rattle.org_disk.specs.declared.disk.Disk.{Ghosts}
 use Rattle.org_outline.specs.declared.steps.Step.{Step}
 use Rattle.org_splice.specs.Texts.{EditedText}
 use Rattle.org_outline.specs.declared.paths.PathFault.{PathFault}
+use Rattle.org_outline.specs.Paths.{refusal_of}
 use Rattle.org_outline.specs.States.{Keywords}
 use Rattle.org_outline.specs.Tree.{Document, tree}
 use Rattle.org_outline.proofs.Trees.{tree-terminated}
 use Rattle.org_state.specs.Clock.{clocked_at}
 use Rattle.org_commands.specs.declared.command.Reply.TheVariants.{Time}
 use Rattle.org_commands.specs.declared.command.RunFault.{RunFault}
+use Rattle.org_commands.specs.declared.command.RunFault.TheVariants.{Refused}
 use Rattle.org_commands.specs.declared.tally.Tally.{Tally}
 use Rattle.org_commands.specs.Files.{OpenFiles}
 use Rattle.org_commands.specs.InOrder.{text_at}
-use Rattle.org_commands.specs.Keeping.{Reads, fault_of_path}
+use Rattle.org_commands.specs.Keeping.{Reads}
 use Rattle.org_commands.specs.Outcome.{Outcome, time, with_minutes}
 use Rattle.org_commands.specs.Session.{Session}
 use Rattle.org_commands.specs.Step.{Steps}
@@ -49,5 +51,5 @@ module _ {D : Type 0} {g : Ghosts D} {states : Keywords} {old new : OpenFiles D}
   time_told minutes is = (sees.unbroken, time_is (Ok minutes) is, sees.reads tally honest)
 
   -- .. or refused
-  pub time_refused : (why : PathFault) → Err why ≡ clocked_at states path (tree seen.bytes) → (answer : Result ℕ RunFault) → IsErrAnd answer (λ y. y ≡ fault_of_path why) → Steps s told (result_map_both Time (λ f. f) answer) (session_in g states new tally)
-  time_refused why is answer handed = time_fault s (session_in g states new tally) told (fault_of_path why) answer handed (sees.unbroken, time_is (Err why) is, sees.reads tally honest)
+  pub time_refused : (why : PathFault) → Err why ≡ clocked_at states path (tree seen.bytes) → (answer : Result ℕ RunFault) → IsErrAnd answer (λ y. y ≡ Refused (refusal_of why)) → Steps s told (result_map_both Time (λ f. f) answer) (session_in g states new tally)
+  time_refused why is answer handed = time_fault s (session_in g states new tally) told (Refused (refusal_of why)) answer handed (sees.unbroken, time_is (Err why) is, sees.reads tally honest)

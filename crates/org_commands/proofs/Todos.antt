@@ -4,6 +4,9 @@ use Rattle.std.specs.Global.{Global}
 use Rattle.std.specs.Prelude.{IfNone, IfSome}
 use Rattle.std.specs.Option.{ForSome, unwrap_or}
 use Rattle.std.specs.Result.{IsErrAnd}
+use Rattle.org_fault.specs.declared.fault.Fault.{Fault}
+use Rattle.org_fault.specs.declared.fault.Fault.TheVariants as fault
+use Rattle.org_fault.specs.declared.refusal.Refusal.{Refusal}
 use Rattle.org_disk.specs.declared.disk.Disk.{Ghosts}
 use Rattle.org_outline.specs.declared.steps.Step.{Step}
 use Rattle.org_splice.specs.declared.edit.Edit.{Edit}
@@ -14,8 +17,6 @@ use Rattle.org_outline.specs.Tree.{Document, print, tree}
 use Rattle.org_outline.proofs.Trees.{tree-terminated}
 use Rattle.org_stamp.specs.Calendar.{Moment}
 use Rattle.org_texts.specs.declared.plan.Plan.{Plan}
-use Rattle.org_state.specs.declared.fault.StateFault.{StateFault}
-use Rattle.org_state.specs.declared.fault.StateFault.TheVariants as fault
 use Rattle.org_state.specs.Answers.{AnswersTodo, Makes}
 use Rattle.org_state.specs.Todo.{IsTodo, todo as in_state}
 use Rattle.org_state.proofs.Computed.{todo_computed}
@@ -23,8 +24,8 @@ use Rattle.org_commands.specs.declared.command.RunFault.{RunFault}
 use Rattle.org_commands.specs.declared.tally.Tally.{Tally}
 use Rattle.org_commands.specs.Files.{IsPlanFor, OpenFiles}
 use Rattle.org_commands.specs.InOrder.{text_at}
-use Rattle.org_commands.specs.Keeping.{PlansOrStays, fault_of_state}
-use Rattle.org_commands.specs.Outcome.{Outcome, Refuses, changed, refusal_of_state, todo, with_state}
+use Rattle.org_commands.specs.Keeping.{PlansOrStays, fault_of}
+use Rattle.org_commands.specs.Outcome.{Outcome, Refuses, changed, todo, with_state}
 use Rattle.org_commands.specs.Session.{Session}
 use Rattle.org_commands.specs.Step.{Steps}
 use Rattle.org_commands.specs.Todo.{PlansState}
@@ -34,15 +35,15 @@ use Rattle.org_commands.proofs.MadeReady.{Sees, document_fits, document_seen, do
 
 module _ (states : Keywords) (path : List Step) (state : List ℕ) (now : Moment) (text : List ℕ) where
   -- no edits, for this reason
-  pub state_refused : (file : List ℕ) (result : Result (Option Plan) StateFault) (why : StateFault) → result ≡ Err why → AnswersTodo states path state now text (Err why) → PlansState file text (in_state states path state now (tree text)) result
+  pub state_refused : (file : List ℕ) (result : Result (Option Plan) (Fault Refusal)) (why : Fault Refusal) → result ≡ Err why → AnswersTodo states path state now text (Err why) → PlansState file text (in_state states path state now (tree text)) result
   state_refused file result why is answers = subst (PlansState file text (in_state states path state now (tree text))) (sym is) (go why answers)
     where
-      told : (w : StateFault) → IsTodo states path state now (tree text) (Err w) → in_state states path state now (tree text) ≡ Err w
+      told : (w : Refusal) → IsTodo states path state now (tree text) (Err w) → in_state states path state now (tree text) ≡ Err w
       told w is = todo_computed states path state now (tree text) (Err w) is
 
-      go : (w : StateFault) → AnswersTodo states path state now text (Err w) → PlansState file text (in_state states path state now (tree text)) (Err w)
+      go : (w : Fault Refusal) → AnswersTodo states path state now text (Err w) → PlansState file text (in_state states path state now (tree text)) (Err w)
       go fault.OutOfMemory answers = tt
-      go w answers = told w answers
+      go (fault.Refused w) answers = told w answers
 
   -- edits that change nothing
   pub state_stays : (edits : Vec Edit Global) → edits.items ≡ [] → AnswersTodo states path state now text (Ok edits) → in_state states path state now (tree text) ≡ Ok None
@@ -61,7 +62,7 @@ module _ (states : Keywords) (path : List Step) (state : List ℕ) (now : Moment
       go (Some d) is makes = (d, todo_computed states path state now (tree text) (Ok (Some d)) is, makes.1)
 
 -- a plan of edits that make what is said, none where there is no edit
-pub plan_made : (file text : List ℕ) (said : Result (Option Document) StateFault) (edits : List Edit) (o : Option Plan) → IfNone o (edits ≡ [])
+pub plan_made : (file text : List ℕ) (said : Result (Option Document) Refusal) (edits : List Edit) (o : Option Plan) → IfNone o (edits ≡ [])
     → IfSome o (λ plan. (edits ≢ []) × (plan.first.file ≡ file) × (plan.second ≡ None) × (plan.first.edits.items ≡ edits))
     → (edits ≡ [] → said ≡ Ok None) → (edits ≢ [] → (d : Document) × (said ≡ Ok (Some d)) × AreEdits edits text (print d)) → PlansState file text said (Ok o)
 plan_made file text said edits None none some stays makes = stays none
@@ -72,20 +73,20 @@ plan_made file text said edits (Some plan) none (changes, named, alone, are) sta
 -- ---- the outcome
 
 -- what isn't to be done
-state_not_made : (s : Session) {told : Outcome} (file seen : List ℕ) (said : Result (Option Document) StateFault) (result : Result (Option Plan) StateFault) (why : StateFault) → s.broken ≡ false → told ≡ with_state s file said → result ≡ Err why
-    → PlansState file seen said result → Steps s told (Err (fault_of_state why)) s
+state_not_made : (s : Session) {told : Outcome} (file seen : List ℕ) (said : Result (Option Document) Refusal) (result : Result (Option Plan) (Fault Refusal)) (why : Fault Refusal) → s.broken ≡ false → told ≡ with_state s file said → result ≡ Err why
+    → PlansState file seen said result → Steps s told (Err (fault_of why)) s
 state_not_made s {told} file seen said result why unbroken is was plans = go why (subst (PlansState file seen said) was plans)
   where
-    refuses : (w : StateFault) → said ≡ Err w → told ≡ Refuses (refusal_of_state w)
+    refuses : (w : Refusal) → said ≡ Err w → told ≡ Refuses w
     refuses w none = is ∙ ap (with_state s file) none
 
-    go : (w : StateFault) → PlansState file seen said (Err w) → Steps s told (Err (fault_of_state w)) s
+    go : (w : Fault Refusal) → PlansState file seen said (Err w) → Steps s told (Err (fault_of w)) s
     go fault.OutOfMemory plans = (unbroken, refl)
-    go w plans = (unbroken, refuses w plans, refl)
+    go (fault.Refused w) plans = (unbroken, refuses w plans, refl)
 
 module _ {D : Type 0} {g : Ghosts D} {states : Keywords} {old new : OpenFiles D} {file : List ℕ} {seen : EditedText} (sees : Sees g states old new (file ∷ []) file seen) where
   -- what is planned is for the files as they are
-  pub state_fits : (said : Result (Option Document) StateFault) (o : Option Plan) → PlansState file seen.bytes said (Ok o) → ForSome o (λ plan. IsPlanFor new.names new.held plan)
+  pub state_fits : (said : Result (Option Document) Refusal) (o : Option Plan) → PlansState file seen.bytes said (Ok o) → ForSome o (λ plan. IsPlanFor new.names new.held plan)
   state_fits said None plans = λ plan is. absurd (cc)
   state_fits said (Some one) (d, is, makes) = λ plan is.
       let same : one ≡ plan = cc in
@@ -102,17 +103,17 @@ module _ {D : Type 0} {g : Ghosts D} {states : Keywords} {old new : OpenFiles D}
         ap (todo s file path state moment) text.1 ∙ ap (λ (d : Document). with_state s file (in_state states path state moment d)) (sym (ap tree text.2 ∙ tree-terminated text.0))
 
     -- .. and what is to be done with the document
-    pub document_is : (said : Document → Result (Option Document) StateFault) → with_state s file (said (tree (unwrap_or (text_at s.names s.files file) []))) ≡ with_state s file (said (tree seen.bytes))
+    pub document_is : (said : Document → Result (Option Document) Refusal) → with_state s file (said (tree (unwrap_or (text_at s.names s.files file) []))) ≡ with_state s file (said (tree seen.bytes))
     document_is said = ap (λ (d : Document). with_state s file (said d)) (document_seen sees tally honest)
 
     -- nothing is planned, for this reason
-    pub state_fails : {told : Outcome} (said : Result (Option Document) StateFault) (result : Result (Option Plan) StateFault) {why : StateFault} (answer : Result (Option Plan) RunFault) → told ≡ with_state s file said
-        → result ≡ Err why → PlansState file seen.bytes said result → IsErrAnd answer (λ y. y ≡ fault_of_state why) → PlansOrStays s told answer new.held (session_in g states new tally)
+    pub state_fails : {told : Outcome} (said : Result (Option Document) Refusal) (result : Result (Option Plan) (Fault Refusal)) {why : Fault Refusal} (answer : Result (Option Plan) RunFault) → told ≡ with_state s file said
+        → result ≡ Err why → PlansState file seen.bytes said result → IsErrAnd answer (λ y. y ≡ fault_of why) → PlansOrStays s told answer new.held (session_in g states new tally)
     state_fails {told} said result {why} answer is was plans handed =
-        stays_not_fit s (session_in g states new tally) told new.held (fault_of_state why) answer handed (sees.reads tally honest) (state_not_made s file seen.bytes said result why sees.unbroken is was plans)
+        stays_not_fit s (session_in g states new tally) told new.held (fault_of why) answer handed (sees.reads tally honest) (state_not_made s file seen.bytes said result why sees.unbroken is was plans)
 
     -- .. or what is to be done
-    pub state_planned : {told : Outcome} (said : Result (Option Document) StateFault) (o : Option Plan) → told ≡ with_state s file said → PlansState file seen.bytes said (Ok o) → PlansOrStays s told (Ok o) new.held (session_in g states new tally)
+    pub state_planned : {told : Outcome} (said : Result (Option Document) Refusal) (o : Option Plan) → told ≡ with_state s file said → PlansState file seen.bytes said (Ok o) → PlansOrStays s told (Ok o) new.held (session_in g states new tally)
     state_planned said None is plans = (is ∙ ap (with_state s file) plans, sees.reads tally honest)
     state_planned said (Some plan) is (d, made, makes) =
         (is ∙ ap (with_state s file) made ∙ ap (changed s) (sym (document_texts sees plan d makes)), sees.reads tally honest)

@@ -5,7 +5,7 @@ use Rattle.org_splice.specs.Edits.{applied}
 use Rattle.org_splice.specs.Replaced.{replaced}
 use Rattle.org_commands.specs.declared.command.RunFault.{RunFault}
 use Rattle.org_commands.specs.declared.command.RunFault.TheVariants.{OutOfMemory, Refused}
-use Rattle.org_commands.specs.declared.command.Refusal.TheVariants.{NotThere}
+use Rattle.org_fault.specs.declared.refusal.Refusal.TheVariants.{NotThere}
 
 -- The edit of a text puts bytes in the place of others; or these don't stand there, or there is no
 -- memory for it.

@@ -23,7 +23,7 @@ use Rattle.org_texts.specs.Plan.{IsOfLines, IsPlan, planned}
 use Rattle.org_texts.specs.Texts.{Holding, TextSet, bytes_or, held_over, nothing_held, text_of, text_or_none}
 use Rattle.org_commands.specs.declared.command.RunFault.{RunFault}
 use Rattle.org_commands.specs.declared.command.RunFault.TheVariants.{Refused, OutOfMemory}
-use Rattle.org_commands.specs.declared.command.Refusal.TheVariants.{TooLarge}
+use Rattle.org_fault.specs.declared.refusal.Refusal.TheVariants.{TooLarge}
 use Rattle.org_commands.specs.InOrder.{HoldsEither, is_name, texts_of, with_texts}
 
 -- Files of a disk: their names in byte order, whether a call of the disk failed, and what is held

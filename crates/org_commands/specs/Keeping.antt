@@ -1,24 +1,22 @@
 -- How a command is planned on the texts of a store's files, and how it is accepted.
 use Rattle.std.specs.Prelude.{◌≡◌, ◌↔◌, ℕ, ◌+◌, List, [], Option, None, Some, Result, Ok, Err, IsErrOf, IsTrue, if◌then◌else◌}
+use Rattle.org_fault.specs.declared.fault.Fault.{Fault}
+use Rattle.org_fault.specs.declared.fault.Fault.TheVariants as fault
+use Rattle.org_fault.specs.declared.refusal.Refusal.{Refusal}
 use Rattle.org_disk.specs.declared.disk.Disk.{Ghosts}
 use Rattle.org_journal.specs.Recovered.{contents}
 use Rattle.org_fileset.specs.declared.fault.SetFault.{SetFault}
 use Rattle.org_fileset.specs.declared.fault.SetFault.TheVariants as set
 use Rattle.org_outline.specs.declared.paths.PathFault.{PathFault}
+use Rattle.org_outline.specs.Paths.{refusal_of}
 use Rattle.org_texts.specs.declared.plan.Plan.{Plan}
 use Rattle.org_texts.specs.Texts.{Holding}
-use Rattle.org_capture.specs.declared.fault.CaptureFault.{CaptureFault}
-use Rattle.org_capture.specs.declared.fault.CaptureFault.TheVariants as capture
-use Rattle.org_move.specs.declared.fault.MoveFault.{MoveFault}
-use Rattle.org_move.specs.declared.fault.MoveFault.TheVariants as move
-use Rattle.org_state.specs.declared.fault.StateFault.{StateFault}
-use Rattle.org_state.specs.declared.fault.StateFault.TheVariants as state
 use Rattle.org_commands.specs.declared.command.Reply.{Reply}
 use Rattle.org_commands.specs.declared.command.RunFault.{RunFault}
 use Rattle.org_commands.specs.declared.command.RunFault.TheVariants.{Refused, OutOfMemory, Device, Broken}
 use Rattle.org_commands.specs.Files.{new_texts}
 use Rattle.org_commands.specs.Session.{Session, StoreView}
-use Rattle.org_commands.specs.Outcome.{Outcome, changed, refusal_of, refusal_of_move, refusal_of_path, refusal_of_state}
+use Rattle.org_commands.specs.Outcome.{Outcome, changed}
 use Rattle.org_commands.specs.Step.{Steps, done, failed_in_read, torn_in, fills}
 use Rattle.org_commands.specs.Left.{IsLeft, IsLeftAlone}
 use Rattle.org_commands.specs.Counts.{Counts, SameCounts}
@@ -50,7 +48,7 @@ Reads old (Err fault) new = ⊥
 abbrev pub LooksUp : Session → Result ℕ PathFault → Result ℕ RunFault → Session → Type 0
 LooksUp old found (Ok i) new = (found ≡ Ok i) × (new ≡ old)
 LooksUp old found (Err (Refused why)) new =
-    ((fault : PathFault) × (found ≡ Err fault) × (why ≡ refusal_of_path fault)) × (new ≡ old)
+    ((fault : PathFault) × (found ≡ Err fault) × (why ≡ refusal_of fault)) × (new ≡ old)
 LooksUp old found (Err OutOfMemory) new = new ≡ old
 LooksUp old found (Err Device) new = new ≡ failed_in_read old
 LooksUp old found (Err Broken) new = ⊥
@@ -97,21 +95,7 @@ fault_of_set set.OutOfMemory = OutOfMemory
 fault_of_set set.Device = Device
 fault_of_set set.Broken = Broken
 
--- the fault of a command whose entry isn't put in
-abbrev pub fault_of_capture : CaptureFault → RunFault
-fault_of_capture capture.OutOfMemory = OutOfMemory
-fault_of_capture fault = Refused (refusal_of fault)
-
--- the fault of a command whose subtree isn't moved
-abbrev pub fault_of_move : MoveFault → RunFault
-fault_of_move move.OutOfMemory = OutOfMemory
-fault_of_move fault = Refused (refusal_of_move fault)
-
--- the fault of a command whose heading doesn't get another state
-abbrev pub fault_of_state : StateFault → RunFault
-fault_of_state state.OutOfMemory = OutOfMemory
-fault_of_state fault = Refused (refusal_of_state fault)
-
--- the fault of a command that finds no heading at a path
-abbrev pub fault_of_path : PathFault → RunFault
-fault_of_path fault = Refused (refusal_of_path fault)
+-- the fault of a command that met this one as it was planned
+abbrev pub fault_of : Fault Refusal → RunFault
+fault_of fault.OutOfMemory = OutOfMemory
+fault_of (fault.Refused why) = Refused why

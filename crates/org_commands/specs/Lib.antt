@@ -1,4 +1,3 @@
-pub mod Refusals
 pub mod InOrder
 pub mod Files
 pub mod Groups

@@ -2,32 +2,25 @@
 use Rattle.std.specs.Option.{unwrap_or}
 use Rattle.std.specs.Str.{bytes_eq}
 use Rattle.std.specs.Prelude.{◌≡◌, ℕ, ◌-◌, ◌^◌, ◌==◌, List, [], ◌∷◌, map, Option, Some, None, Result, Ok, Err, if◌then◌else◌}
+use Rattle.org_fault.specs.declared.refusal.Refusal.{Refusal}
+use Rattle.org_fault.specs.declared.refusal.Refusal.TheVariants.{NoSuchFile, NoClock, NotThere, TooLarge}
 use Rattle.org_outline.specs.declared.steps.Step.{Step}
 use Rattle.org_outline.specs.declared.moves.Place.{Place}
 use Rattle.org_outline.specs.declared.paths.PathFault.{PathFault}
-use Rattle.org_outline.specs.Paths.{find_path}
-use Rattle.org_outline.specs.declared.paths.PathFault.TheVariants as path_fault
+use Rattle.org_outline.specs.Paths.{find_path, refusal_of}
 use Rattle.org_outline.specs.Tree.{Document, Node, print, tree}
 use Rattle.org_splice.specs.Replaced.{replaced}
 use Rattle.org_stamp.specs.Calendar.{Moment}
-use Rattle.org_capture.specs.declared.fault.CaptureFault.{CaptureFault}
-use Rattle.org_capture.specs.declared.fault.CaptureFault.TheVariants as fault
 use Rattle.org_capture.specs.declared.target.Target.{Target}
 use Rattle.org_capture.specs.Capture.{captured}
-use Rattle.org_move.specs.declared.fault.MoveFault.{MoveFault}
-use Rattle.org_move.specs.declared.fault.MoveFault.TheVariants as move
 use Rattle.org_move.specs.Archive.{archive_across, archive_within}
 use Rattle.org_move.specs.Location.{Destination, location}
 use Rattle.org_move.specs.Refile.{Moved, refile_across, refile_within}
-use Rattle.org_state.specs.declared.fault.StateFault.{StateFault}
-use Rattle.org_state.specs.declared.fault.StateFault.TheVariants as state
 use Rattle.org_state.specs.declared.run.Running.{Running}
 use Rattle.org_state.specs.Clock.{clocked_at}
 use Rattle.org_state.specs.Todo.{todo as in_state}
 use Rattle.org_commands.specs.declared.command.Command.{Command}
 use Rattle.org_commands.specs.declared.command.Command.TheVariants.{Capture, Refile, Todo, ClockIn, ClockOut, Archive, Edit, Time, Show, Settle}
-use Rattle.org_commands.specs.declared.command.Refusal.{Refusal}
-use Rattle.org_commands.specs.declared.command.Refusal.TheVariants.{NoSuchFile, BadTemplate, BadEntry, NotFound, NotUnique, InsideItself, AlreadyArchive, UnknownState, OddPlanning, BadRepeat, DateRange, NoClock, ClockBackwards, BadLocation, NotThere, TooLarge}
 use Rattle.org_commands.specs.Capture.{new_entry}
 use Rattle.org_commands.specs.Clocks.{running_over}
 use Rattle.org_commands.specs.Clocking.{clocked_in, clocked_out, clock_moved}
@@ -72,24 +65,16 @@ changed s changes =
     if has_large changes then Refuses TooLarge
     else counted s (map (λ change. change.0) changes) (with_all s.names s.files changes)
 
--- why a capture is refused; no definition answers want of memory
-abbrev pub refusal_of : CaptureFault → Refusal
-refusal_of fault.BadTemplate = BadTemplate
-refusal_of fault.BadEntry = BadEntry
-refusal_of fault.NotFound = NotFound
-refusal_of fault.NotUnique = NotUnique
-refusal_of fault.OutOfMemory = TooLarge
-
 -- the file with the document that an entry makes of it
-abbrev pub with_document : Session → List ℕ → Result Document CaptureFault → Outcome
+abbrev pub with_document : Session → List ℕ → Result Document Refusal → Outcome
 with_document s name (Ok new) = changed s ((name, print new) ∷ [])
-with_document s name (Err fault) = Refuses (refusal_of fault)
+with_document s name (Err why) = Refuses why
 
-abbrev pub with_entry : Session → List ℕ → Target → Place → Moment → Result Node CaptureFault
+abbrev pub with_entry : Session → List ℕ → Target → Place → Moment → Result Node Refusal
     → List ℕ → Outcome
 with_entry s name target place moment (Ok entry) text =
     with_document s name (captured s.states target place moment entry (tree text))
-with_entry s name target place moment (Err fault) text = Refuses (refusal_of fault)
+with_entry s name target place moment (Err why) text = Refuses why
 
 -- A capture into a file that has this text: it is refused for its file first, then for its
 -- template, then for its entry, then for its target.
@@ -99,21 +84,11 @@ capture s name target place moment template initial None = Refuses NoSuchFile
 capture s name target place moment template initial (Some text) =
     with_entry s name target place moment (new_entry moment template initial) text
 
--- why a subtree isn't moved; no definition answers want of memory
-abbrev pub refusal_of_move : MoveFault → Refusal
-refusal_of_move move.NotFound = NotFound
-refusal_of_move move.NotUnique = NotUnique
-refusal_of_move move.InsideItself = InsideItself
-refusal_of_move move.AlreadyArchive = AlreadyArchive
-refusal_of_move move.BadLocation = BadLocation
-refusal_of_move move.NoSuchFile = NoSuchFile
-refusal_of_move move.OutOfMemory = TooLarge
-
 -- the new texts of what a move makes
-abbrev pub with_moved : {A : Type 0} → Session → (A → List (List ℕ × List ℕ)) → Result A MoveFault
+abbrev pub with_moved : {A : Type 0} → Session → (A → List (List ℕ × List ℕ)) → Result A Refusal
     → Outcome
 with_moved s texts (Ok new) = changed s (texts new)
-with_moved s texts (Err fault) = Refuses (refusal_of_move fault)
+with_moved s texts (Err why) = Refuses why
 
 -- A refile from a file that has the first text into one that has the second, which are one where
 -- their names are. It is refused for the source's name first, then for the target's, then for the
@@ -128,23 +103,12 @@ refile s file path to_file to place (Some text) (Some target) =
     else with_moved s (texts_across file to_file)
     (refile_across s.states path (tree text) s.states to (tree target) place)
 
--- why a state isn't changed; no definition answers want of memory
-abbrev pub refusal_of_state : StateFault → Refusal
-refusal_of_state state.NotFound = NotFound
-refusal_of_state state.NotUnique = NotUnique
-refusal_of_state state.UnknownState = UnknownState
-refusal_of_state state.OddPlanning = OddPlanning
-refusal_of_state state.BadRepeat = BadRepeat
-refusal_of_state state.DateRange = DateRange
-refusal_of_state state.ClockBackwards = ClockBackwards
-refusal_of_state state.OutOfMemory = TooLarge
-
 -- the file with the document that another state or clock makes of it; where there is none, nothing
 -- changes
-abbrev pub with_state : Session → List ℕ → Result (Option Document) StateFault → Outcome
+abbrev pub with_state : Session → List ℕ → Result (Option Document) Refusal → Outcome
 with_state s file (Ok (Some new)) = changed s ((file, print new) ∷ [])
 with_state s file (Ok None) = changed s []
-with_state s file (Err fault) = Refuses (refusal_of_state fault)
+with_state s file (Err why) = Refuses why
 
 -- A change of a state in a file that has this text: it is refused for its file first, then for its
 -- path, then for its state, then for the heading's planning.
@@ -166,10 +130,10 @@ archive_to s file path moment text to (Some target) =
     (archive_across s.states file path moment (tree text) s.states to (tree target))
 
 abbrev pub archive_at : Session → List ℕ → List Step → Moment → List ℕ
-    → Result Destination MoveFault → Outcome
+    → Result Destination Refusal → Outcome
 archive_at s file path moment text (Ok to) =
     archive_to s file path moment text to (text_at s.names s.files to.file)
-archive_at s file path moment text (Err fault) = Refuses (refusal_of_move fault)
+archive_at s file path moment text (Err why) = Refuses why
 
 -- An archiving from a file that has this text: it is refused for its file first, then for its path,
 -- then where the file is an archive file, then for its location, then for the location's file and
@@ -180,9 +144,9 @@ archive s file path moment (Some text) =
     archive_at s file path moment text (location s.states file path text)
 
 -- the files with what clocking in at a heading of the second makes of both
-abbrev pub with_clock_moved : Session → List ℕ → List ℕ → Result Moved StateFault → Outcome
+abbrev pub with_clock_moved : Session → List ℕ → List ℕ → Result Moved Refusal → Outcome
 with_clock_moved s other file (Ok new) = changed s (texts_across other file new)
-with_clock_moved s other file (Err fault) = Refuses (refusal_of_state fault)
+with_clock_moved s other file (Err why) = Refuses why
 
 -- Clocking in at the heading that was found in a file with this document, where this clock runs: in
 -- the same file, or in another one, of which the new text comes first.
@@ -221,14 +185,9 @@ abbrev pub edit : Session → List ℕ → ℕ → List ℕ → List ℕ → Opt
 edit s file at old new None = Refuses NoSuchFile
 edit s file at old new (Some text) = with_replaced s file (replaced text at old new)
 
--- why no heading is at a path
-abbrev pub refusal_of_path : PathFault → Refusal
-refusal_of_path path_fault.NotFound = NotFound
-refusal_of_path path_fault.NotUnique = NotUnique
-
 abbrev pub with_minutes : Result ℕ PathFault → Outcome
 with_minutes (Ok minutes) = Tells minutes
-with_minutes (Err fault) = Refuses (refusal_of_path fault)
+with_minutes (Err fault) = Refuses (refusal_of fault)
 
 -- The time clocked at a heading, and below it, of a file that has this text: it is refused for its
 -- file first, then for its path.

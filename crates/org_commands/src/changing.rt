@@ -12,7 +12,7 @@ ghost use Rattle.org_commands.specs.Planning.{PlansOrStaysAs};
 ghost use Rattle.org_commands.specs.Step.{fills_tally};
 ghost use Rattle.org_commands.specs.Dirty.{Dirties, DirtyAfterAccepted, DirtyAfterCounted};
 
-use crate::command::{Refusal, Reply, RunFault};
+use crate::command::{Reply, RunFault};
 use crate::commands::archive::plan_archive;
 use crate::commands::capture::plan_capture;
 use crate::commands::clock::{plan_clock_in, plan_clock_out};
@@ -23,6 +23,7 @@ use crate::executor::Executor;
 use crate::files::Files;
 use crate::kind::Change;
 use org_disk::Disk;
+use org_fault::Refusal;
 use org_fileset::SetFault;
 use org_outline::States;
 use org_texts::Plan;

@@ -2,18 +2,16 @@
 //!
 //! Texts are borrowed from the line that they were read from. Which lines spell which commands is
 //! org_serve's matter.
-ghost use Rattle.std.specs.Prelude.{◌≡◌, codes};
-ghost use Rattle.org_commands.specs.Refusals.{code_of, name_of};
-ghost use Rattle.org_commands.specs.declared.command.RunFault.TheVariants.{OutOfMemory};
+ghost use Rattle.std.specs.Prelude.{◌≡◌};
+ghost use Rattle.org_commands.specs.declared.command.RunFault.TheVariants.{OutOfMemory, Refused};
 
-use org_capture::{CaptureFault, Target};
+use org_capture::Target;
 use org_disk::FileName;
+use org_fault::{Fault, Refusal};
 use org_fileset::SetFault;
-use org_move::MoveFault;
 use org_outline::{Path, PathFault, Place};
 use org_splice::Bytes;
 use org_stamp::Moment;
-use org_state::StateFault;
 use std::alloc::AllocError;
 use std::borrow::CowSlice;
 use std::marker::Model;
@@ -204,110 +202,6 @@ pub enum Reply {
     Time(u64),
 }
 
-/// Why a command is refused. It then changed nothing.
-#[derive(Clone, Copy, Debug, PartialEq, Eq, Error)]
-pub enum Refusal {
-    /// The file is none of the store's, whose archive files count too.
-    #[error("no such file")]
-    NoSuchFile,
-    /// The template can't be expanded.
-    #[error("bad template")]
-    BadTemplate,
-    /// The expanded template isn't one heading with what lies below it, or has bytes before it.
-    #[error("bad entry")]
-    BadEntry,
-    /// No heading is at a path, or none can be made with a title.
-    #[error("not found")]
-    NotFound,
-    /// Several headings have a title.
-    #[error("not unique")]
-    NotUnique,
-    /// The heading that a subtree is to go below lies in the subtree.
-    #[error("inside itself")]
-    InsideItself,
-    /// The file is an archive file already, or the entry lies below the heading that it would be
-    /// archived to.
-    #[error("already archived")]
-    AlreadyArchive,
-    /// The state is none of the store's.
-    #[error("unknown state")]
-    UnknownState,
-    /// The planning line of the heading isn't well formed.
-    #[error("odd planning line")]
-    OddPlanning,
-    /// A repeater of hours on a timestamp without a time, or with a range.
-    #[error("a repeater of hours needs one time")]
-    BadRepeat,
-    /// A repeated date is past the year 9999.
-    #[error("the repeated date is past the year 9999")]
-    DateRange,
-    /// No clock runs.
-    #[error("no clock runs")]
-    NoClock,
-    /// The moment is before the start of the clock that is to be closed.
-    #[error("the clock would run backwards")]
-    ClockBackwards,
-    /// The location of an entry's archive can't be read, or its heading can't be made.
-    #[error("bad location")]
-    BadLocation,
-    /// The bytes that are to give way don't stand there.
-    #[error("not there")]
-    NotThere,
-    /// A file would grow past its limit, or the accepted commands are as many as can be counted.
-    #[error("too large")]
-    TooLarge,
-}
-
-impl Refusal {
-    /// The number of this refusal in a reply.
-    pub fn code(self) -> u8
-        ensures { result ≡ code_of self }
-    {
-        match self {
-            Refusal::NoSuchFile => 1,
-            Refusal::BadTemplate => 2,
-            Refusal::BadEntry => 3,
-            Refusal::NotFound => 4,
-            Refusal::NotUnique => 5,
-            Refusal::InsideItself => 6,
-            Refusal::AlreadyArchive => 7,
-            Refusal::UnknownState => 8,
-            Refusal::OddPlanning => 9,
-            Refusal::BadRepeat => 10,
-            Refusal::DateRange => 11,
-            Refusal::NoClock => 12,
-            Refusal::ClockBackwards => 13,
-            Refusal::BadLocation => 15,
-            Refusal::NotThere => 16,
-            Refusal::TooLarge => 14,
-        }
-    }
-
-    /// The name of this refusal in a reply.
-    pub fn name(self) -> &'static str
-        ensures { result.now ≡ name_of self }
-    {
-        match self {
-            Refusal::NoSuchFile => "NoSuchFile",
-            Refusal::BadTemplate => "BadTemplate",
-            Refusal::BadEntry => "BadEntry",
-            Refusal::NotFound => "NotFound",
-            Refusal::NotUnique => "NotUnique",
-            Refusal::InsideItself => "InsideItself",
-            Refusal::AlreadyArchive => "AlreadyArchive",
-            Refusal::UnknownState => "UnknownState",
-            Refusal::OddPlanning => "OddPlanning",
-            Refusal::BadRepeat => "BadRepeat",
-            Refusal::DateRange => "DateRange",
-            Refusal::NoClock => "NoClock",
-            Refusal::ClockBackwards => "ClockBackwards",
-            Refusal::BadLocation => "BadLocation",
-            Refusal::NotThere => "NotThere",
-            Refusal::TooLarge => "TooLarge",
-        }
-    }
-}
-
 /// Why a call didn't do what was asked.
 #[derive(Clone, Copy, Debug, PartialEq, Eq, Error)]
 pub enum RunFault {
@@ -333,69 +227,26 @@ impl From<AllocError> for RunFault {
     }
 }
 
-impl From<CaptureFault> for RunFault {
-    ghost use Rattle.org_commands.specs.Keeping.{fault_of_capture};
+impl From<Fault<Refusal>> for RunFault {
+    ghost use Rattle.org_commands.specs.Keeping.{fault_of};
 
-    ghost from_gives = { λ fault e. e ≡ fault_of_capture fault };
+    ghost from_gives = { λ fault e. e ≡ fault_of fault };
 
-    fn from(fault: CaptureFault) -> Self {
+    fn from(fault: Fault<Refusal>) -> Self {
         match fault {
-            CaptureFault::BadTemplate => RunFault::Refused(Refusal::BadTemplate),
-            CaptureFault::BadEntry => RunFault::Refused(Refusal::BadEntry),
-            CaptureFault::NotFound => RunFault::Refused(Refusal::NotFound),
-            CaptureFault::NotUnique => RunFault::Refused(Refusal::NotUnique),
-            CaptureFault::OutOfMemory => RunFault::OutOfMemory,
-        }
-    }
-}
-
-impl From<MoveFault> for RunFault {
-    ghost use Rattle.org_commands.specs.Keeping.{fault_of_move};
-
-    ghost from_gives = { λ fault e. e ≡ fault_of_move fault };
-
-    fn from(fault: MoveFault) -> Self {
-        match fault {
-            MoveFault::NotFound => RunFault::Refused(Refusal::NotFound),
-            MoveFault::NotUnique => RunFault::Refused(Refusal::NotUnique),
-            MoveFault::InsideItself => RunFault::Refused(Refusal::InsideItself),
-            MoveFault::AlreadyArchive => RunFault::Refused(Refusal::AlreadyArchive),
-            MoveFault::BadLocation => RunFault::Refused(Refusal::BadLocation),
-            MoveFault::NoSuchFile => RunFault::Refused(Refusal::NoSuchFile),
-            MoveFault::OutOfMemory => RunFault::OutOfMemory,
-        }
-    }
-}
-
-impl From<StateFault> for RunFault {
-    ghost use Rattle.org_commands.specs.Keeping.{fault_of_state};
-
-    ghost from_gives = { λ fault e. e ≡ fault_of_state fault };
-
-    fn from(fault: StateFault) -> Self {
-        match fault {
-            StateFault::NotFound => RunFault::Refused(Refusal::NotFound),
-            StateFault::NotUnique => RunFault::Refused(Refusal::NotUnique),
-            StateFault::UnknownState => RunFault::Refused(Refusal::UnknownState),
-            StateFault::OddPlanning => RunFault::Refused(Refusal::OddPlanning),
-            StateFault::BadRepeat => RunFault::Refused(Refusal::BadRepeat),
-            StateFault::DateRange => RunFault::Refused(Refusal::DateRange),
-            StateFault::ClockBackwards => RunFault::Refused(Refusal::ClockBackwards),
-            StateFault::OutOfMemory => RunFault::OutOfMemory,
+            Fault::OutOfMemory => RunFault::OutOfMemory,
+            Fault::Refused(why) => RunFault::Refused(why),
         }
     }
 }
 
 impl From<PathFault> for RunFault {
-    ghost use Rattle.org_commands.specs.Keeping.{fault_of_path};
+    ghost use Rattle.org_outline.specs.Paths.{refusal_of};
 
-    ghost from_gives = { λ fault e. e ≡ fault_of_path fault };
+    ghost from_gives = { λ fault e. e ≡ Refused (refusal_of fault) };
 
     fn from(fault: PathFault) -> Self {
-        match fault {
-            PathFault::NotFound => RunFault::Refused(Refusal::NotFound),
-            PathFault::NotUnique => RunFault::Refused(Refusal::NotUnique),
-        }
+        RunFault::from(Fault::<Refusal>::from(fault))
     }
 }
 

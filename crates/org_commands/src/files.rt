@@ -22,9 +22,10 @@ ghost use Rattle.org_commands.specs.InOrder.{is_name};
 ghost use Rattle.org_commands.specs.Noted.{AreKnown, AreSearched, FollowsEdits, IsKnown, Lowers, LowersNote, StaysKnown};
 ghost use Rattle.org_commands.specs.Reading.{ReadsFiles};
 
-use crate::command::{Refusal, RunFault};
+use crate::command::RunFault;
 use crate::searches::Searches;
 use org_disk::{Disk, FileName};
+use org_fault::Refusal;
 use org_fileset::{FileSet, LIMIT, OpenRefused, SetFault};
 use org_splice::{Edit, Searched};
 use org_texts::{Edits, Held, Plan, Texts};

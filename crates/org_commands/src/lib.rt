@@ -22,9 +22,10 @@ mod searches;
 mod tally;
 
 pub use command::{
-    Archive, Capture, ClockIn, Command, Edit, Refile, Refusal, Reply, RunFault, TextOf, Todo,
+    Archive, Capture, ClockIn, Command, Edit, Refile, Reply, RunFault, TextOf, Todo,
 };
 pub use executor::Executor;
 pub use files::Files;
 pub use kind::{Change, Kind, Question};
+pub use org_fault::Refusal;
 pub use tally::{Group, Tally};

@@ -8,8 +8,10 @@ use Rattle.org_splice.specs.declared.edit.Edit.{Edit}
 use Rattle.org_splice.proofs.Lines.{print_lines-append}
 use Rattle.org_stamp.specs.Calendar.{Moment}
 use Rattle.org_meta.specs.declared.clock.Running.{Running}
-use Rattle.org_meta.specs.declared.fault.MetaFault.{MetaFault}
-use Rattle.org_meta.specs.declared.fault.MetaFault.TheVariants.{ClockBackwards, OutOfMemory}
+use Rattle.org_fault.specs.declared.refusal.Refusal.{Refusal}
+use Rattle.org_fault.specs.declared.refusal.Refusal.TheVariants.{ClockBackwards}
+use Rattle.org_fault.specs.declared.fault.Fault.{Fault}
+use Rattle.org_fault.specs.declared.fault.Fault.TheVariants.{OutOfMemory}
 use Rattle.org_meta.specs.Edits.{Rewrites}
 use Rattle.org_meta.specs.Clocks.{running_clock, is_open, minutes_between, IsOpenAt, HasOpenAt}
 use Rattle.org_meta.specs.Clocking.{closing_text, closed_after, closed_clock, closed_line, ClosesNot}
@@ -61,7 +63,7 @@ module _ (section : List ℕ) (span : Span) (before : List (List ℕ)) (line : L
         let gone : e.removed ≡ length b = omega (arith, length-drop running.head line) in
         let back : print_lines before ++ ((take running.head line ++ w) ++ c) ≡ a ++ (w ++ c) = simp append_assoc in
         let print : print_lines (before ++ ((take running.head line ++ w) ∷ after)) ≡ a ++ (w ++ c) = print_lines-append before ((take running.head line ++ w) ∷ after) ∙ back in
-        let P : Result (List ℕ) MetaFault → Type 0 = λ r. MatchResult r (λ closed. Rewrites e section (before ++ (closed ∷ after))) (λ fault. ⊥) in
+        let P : Result (List ℕ) Refusal → Type 0 = λ r. MatchResult r (λ closed. Rewrites e section (before ++ (closed ∷ after))) (λ fault. ⊥) in
         subst P (sym closed_is) (gives_at e section a b c w (before ++ ((take running.head line ++ w) ∷ after)) parts here gone bytes print)
 
 -- ---- as the code says it
@@ -69,8 +71,8 @@ module _ (section : List ℕ) (span : Span) (before : List (List ℕ)) (line : L
 pub line_runs : (section : List ℕ) (span : Span) (text : List ℕ) → terminated section ≡ section → HasOpenAt section span → text ≡ take (span.end - 1 - span.start) (drop span.start section) → is_open text ≡ true
 line_runs section span text whole h same = ap is_open (same ∙ line_at section span h.before h.line h.after whole h.is) ∙ h.is.runs
 
--- memory was refused for a line that can be closed
-pub starved : (section : List ℕ) (span : Span) (now : Moment) (running : Running) (text : List ℕ) (minutes : ℕ) (fault : MetaFault) → terminated section ≡ section → fault ≡ OutOfMemory
+-- there was no memory for a line that can be closed
+pub starved : (section : List ℕ) (span : Span) (now : Moment) (running : Running) (text : List ℕ) (minutes : ℕ) (fault : Fault Refusal) → terminated section ≡ section → fault ≡ OutOfMemory
     → text ≡ take (span.end - 1 - span.start) (drop span.start section) → Some running ≡ running_clock text → Some minutes ≡ minutes_between running.start now → ClosesNot now section span fault
 starved section span now running text minutes fault whole memory same runs some =
     λ before line after is. rw memory (take running.head line ++ closing_text now minutes, closes_now section span before line after whole is now running text same runs minutes some)

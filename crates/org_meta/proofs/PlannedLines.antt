@@ -7,9 +7,11 @@ use Rattle.std.proofs.lemmas.Bool.{cases_Bool, false≢true}
 use Rattle.org_splice.specs.Blanks.{is_blank, is_trailing, front, behind}
 use Rattle.org_splice.proofs.Ends.{front_behind, front_passes}
 use Rattle.org_stamp.specs.Calendar.{Moment, weekday_of}
-use Rattle.org_stamp.specs.declared.fault.RepeatFault.{RepeatFault}
-use Rattle.org_stamp.specs.declared.fault.RepeatFault.TheVariants.{BadRepeat, DateRange}
+use Rattle.org_fault.specs.declared.refusal.Refusal.{Refusal}
+use Rattle.org_fault.specs.declared.refusal.Refusal.TheVariants.{BadRepeat, DateRange}
 use Rattle.org_stamp.specs.declared.kind.Times.{Times}
+use Rattle.org_stamp.specs.declared.kind.Base.{Base}
+use Rattle.org_stamp.specs.declared.kind.Base.TheVariants.{Minutes}
 use Rattle.org_stamp.specs.declared.kind.Unit.{Unit}
 use Rattle.org_stamp.specs.declared.kind.Unit.TheVariants.{Hour}
 use Rattle.org_stamp.specs.declared.kind.Mark.{Mark}
@@ -17,13 +19,12 @@ use Rattle.org_stamp.specs.declared.kind.Mark.TheVariants.{Cumulate, CatchUp, Re
 use Rattle.org_stamp.specs.declared.kind.Interval.{Interval}
 use Rattle.org_stamp.specs.declared.kind.Repeater.{Repeater}
 use Rattle.org_stamp.specs.Stamp.{Part, StampValue, IsStampText, HasParts, is_cookie, has_one_time, first_repeater, opening, closing, clock_text, date_text, day_name, time_text, end_text, cookies_text, stamp_text}
-use Rattle.org_stamp.specs.Repeat.{is_hour, in_range, moved, restarted, repeated, repeated_as, repeated_by}
+use Rattle.org_stamp.specs.Repeat.{in_base, is_hour, in_range, moved, restarted, repeated, repeated_as, repeated_by}
 use Rattle.org_meta.specs.declared.entry.Word.{Word}
 use Rattle.org_meta.specs.declared.entry.Word.TheVariants.{Closed, Deadline, Scheduled}
-use Rattle.org_meta.specs.declared.fault.MetaFault.{MetaFault}
 use Rattle.org_meta.specs.Moments.{moment_text}
 use Rattle.org_meta.specs.Notes.{quoted, note_line}
-use Rattle.org_meta.specs.Planning.{PlanningEntry, PlanningLine, AreRepeated, replanned, replanned_line, clear_closed, set_closed, has_repeater, word_text, entry_at, entries_at, planning_of, is_closed, is_repeating, has_others, entry_text, entry_with, kept_text, without_closed, closed_text, with_closed, fault_of, behind_first, repeated_entry, repeated_entries}
+use Rattle.org_meta.specs.Planning.{PlanningEntry, PlanningLine, AreRepeated, replanned, replanned_line, clear_closed, set_closed, has_repeater, word_text, entry_at, entries_at, planning_of, is_closed, is_repeating, has_others, entry_text, entry_with, kept_text, without_closed, closed_text, with_closed, behind_first, repeated_entry, repeated_entries}
 use Rattle.org_meta.specs.Replans.{repeated_line}
 use Rattle.org_meta.specs.Sections.{SectionParts, property_line}
 use Rattle.org_meta.proofs.ClosedClocks.{NoStar, begins_plainly, blanks_line, moment_line}
@@ -110,29 +111,29 @@ stamp_line s all =
 in_range_is : (x s : StampValue) → in_range x ≡ Ok s → x ≡ s
 in_range_is x s e = by_year (nat_le x.day.year 9999) e
   where
-    by_year : (b : Bool) → ◌≡◌ {A = Result StampValue RepeatFault} (if b then Ok x else Err DateRange) (Ok s) → x ≡ s
+    by_year : (b : Bool) → ◌≡◌ {A = Result StampValue Refusal} (if b then Ok x else Err DateRange) (Ok s) → x ≡ s
     by_year true e = cc
     by_year false e = absurd cc
 
-moved_cookies : (s : StampValue) (unit : Unit) (n : ℕ) → (moved s unit n).cookies ≡ s.cookies
-moved_cookies s Hour n = refl
-moved_cookies s unit n = refl
+moved_cookies : (s : StampValue) (base : Base) (n : ℕ) → (moved s base n).cookies ≡ s.cookies
+moved_cookies s Minutes n = refl
+moved_cookies s base n = refl
 
 restarted_cookies : (s : StampValue) (unit : Unit) (now : Moment) → (restarted s unit now).cookies ≡ s.cookies
 restarted_cookies s Hour now = refl
 restarted_cookies s unit now = refl
 
 by_mark_cookies : (mark : Mark) (i : Interval) (s new : StampValue) (now : Moment) → repeated_by mark i s now ≡ Ok new → new.cookies ≡ s.cookies
-by_mark_cookies Cumulate i s new now e = ap (λ (s : StampValue). s.cookies) (sym (in_range_is _ new e)) ∙ moved_cookies s i.unit _
-by_mark_cookies CatchUp i s new now e = ap (λ (s : StampValue). s.cookies) (sym (in_range_is _ new e)) ∙ moved_cookies s i.unit _
+by_mark_cookies Cumulate i s new now e = ap (λ (s : StampValue). s.cookies) (sym (in_range_is _ new e)) ∙ moved_cookies s (in_base i.unit i.value).0 _
+by_mark_cookies CatchUp i s new now e = ap (λ (s : StampValue). s.cookies) (sym (in_range_is _ new e)) ∙ moved_cookies s (in_base i.unit i.value).0 _
 by_mark_cookies Restart i s new now e =
-    ap (λ (s : StampValue). s.cookies) (sym (in_range_is _ new e)) ∙ moved_cookies (restarted s i.unit now) i.unit _ ∙ restarted_cookies s i.unit now
+    ap (λ (s : StampValue). s.cookies) (sym (in_range_is _ new e)) ∙ moved_cookies (restarted s i.unit now) (in_base i.unit i.value).0 _ ∙ restarted_cookies s i.unit now
 
 as_cookies : (o : Option Repeater) (s new : StampValue) (now : Moment) → repeated_as o s now ≡ Ok new → new.cookies ≡ s.cookies
 as_cookies None s new now e = let same : s ≡ new = cc in ap (λ (s : StampValue). s.cookies) (sym same)
 as_cookies (Some p) s new now e = by_tests (p.interval.value == 0) (is_hour p.interval.unit && not (has_one_time s.time)) e
   where
-    by_tests : (a b : Bool) → ◌≡◌ {A = Result StampValue RepeatFault} (if a then Ok s else (if b then Err BadRepeat else repeated_by p.mark p.interval s now)) (Ok new) → new.cookies ≡ s.cookies
+    by_tests : (a b : Bool) → ◌≡◌ {A = Result StampValue Refusal} (if a then Ok s else (if b then Err BadRepeat else repeated_by p.mark p.interval s now)) (Ok new) → new.cookies ≡ s.cookies
     by_tests true b e = let same : s ≡ new = cc in ap (λ (s : StampValue). s.cookies) (sym same)
     by_tests false true e = absurd cc
     by_tests false false e = by_mark_cookies p.mark p.interval s new now e
@@ -278,7 +279,7 @@ with_closed_line now line p is flat =
 
 -- ---- repeated
 
-repeated_stamp_line : (now : Moment) (e : PlanningEntry) (text : List ℕ) (r : Result StampValue RepeatFault) → repeated e.stamp now ≡ r → result_map_both (entry_with e) fault_of r ≡ Ok text → FlatEntry e → Flat text
+repeated_stamp_line : (now : Moment) (e : PlanningEntry) (text : List ℕ) (r : Result StampValue Refusal) → repeated e.stamp now ≡ r → result_map_both (entry_with e) (λ why. why) r ≡ Ok text → FlatEntry e → Flat text
 repeated_stamp_line now e text (Ok s) same is p =
     let whole : entry_with e s ≡ text = cc in
     subst Flat whole (entry_with_line e s p (subst (AllByRecursion FlatPart) (sym (repeated_cookies e.stamp s now same)) p.cookies))
@@ -287,12 +288,12 @@ repeated_stamp_line now e text (Err fault) same is p = absurd cc
 repeated_entry_line : (now : Moment) (e : PlanningEntry) (text : List ℕ) → repeated_entry now e ≡ Ok text → FlatEntry e → Flat text
 repeated_entry_line now e text is p = by_tests (is_closed e) (is_repeating e) is
   where
-    by_tests : (a b : Bool) → (if a then Ok [] else (if b then result_map_both (entry_with e) fault_of (repeated e.stamp now) else Ok (entry_text e))) ≡ Ok text → Flat text
+    by_tests : (a b : Bool) → (if a then Ok [] else (if b then result_map_both (entry_with e) (λ why. why) (repeated e.stamp now) else Ok (entry_text e))) ≡ Ok text → Flat text
     by_tests true b is = let none : [] ≡ text = cc in subst Flat none empty_line
     by_tests false true is = repeated_stamp_line now e text (repeated e.stamp now) refl is p
     by_tests false false is = let same : entry_text e ≡ text = cc in subst Flat same (entry_line e p)
 
-both_texts : (first more : Result (List ℕ) MetaFault) (text : List ℕ) → behind_first first more ≡ Ok text → ((t : List ℕ) → first ≡ Ok t → Flat t) → ((t : List ℕ) → more ≡ Ok t → Flat t) → Flat text
+both_texts : (first more : Result (List ℕ) Refusal) (text : List ℕ) → behind_first first more ≡ Ok text → ((t : List ℕ) → first ≡ Ok t → Flat t) → ((t : List ℕ) → more ≡ Ok t → Flat t) → Flat text
 both_texts (Ok a) (Ok b) text is front back = let whole : a ++ b ≡ text = cc in subst Flat whole (both_lines a b (front a refl) (back b refl))
 both_texts (Ok a) (Err fault) text is front back = absurd cc
 both_texts (Err fault) more text is front back = absurd cc

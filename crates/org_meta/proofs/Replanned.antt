@@ -7,12 +7,11 @@ use Rattle.org_splice.specs.Blanks.{is_blank, behind}
 use Rattle.org_splice.proofs.Ends.{front_passes}
 use Rattle.org_stamp.specs.Calendar.{Moment}
 use Rattle.org_stamp.specs.Stamp.{StampValue, stamp_text}
-use Rattle.org_stamp.specs.declared.fault.RepeatFault.{RepeatFault}
+use Rattle.org_fault.specs.declared.refusal.Refusal.{Refusal}
 use Rattle.org_meta.specs.declared.entry.Word.{Word}
 use Rattle.org_meta.specs.declared.entry.Word.TheVariants.{Closed, Deadline, Scheduled}
-use Rattle.org_meta.specs.declared.fault.MetaFault.{MetaFault}
 use Rattle.org_meta.specs.Sections.{is_planning}
-use Rattle.org_meta.specs.Planning.{word_text, PlanningEntry, PlanningLine, planning_of, is_closed, has_others, is_repeating, has_repeater, entry_text, entry_with, behind_text, fault_of, IsRepeatedEntry, AreRepeated}
+use Rattle.org_meta.specs.Planning.{word_text, PlanningEntry, PlanningLine, planning_of, is_closed, has_others, is_repeating, has_repeater, entry_text, entry_with, behind_text, IsRepeatedEntry, AreRepeated}
 use Rattle.org_meta.specs.Replans.{repeated_line}
 use Rattle.org_meta.proofs.Trims.{behind_front}
 use Rattle.org_meta.proofs.PlanningText.{planning_read}
@@ -48,18 +47,18 @@ indented_word indentation w more blank =
 -- ---- repetition
 
 abbrev Texts : Type 0
-Texts = Result (List ℕ) MetaFault
+Texts = Result (List ℕ) Refusal
 
 abbrev made : List ℕ → Texts
 made text = Ok text
 
-abbrev failed : MetaFault → Texts
+abbrev failed : Refusal → Texts
 failed fault = Err fault
 
 ok_is : (x y : List ℕ) → made x ≡ made y → x ≡ y
 ok_is x y e = cc
 
-ok_err : (x : List ℕ) (y : MetaFault) → made x ≡ failed y → ⊥
+ok_err : (x : List ℕ) (y : Refusal) → made x ≡ failed y → ⊥
 ok_err x y e = cc
 
 if_true : (b : Bool) (P Q : Type 0) → MatchBool b P Q → b ≡ true → P
@@ -71,9 +70,9 @@ if_false true P Q m e = absurd (false≢true (sym e))
 if_false false P Q m e = m
 
 -- an entry that is kept, or repeated, begins with its word
-by_stamp : (e : PlanningEntry) (text : List ℕ) (q : Result StampValue RepeatFault) → MatchResult q (λ s. made text ≡ made (entry_with e s)) (λ fault. made text ≡ failed (fault_of fault)) → BeginsWithWord text
+by_stamp : (e : PlanningEntry) (text : List ℕ) (q : Result StampValue Refusal) → MatchResult q (λ s. made text ≡ made (entry_with e s)) (λ fault. made text ≡ failed fault) → BeginsWithWord text
 by_stamp e text (Ok s) is = record { word = e.word; more = e.gap ++ (stamp_text s ++ e.after); is = ok_is text (entry_with e s) is }
-by_stamp e text (Err fault) is = absurd (ok_err text (fault_of fault) is)
+by_stamp e text (Err fault) is = absurd (ok_err text fault is)
 
 entry_begins : (e : PlanningEntry) (now : Moment) (text : List ℕ) → is_closed e ≡ false → IsRepeatedEntry e now (Ok text) → BeginsWithWord text
 entry_begins e now text kept is =

@@ -1,6 +1,5 @@
 -- Other planning lines in a section.
 use Rattle.std.proofs.Common.{◌≡◌, ℕ, true, false, Option, Some, None, Result, Ok, Err, List, [], ◌∷◌, ◌++◌, length, take, refl, sym, ap, subst, ◌∙◌, append_assoc, inl, inr, arith}
-use Rattle.std.specs.Prelude.{◌⊎◌}
 use Rattle.std.specs.Option.{option_map_or}
 use Rattle.std.proofs.lemmas.Bool.{cases_Bool}
 use Rattle.org_splice.specs.Edits.{edited}
@@ -8,13 +7,16 @@ use Rattle.org_splice.specs.Lines.{terminated, print_lines, IsLine, lines_of}
 use Rattle.org_splice.specs.declared.edit.Edit.{Edit}
 use Rattle.org_stamp.specs.Calendar.{Moment}
 use Rattle.org_meta.specs.declared.parts.Sections.{Sections}
-use Rattle.org_meta.specs.declared.fault.MetaFault.{MetaFault}
-use Rattle.org_meta.specs.declared.fault.MetaFault.TheVariants.{OddPlanning, OutOfMemory}
+use Rattle.org_fault.specs.declared.refusal.Refusal.{Refusal}
+use Rattle.org_fault.specs.declared.refusal.Refusal.TheVariants.{OddPlanning}
+use Rattle.org_fault.specs.declared.fault.Fault.{Fault}
+use Rattle.org_fault.specs.Faults.{IfRefusal}
+use Rattle.org_fault.proofs.Faults.{refused_as}
 use Rattle.org_meta.specs.Lines.{BeginsWith}
 use Rattle.org_meta.specs.Edits.{Rewrites, ChangesNothing}
 use Rattle.org_meta.specs.Sections.{SectionParts, AreSections, split, joined, is_planning, planning_size}
 use Rattle.org_meta.specs.Planning.{PlanningEntry, PlanningLine, planning_of, has_repeater, AreRepeated, replanned, replanned_line, closed_text, kept_text, has_closed, has_closed_entry, has_others, without_closed, with_closed, clear_closed}
-use Rattle.org_meta.specs.Replans.{RewritesOk, FaultIn, PutsAllRepeated, HasNoRepeater, FaultRepeated, RewritesRepeated, RewritesRepeatedIn, repeated_line}
+use Rattle.org_meta.specs.Replans.{RewritesOk, PutsAllRepeated, HasNoRepeater, IsRefusedRepeat, RewritesRepeated, RewritesRepeatedIn, repeated_line}
 use Rattle.org_splice.proofs.Lines.{print_lines-append, terminated-print_lines, lines_of-lines}
 use Rattle.org_meta.proofs.AllLines.{AllByRecursion-take}
 use Rattle.org_meta.proofs.Drawers.{part_lines}
@@ -37,8 +39,8 @@ planning_gives e section slices new whole are at removed bytes =
     ∙ ap (λ (t : List ℕ). print_lines new ++ (slices.drawer.now ++ t)) (sym are.rest) in
     gives_at e section [] slices.planning.now c (print_lines new) (new ++ (p.drawer ++ p.rest)) (section_bytes section slices whole are) at removed bytes print
 
-with_gives : (section : List ℕ) (e : Edit) (r : Result SectionParts MetaFault) (parts : SectionParts) → r ≡ Ok parts → Rewrites e section (joined parts) → RewritesOk r section e
-with_gives section e r parts is gives = let P : Result SectionParts MetaFault → Type 0 = λ r. RewritesOk r section e in subst P (sym is) gives
+with_gives : (section : List ℕ) (e : Edit) (r : Result SectionParts Refusal) (parts : SectionParts) → r ≡ Ok parts → Rewrites e section (joined parts) → RewritesOk r section e
+with_gives section e r parts is gives = let P : Result SectionParts Refusal → Type 0 = λ r. RewritesOk r section e in subst P (sym is) gives
 
 pub planning_terminated : (section : List ℕ) (slices : Sections) → AreSections slices (split (lines_of section)) → terminated slices.planning.now ≡ slices.planning.now
 planning_terminated section slices are = ap terminated are.planning ∙ terminated-print_lines (split (lines_of section)).planning ∙ sym are.planning
@@ -63,10 +65,9 @@ module _ (section : List ℕ) (slices : Sections) (whole : terminated section �
       let first : p.planning ≡ line ∷ lines_of rest = sym (planning_is section slices are) ∙ b.lines in
       ap (replanned none some p) first ∙ ap (replanned_line some p) is
 
-  pub plan_fault : (line rest : List ℕ) (fault : MetaFault) → BeginsWith slices.planning.now line rest → (fault ≡ OutOfMemory) ⊎ ((fault ≡ OddPlanning) × (planning_of line ≡ None))
-      → FaultIn (replanned none some (split (lines_of section)) (split (lines_of section)).planning) fault
-  plan_fault line rest fault b (inl is) = inl is
-  plan_fault line rest fault b (inr is) = inr (plan_odd line rest b is.1 ∙ ap (λ f. Err f) (sym is.0))
+  pub plan_fault : (line rest : List ℕ) (fault : Fault Refusal) → BeginsWith slices.planning.now line rest → IfRefusal fault (λ why. (why ≡ OddPlanning) × (planning_of line ≡ None))
+      → IfRefusal fault (λ why. replanned none some (split (lines_of section)) (split (lines_of section)).planning ≡ Err why)
+  plan_fault line rest fault b = refused_as fault _ _ (λ why is. plan_odd line rest b is.1 ∙ ap (λ f. Err f) (sym is.0))
 
 -- ---- a planning line without a CLOSED entry
 
@@ -148,8 +149,8 @@ without_closed_bytes o0 o1 p e0 e1 others =
 repeated_shape : (i r t : List ℕ) → (i ++ r) ++ (t ++ 10 ∷ []) ≡ (i ++ (r ++ t)) ++ 10 ∷ []
 repeated_shape i r t = simp append_assoc
 
-pub same_fault : (now : Moment) (es fs : List PlanningEntry) (fault : MetaFault) → es ≡ fs → (fault ≡ OutOfMemory) ⊎ AreRepeated es now (Err fault) → (fault ≡ OutOfMemory) ⊎ AreRepeated fs now (Err fault)
-same_fault now es fs fault same wrong = let P : List PlanningEntry → Type 0 = λ es. (fault ≡ OutOfMemory) ⊎ AreRepeated es now (Err fault) in subst P same wrong
+pub same_fault : (now : Moment) (es fs : List PlanningEntry) (fault : Fault Refusal) → es ≡ fs → IfRefusal fault (λ why. AreRepeated es now (Err why)) → IfRefusal fault (λ why. AreRepeated fs now (Err why))
+same_fault now es fs fault same wrong = let P : List PlanningEntry → Type 0 = λ es. IfRefusal fault (λ why. AreRepeated es now (Err why)) in subst P same wrong
 
 pub repeated_bytes : (now : Moment) (p : PlanningLine) (es : List PlanningEntry) (o0 o1 o2 : List ℕ) → es ≡ p.entries → o0 ≡ p.indentation → PutsAllRepeated es now o0 o1 → o2 ≡ o1 ++ (p.tail ++ 10 ∷ [])
     → (text : List ℕ) × AreRepeated p.entries now (Ok text) × (o2 ≡ repeated_line p text ++ 10 ∷ [])
@@ -161,22 +162,20 @@ module _ (section : List ℕ) (slices : Sections) (whole : terminated section �
   pub repeat_none : slices.planning.now ≡ [] → HasNoRepeater (split (lines_of section)).planning
   repeat_none empty = subst HasNoRepeater (sym (sym (planning_is section slices are) ∙ ap lines_of empty)) tt
 
-  pub repeat_odd : (line rest : List ℕ) (fault : MetaFault) → BeginsWith slices.planning.now line rest → (fault ≡ OutOfMemory) ⊎ ((fault ≡ OddPlanning) × (planning_of line ≡ None))
-      → (fault ≡ OutOfMemory) ⊎ FaultRepeated now (split (lines_of section)).planning fault
-  repeat_odd line rest fault b (inl memory) = inl memory
-  repeat_odd line rest fault b (inr odd) =
-      let P : List (List ℕ) → Type 0 = λ ls. FaultRepeated now ls fault in
-      inr (subst P (sym b.lines ∙ planning_is section slices are) (inl odd))
+  pub repeat_odd : (line rest : List ℕ) (fault : Fault Refusal) → BeginsWith slices.planning.now line rest → IfRefusal fault (λ why. (why ≡ OddPlanning) × (planning_of line ≡ None))
+      → IfRefusal fault (IsRefusedRepeat now (split (lines_of section)).planning)
+  repeat_odd line rest fault b = refused_as fault _ _ (λ why odd.
+      let P : List (List ℕ) → Type 0 = λ ls. IsRefusedRepeat now ls why in
+      subst P (sym b.lines ∙ planning_is section slices are) (inl odd))
 
   pub repeat_nothing : (line rest : List ℕ) (plan : PlanningLine) → BeginsWith slices.planning.now line rest → planning_of line ≡ Some plan → has_repeater plan.entries ≡ false → HasNoRepeater (split (lines_of section)).planning
   repeat_nothing line rest plan b is none = subst HasNoRepeater (sym b.lines ∙ planning_is section slices are) (plan, is, none)
 
-  pub repeat_fault : (line rest : List ℕ) (plan : PlanningLine) (fault : MetaFault) → BeginsWith slices.planning.now line rest → planning_of line ≡ Some plan → has_repeater plan.entries ≡ true
-      → (fault ≡ OutOfMemory) ⊎ AreRepeated plan.entries now (Err fault) → (fault ≡ OutOfMemory) ⊎ FaultRepeated now (split (lines_of section)).planning fault
-  repeat_fault line rest plan fault b is some (inl memory) = inl memory
-  repeat_fault line rest plan fault b is some (inr wrong) =
-      let P : List (List ℕ) → Type 0 = λ ls. FaultRepeated now ls fault in
-      inr (subst P (sym b.lines ∙ planning_is section slices are) (inr (plan, is, some, wrong)))
+  pub repeat_fault : (line rest : List ℕ) (plan : PlanningLine) (fault : Fault Refusal) → BeginsWith slices.planning.now line rest → planning_of line ≡ Some plan → has_repeater plan.entries ≡ true
+      → IfRefusal fault (λ why. AreRepeated plan.entries now (Err why)) → IfRefusal fault (IsRefusedRepeat now (split (lines_of section)).planning)
+  repeat_fault line rest plan fault b is some = refused_as fault _ _ (λ why wrong.
+      let P : List (List ℕ) → Type 0 = λ ls. IsRefusedRepeat now ls why in
+      subst P (sym b.lines ∙ planning_is section slices are) (inr (plan, is, some, wrong)))
 
   pub repeat_gives : (e : Edit) (line rest : List ℕ) (plan : PlanningLine) (text : List ℕ) → BeginsWith slices.planning.now line rest → planning_of line ≡ Some plan → has_repeater plan.entries ≡ true → AreRepeated plan.entries now (Ok text)
       → e.at ≡ 0 → e.removed ≡ length slices.planning.now → e.bytes ≡ repeated_line plan text ++ 10 ∷ [] → RewritesRepeated now (split (lines_of section)) section (Some e)

@@ -1,6 +1,6 @@
 -- Clocking in and out: the drawer of clock lines, the line that opens a clock, and the one that is
 -- closed (Org Syntax, "Drawers", "Clocks"; Org manual, "Clocking commands").
-use Rattle.std.specs.Prelude.{◌≡◌, ℕ, Bool, ◌&&◌, if◌then◌else◌, Option, None, Some, Result, MatchResult, Ok, Err, List, [], ◌∷◌, ◌++◌, codes, take}
+use Rattle.std.specs.Prelude.{ℕ, Bool, ◌&&◌, if◌then◌else◌, Option, None, Some, Result, MatchResult, Ok, Err, List, [], ◌∷◌, ◌++◌, codes, take}
 use Rattle.std.specs.List.{list_any}
 use Rattle.std.specs.Option.{option_map, unwrap_or}
 use Rattle.org_splice.specs.declared.Span.{Span}
@@ -9,8 +9,10 @@ use Rattle.org_stamp.specs.Calendar.{Moment}
 use Rattle.org_stamp.specs.Parts.{◌>>=◌}
 use Rattle.org_stamp.specs.Stamp.{duration_text}
 use Rattle.org_meta.specs.declared.clock.Running.{Running}
-use Rattle.org_meta.specs.declared.fault.MetaFault.{MetaFault}
-use Rattle.org_meta.specs.declared.fault.MetaFault.TheVariants.{ClockBackwards, OutOfMemory}
+use Rattle.org_fault.specs.Faults.{IsWhyNot}
+use Rattle.org_fault.specs.declared.fault.Fault.{Fault}
+use Rattle.org_fault.specs.declared.refusal.Refusal.{Refusal}
+use Rattle.org_fault.specs.declared.refusal.Refusal.TheVariants.{ClockBackwards}
 use Rattle.org_meta.specs.Edits.{Rewrites}
 use Rattle.org_meta.specs.Moments.{moment_text}
 use Rattle.org_meta.specs.Sections.{SectionParts, is_mark, is_end}
@@ -48,17 +50,17 @@ closing_text now minutes =
 
 -- an open clock line that runs for so many minutes, closed; none where the moment is before its
 -- start
-abbrev pub closed_after : Moment → List ℕ → Option ℕ → Result (List ℕ) MetaFault
+abbrev pub closed_after : Moment → List ℕ → Option ℕ → Result (List ℕ) Refusal
 closed_after now head (Some minutes) = Ok (head ++ closing_text now minutes)
 closed_after now head None = Err ClockBackwards
 
-abbrev pub closed_clock : Moment → List ℕ → Option Running → Result (List ℕ) MetaFault
+abbrev pub closed_clock : Moment → List ℕ → Option Running → Result (List ℕ) Refusal
 closed_clock now line (Some running) =
     closed_after now (take running.head line) (minutes_between running.start now)
 closed_clock now line None = Ok line
 
 -- the line, closed where it is an open clock, unless the moment is before its start
-abbrev pub closed_line : Moment → List ℕ → Result (List ℕ) MetaFault
+abbrev pub closed_line : Moment → List ℕ → Result (List ℕ) Refusal
 closed_line now line = closed_clock now line (running_clock line)
 
 -- how many minutes an open clock line has run at a moment, where that isn't before its start
@@ -71,17 +73,11 @@ Closes now section span edit =
     (before : List (List ℕ)) (line : List ℕ) (after : List (List ℕ))
     → IsOpenAt section span before line after
     → MatchResult (closed_line now line)
-    (λ closed. Rewrites edit section (before ++ (closed ∷ after))) (λ fault. ⊥)
-
--- why a line isn't closed: it can't be, or it can, and memory was refused
-abbrev pub IsWhyNot : Result (List ℕ) MetaFault → MetaFault → Type 0
-IsWhyNot closed OutOfMemory = (new : List ℕ) × (closed ≡ Ok new)
-IsWhyNot closed ClockBackwards = closed ≡ Err ClockBackwards
-IsWhyNot closed _ = ⊥
+    (λ closed. Rewrites edit section (before ++ (closed ∷ after))) (λ why. ⊥)
 
 -- The open clock line at the span isn't closed: the moment is before its start, or it isn't, and
--- memory was refused.
-abbrev pub ClosesNot : Moment → List ℕ → Span → MetaFault → Type 0
+-- there was no memory.
+abbrev pub ClosesNot : Moment → List ℕ → Span → Fault Refusal → Type 0
 ClosesNot now section span fault =
     (before : List (List ℕ)) (line : List ℕ) (after : List (List ℕ))
     → IsOpenAt section span before line after → IsWhyNot (closed_line now line) fault

@@ -9,12 +9,10 @@ use Rattle.org_stamp.specs.Parts.{◌>>=◌}
 use Rattle.org_stamp.specs.Stamp.{StampValue, repeats, stamp_text}
 use Rattle.org_stamp.specs.Front.{stamp_at}
 use Rattle.org_stamp.specs.Repeat.{IsRepeated, repeated}
-use Rattle.org_stamp.specs.declared.fault.RepeatFault.{RepeatFault}
-use Rattle.org_stamp.specs.declared.fault.RepeatFault.TheVariants.{BadRepeat as TheBadRepeat, DateRange as TheDateRange}
+use Rattle.org_fault.specs.declared.refusal.Refusal.{Refusal}
+use Rattle.org_fault.specs.declared.refusal.Refusal.TheVariants.{OddPlanning}
 use Rattle.org_meta.specs.declared.entry.Word.{Word}
 use Rattle.org_meta.specs.declared.entry.Word.TheVariants.{Closed, Deadline, Scheduled}
-use Rattle.org_meta.specs.declared.fault.MetaFault.{MetaFault}
-use Rattle.org_meta.specs.declared.fault.MetaFault.TheVariants.{OddPlanning, BadRepeat, DateRange}
 use Rattle.org_splice.specs.Blanks.{is_blank, is_trailing, front, behind}
 use Rattle.org_meta.specs.Moments.{moment_text}
 use Rattle.org_meta.specs.Sections.{SectionParts}
@@ -140,12 +138,12 @@ with_closed now p =
 -- the parts with another planning, made of theirs, unless it is odd; `none` is what takes the place
 -- of no planning
 abbrev pub replanned_line : (PlanningLine → List (List ℕ)) → SectionParts → Option PlanningLine
-    → Result SectionParts MetaFault
+    → Result SectionParts Refusal
 replanned_line some parts None = Err OddPlanning
 replanned_line some parts (Some p) = Ok (record parts { planning = some p })
 
 abbrev pub replanned : List (List ℕ) → (PlanningLine → List (List ℕ)) → SectionParts → List (List ℕ)
-    → Result SectionParts MetaFault
+    → Result SectionParts Refusal
 replanned none some parts [] = Ok (record parts { planning = none })
 replanned none some parts (l ∷ ls) = replanned_line some parts (planning_of l)
 
@@ -155,11 +153,11 @@ has_closed_entry [] = false
 has_closed_entry (l ∷ ls) = option_map_or (λ p. has_closed p.entries) (planning_of l) false
 
 -- an entry that isn't done any more has no CLOSED
-abbrev pub clear_closed : SectionParts → Result SectionParts MetaFault
+abbrev pub clear_closed : SectionParts → Result SectionParts Refusal
 clear_closed parts = replanned [] without_closed parts parts.planning
 
 -- one that turns done has that of the moment
-abbrev pub set_closed : Moment → SectionParts → Result SectionParts MetaFault
+abbrev pub set_closed : Moment → SectionParts → Result SectionParts Refusal
 set_closed now parts =
     replanned (closed_text now ∷ []) (λ p. with_closed now p ∷ []) parts parts.planning
 
@@ -176,50 +174,46 @@ has_repeater entries = list_any is_repeating entries
 abbrev pub entry_with : PlanningEntry → StampValue → List ℕ
 entry_with e s = word_text e.word ++ (e.gap ++ (stamp_text s ++ e.after))
 
-abbrev pub fault_of : RepeatFault → MetaFault
-fault_of TheBadRepeat = BadRepeat
-fault_of TheDateRange = DateRange
-
-abbrev pub behind_text : List ℕ → Result (List ℕ) MetaFault → Result (List ℕ) MetaFault
+abbrev pub behind_text : List ℕ → Result (List ℕ) Refusal → Result (List ℕ) Refusal
 behind_text text (Ok more) = Ok (text ++ more)
-behind_text text (Err fault) = Err fault
+behind_text text (Err why) = Err why
 
--- the text of one entry at its next repetition, or the fault; what doesn't repeat stays, and CLOSED
--- goes
-abbrev pub IsRepeatedEntry : PlanningEntry → Moment → Result (List ℕ) MetaFault → Type 0
+-- the text of one entry at its next repetition, or the refusal; what doesn't repeat stays, and
+-- CLOSED goes
+abbrev pub IsRepeatedEntry : PlanningEntry → Moment → Result (List ℕ) Refusal → Type 0
 IsRepeatedEntry e now r =
     MatchBool (is_closed e) (r ≡ Ok [])
     (MatchBool (is_repeating e)
-    ((q : Result StampValue RepeatFault)
+    ((q : Result StampValue Refusal)
     × IsRepeated e.stamp now q
-    × MatchResult q (λ s. r ≡ Ok (entry_with e s)) (λ fault. r ≡ Err (fault_of fault)))
+    × MatchResult q (λ s. r ≡ Ok (entry_with e s)) (λ why. r ≡ Err why))
     (r ≡ Ok (entry_text e)))
 
--- the texts of all, or the first fault
-abbrev pub AreRepeated : List PlanningEntry → Moment → Result (List ℕ) MetaFault → Type 0
+-- the texts of all, or the first refusal
+abbrev pub AreRepeated : List PlanningEntry → Moment → Result (List ℕ) Refusal → Type 0
 AreRepeated [] now r = r ≡ Ok []
 AreRepeated (e ∷ es) now r =
-    (first : Result (List ℕ) MetaFault) × IsRepeatedEntry e now first
+    (first : Result (List ℕ) Refusal) × IsRepeatedEntry e now first
     × MatchResult first
-    (λ text. (more : Result (List ℕ) MetaFault)
+    (λ text. (more : Result (List ℕ) Refusal)
     × AreRepeated es now more
     × (r ≡ behind_text text more))
-    (λ fault. r ≡ Err fault)
+    (λ why. r ≡ Err why)
 
 -- ---- the same, computed
 
-abbrev pub repeated_entry : Moment → PlanningEntry → Result (List ℕ) MetaFault
+abbrev pub repeated_entry : Moment → PlanningEntry → Result (List ℕ) Refusal
 repeated_entry now e =
     if is_closed e then Ok []
-    else (if is_repeating e then result_map_both (entry_with e) fault_of (repeated e.stamp now)
+    else (if is_repeating e then result_map_both (entry_with e) (λ why. why) (repeated e.stamp now)
     else Ok (entry_text e))
 
-abbrev pub behind_first : Result (List ℕ) MetaFault → Result (List ℕ) MetaFault
-    → Result (List ℕ) MetaFault
+abbrev pub behind_first : Result (List ℕ) Refusal → Result (List ℕ) Refusal
+    → Result (List ℕ) Refusal
 behind_first (Ok text) more = behind_text text more
-behind_first (Err fault) more = Err fault
+behind_first (Err why) more = Err why
 
--- the texts of all, or the first fault
-abbrev pub repeated_entries : Moment → List PlanningEntry → Result (List ℕ) MetaFault
+-- the texts of all, or the first refusal
+abbrev pub repeated_entries : Moment → List PlanningEntry → Result (List ℕ) Refusal
 repeated_entries now [] = Ok []
 repeated_entries now (e ∷ es) = behind_first (repeated_entry now e) (repeated_entries now es)

@@ -1,20 +1,16 @@
 -- Edits of planning lines.
 use Rattle.std.specs.Prelude.{◌≡◌, ◌⊎◌, ℕ, true, false, Option, None, Some, Result, Ok, Err, MatchResult, List, [], ◌∷◌, ◌++◌}
 use Rattle.org_splice.specs.declared.edit.Edit.{Edit}
-use Rattle.org_meta.specs.declared.fault.MetaFault.{MetaFault}
-use Rattle.org_meta.specs.declared.fault.MetaFault.TheVariants.{OddPlanning, OutOfMemory}
+use Rattle.org_fault.specs.declared.refusal.Refusal.{Refusal}
+use Rattle.org_fault.specs.declared.refusal.Refusal.TheVariants.{OddPlanning}
 use Rattle.org_meta.specs.Edits.{RewritesParts}
 use Rattle.org_meta.specs.Sections.{SectionParts}
 use Rattle.org_stamp.specs.Calendar.{Moment}
 use Rattle.org_meta.specs.Planning.{PlanningEntry, PlanningLine, planning_of, has_repeater, IsRepeatedEntry, AreRepeated}
 
--- the parts are no fault, and the edit gives their section
-abbrev pub RewritesOk : Result SectionParts MetaFault → List ℕ → Edit → Type 0
-RewritesOk parts section edit = MatchResult parts (RewritesParts edit section) (λ fault. ⊥)
-
--- memory was refused, or the parts are this fault
-abbrev pub FaultIn : Result SectionParts MetaFault → MetaFault → Type 0
-FaultIn parts fault = (fault ≡ OutOfMemory) ⊎ (parts ≡ Err fault)
+-- the parts aren't refused, and the edit gives their section
+abbrev pub RewritesOk : Result SectionParts Refusal → List ℕ → Edit → Type 0
+RewritesOk parts section edit = MatchResult parts (RewritesParts edit section) (λ why. ⊥)
 
 -- ---- repetition
 
@@ -62,12 +58,12 @@ RewritesRepeated now parts section None = HasNoRepeater parts.planning
 RewritesRepeated now parts section (Some edit) =
     RewritesRepeatedIn now parts section edit parts.planning
 
--- the planning line is odd, or the fault is the first of its repetitions
-abbrev pub FaultRepeated : Moment → List (List ℕ) → MetaFault → Type 0
-FaultRepeated now [] fault = ⊥
-FaultRepeated now (l ∷ ls) fault =
-    ((fault ≡ OddPlanning) × (planning_of l ≡ None))
+-- the planning line is odd, or this is the first refusal of its repetitions
+abbrev pub IsRefusedRepeat : Moment → List (List ℕ) → Refusal → Type 0
+IsRefusedRepeat now [] why = ⊥
+IsRefusedRepeat now (l ∷ ls) why =
+    ((why ≡ OddPlanning) × (planning_of l ≡ None))
     ⊎ ((p : PlanningLine)
     × (planning_of l ≡ Some p)
     × (has_repeater p.entries ≡ true)
-    × AreRepeated p.entries now (Err fault))
+    × AreRepeated p.entries now (Err why))

@@ -11,10 +11,10 @@ ghost use Rattle.org_meta.specs.Clocks.{HasOpenAt};
 ghost use Rattle.org_meta.specs.Clocking.{in_logbook, logged, opened, closing_text, Closes, ClosesNot};
 
 use crate::clock::{minutes_between, running_clock};
-use crate::fault::MetaFault;
 use crate::lines::{Place, first_line};
 use crate::moments::{moment_bytes, push_moment};
 use crate::split::{is_end, is_mark, sections};
+use org_fault::{Fault, Refusal};
 use org_splice::{Bytes, Edit, Span};
 use org_stamp::{Moment, duration};
 use std::alloc::{AllocError, Global};
@@ -105,7 +105,7 @@ pub fn close_clock(
     section: &[u8],
     line: Span,
     now: Moment,
-) -> Result<Edit, MetaFault>
+) -> Result<Edit, Fault<Refusal>>
     requires terminated { terminated section.now ≡ section.now }
     requires stands { HasOpenAt section.now line }
     ensures ok { IfOk result (Closes now section.now line) }
@@ -116,7 +116,7 @@ pub fn close_clock(
         unreachable!();
     };
     let Some(minutes) = minutes_between(running.start, now) else {
-        return Err(MetaFault::ClockBackwards);
+        return Err(Fault::Refused(Refusal::ClockBackwards));
     };
     let mut bytes = Vec::new(alloc);
     push_closing(&mut bytes, now, minutes)?;

@@ -4,11 +4,9 @@
 ghost use Rattle.std.specs.Prelude.{◌≡◌, ◌≤◌, ◌⊎◌, length, None, Some, IfSome, IfOk, IfErr, OnOk, ◌++◌};
 ghost use Rattle.std.specs.Option.{option_map};
 ghost use Rattle.std.specs.List.{list_all, list_any};
-ghost use Rattle.org_meta.specs.declared.fault.MetaFault.TheVariants.{OddPlanning, OutOfMemory};
 ghost use Rattle.org_splice.specs.Blanks.{is_blank, is_trailing, front, behind};
 ghost use Rattle.org_meta.specs.Planning.{word_text, word_at, entry_at, entries_at, is_word, is_once, each_once, planning_of, is_closed, has_closed, has_others};
 
-use crate::fault::MetaFault;
 use org_splice::blanks::{blank_count, trimmed_end};
 use org_stamp::Stamp;
 use std::alloc::{AllocError, Global};

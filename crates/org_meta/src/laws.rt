@@ -6,7 +6,7 @@ ghost use Rattle.org_splice.specs.Blanks.{trimmed};
 ghost use Rattle.org_stamp.specs.Calendar.{Moment, IsDay};
 ghost use Rattle.org_meta.specs.Sections.{SectionParts, split, joined, is_planning, is_property_name, property, property_line, put};
 ghost use Rattle.org_meta.specs.Planning.{PlanningEntry, PlanningLine, planning_of, entries_text, has_repeater, AreRepeated, repeated_entries};
-ghost use Rattle.org_meta.specs.declared.fault.MetaFault.{MetaFault};
+ghost use Rattle.org_fault.specs.declared.refusal.Refusal.{Refusal};
 ghost use Rattle.org_meta.specs.Replans.{repeated_line};
 ghost use Rattle.org_meta.specs.Notes.{note_line, with_note};
 ghost use Rattle.org_meta.specs.Clocks.{is_open, minutes_in};
@@ -56,7 +56,7 @@ pub fn fronts_are_split()
 /// The next repetition of a planning line's entries can be computed.
 pub fn repeats_compute()
     ensures { (entries : List PlanningEntry) (now : Moment)
-        (r : Result (List ℕ) MetaFault) → AreRepeated entries now r
+        (r : Result (List ℕ) Refusal) → AreRepeated entries now r
         → repeated_entries now entries ≡ r }
 {}
 

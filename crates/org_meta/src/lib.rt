@@ -5,7 +5,6 @@
 mod clock;
 mod clocking;
 mod entry;
-mod fault;
 pub mod laws;
 mod lines;
 mod moments;
@@ -19,7 +18,6 @@ mod texts;
 
 pub use clock::{find_open, total};
 pub use clocking::{close_clock, open_clock};
-pub use fault::MetaFault;
 pub use lines::first_line;
 pub use notes::add_note;
 pub use parts::Sections;

@@ -6,21 +6,22 @@ ghost use Rattle.std.specs.Prelude.{◌≡◌, ◌⊎◌, ◌<◌, ◌≤◌, �
 ghost use Rattle.org_splice.specs.Lines.{terminated, print_lines, lines_of};
 ghost use Rattle.org_meta.specs.Edits.{ChangesNothing};
 ghost use Rattle.org_meta.specs.Sections.{parts_of, split};
-ghost use Rattle.org_meta.specs.declared.fault.MetaFault.TheVariants.{OddPlanning, OutOfMemory};
+ghost use Rattle.org_fault.specs.Faults.{IfRefused};
+ghost use Rattle.org_fault.specs.declared.refusal.Refusal.TheVariants.{OddPlanning};
 ghost use Rattle.org_meta.specs.Planning.{entries_at, each_once, planning_of, is_closed, has_closed_entry, entry_text, kept_text, closed_text, without_closed, with_closed, clear_closed, set_closed, is_repeating, has_repeater, AreRepeated, IsRepeatedEntry};
-ghost use Rattle.org_meta.specs.Replans.{RewritesOk, FaultIn, PutsRepeated, PutsAllRepeated, RewritesRepeated, FaultRepeated, repeated_line};
+ghost use Rattle.org_meta.specs.Replans.{RewritesOk, PutsRepeated, PutsAllRepeated, RewritesRepeated, IsRefusedRepeat, repeated_line};
 
 use crate::entry::{
     Entry, Planning, Word, entry_at, has_closed, has_others, is_closed, is_line_end, is_once,
     split_blanks, word_text,
 };
-use crate::fault::MetaFault;
 use crate::lines::first_line;
 use crate::moments::{moment_bytes, push_moment};
 use crate::split::sections;
 use crate::texts::push_all;
+use org_fault::{Fault, Refusal};
 use org_splice::{Bytes, Edit};
-use org_stamp::{Moment, RepeatFault};
+use org_stamp::Moment;
 use std::alloc::{AllocError, Global};
 
 /// The entries of a planning line from its first word on, at most three, and what is left of the
@@ -52,17 +53,17 @@ fn read_entries<'a>(
 }
 
 /// The planning line, if it is well formed.
-fn read_planning(alloc: Global, line: &[u8]) -> Result<Planning<'_>, MetaFault>
+fn read_planning(alloc: Global, line: &[u8]) -> Result<Planning<'_>, Fault<Refusal>>
     ensures ok { IfOk result (λ p. planning_of line.now ≡ Some p) }
-    ensures err { IfErr result (λ fault.
-        (fault ≡ OutOfMemory) ⊎ ((fault ≡ OddPlanning) × (planning_of line.now ≡ None))) }
+    ensures err { IfRefused result (λ why.
+        (why ≡ OddPlanning) × (planning_of line.now ≡ None)) }
 {
     let (indentation, text) = split_blanks(line);
     let Some((entries, tail)) = read_entries(alloc, text)? else {
-        return Err(MetaFault::OddPlanning);
+        return Err(Fault::Refused(Refusal::OddPlanning));
     };
     if !each_once(&entries) {
-        return Err(MetaFault::OddPlanning);
+        return Err(Fault::Refused(Refusal::OddPlanning));
     }
     Ok(Planning {
         indentation,
@@ -161,10 +162,9 @@ fn is_repeating(entry: &Entry) -> bool
 }
 
 /// The entry's text at its next repetition; one that doesn't repeat stays, and CLOSED has none.
-fn push_repeated(out: &mut Vec<u8>, entry: &Entry, now: Moment) -> Result<(), MetaFault>
+fn push_repeated(out: &mut Vec<u8>, entry: &Entry, now: Moment) -> Result<(), Fault<Refusal>>
     ensures ok { OnOk result (PutsRepeated entry.now now out.old.items out.new.items) }
-    ensures err { IfErr result (λ fault.
-        (fault ≡ OutOfMemory) ⊎ IsRepeatedEntry entry.now now (Err fault)) }
+    ensures err { IfRefused result (λ why. IsRepeatedEntry entry.now now (Err why)) }
 {
     if is_closed(entry) {
         return Ok(());
@@ -173,21 +173,20 @@ fn push_repeated(out: &mut Vec<u8>, entry: &Entry, now: Moment) -> Result<(), Me
         push_entry(out, entry)?;
         return Ok(());
     }
-    let stamp = match entry.stamp.repeat(now) {
-        Ok(stamp) => stamp,
-        Err(RepeatFault::BadRepeat) => return Err(MetaFault::BadRepeat),
-        Err(RepeatFault::DateRange) => return Err(MetaFault::DateRange),
-    };
+    let stamp = entry.stamp.repeat(now)?;
     let text = stamp.print(*out.allocator())?;
     push_with_stamp(out, entry, &text)?;
     Ok(())
 }
 
 /// The texts of all entries at their next repetition.
-fn push_all_repeated(out: &mut Vec<u8>, entries: &[Entry], now: Moment) -> Result<(), MetaFault>
+fn push_all_repeated(
+    out: &mut Vec<u8>,
+    entries: &[Entry],
+    now: Moment,
+) -> Result<(), Fault<Refusal>>
     ensures ok { OnOk result (PutsAllRepeated entries.now now out.old.items out.new.items) }
-    ensures err { IfErr result (λ fault.
-        (fault ≡ OutOfMemory) ⊎ AreRepeated entries.now now (Err fault)) }
+    ensures err { IfRefused result (λ why. AreRepeated entries.now now (Err why)) }
 {
     for entry in entries {
         push_repeated(out, entry, now)?;
@@ -196,12 +195,11 @@ fn push_all_repeated(out: &mut Vec<u8>, entries: &[Entry], now: Moment) -> Resul
 }
 
 /// The planning line with each entry at its next repetition, with its newline.
-fn repeated(alloc: Global, planning: &Planning, now: Moment) -> Result<Vec<u8>, MetaFault>
+fn repeated(alloc: Global, planning: &Planning, now: Moment) -> Result<Vec<u8>, Fault<Refusal>>
     ensures ok { IfOk result (λ bytes. (text : List ℕ)
         × AreRepeated planning.now.entries now (Ok text)
         × (bytes.items ≡ repeated_line planning.now text ++ 10 ∷ [])) }
-    ensures err { IfErr result (λ fault.
-        (fault ≡ OutOfMemory) ⊎ AreRepeated planning.now.entries now (Err fault)) }
+    ensures err { IfRefused result (λ why. AreRepeated planning.now.entries now (Err why)) }
 {
     let mut bytes = Vec::from_slice(alloc, planning.indentation)?;
     push_all_repeated(&mut bytes, &planning.entries, now)?;
@@ -239,12 +237,12 @@ fn replacing(line: &[u8], bytes: Vec<u8>) -> Edit
 ///
 /// - `OddPlanning`: the planning line isn't well formed (Org Syntax, "Planning").
 /// - `OutOfMemory`.
-pub fn clear_closed(alloc: Global, section: &[u8]) -> Result<Edit, MetaFault>
+pub fn clear_closed(alloc: Global, section: &[u8]) -> Result<Edit, Fault<Refusal>>
     requires { terminated section.now ≡ section.now }
     ensures ok { IfOk result (RewritesOk (clear_closed (parts_of section.now)) section.now) }
     ensures nothing { IfOk result (λ edit.
         has_closed_entry (parts_of section.now).planning ≡ false → ChangesNothing edit) }
-    ensures err { IfErr result (FaultIn (clear_closed (parts_of section.now))) }
+    ensures err { IfRefused result (λ why. clear_closed (parts_of section.now) ≡ Err why) }
 {
     let line = sections(section).planning;
     let Some((text, _rest)) = first_line(line) else {
@@ -264,10 +262,11 @@ pub fn clear_closed(alloc: Global, section: &[u8]) -> Result<Edit, MetaFault>
 ///
 /// - `OddPlanning`: the planning line isn't well formed.
 /// - `OutOfMemory`.
-pub fn set_closed(alloc: Global, section: &[u8], now: Moment) -> Result<Edit, MetaFault>
+pub fn set_closed(alloc: Global, section: &[u8], now: Moment) -> Result<Edit, Fault<Refusal>>
     requires { terminated section.now ≡ section.now }
     ensures ok { IfOk result (RewritesOk (set_closed now (parts_of section.now)) section.now) }
-    ensures err { IfErr result (FaultIn (set_closed now (parts_of section.now))) }
+    ensures err { IfRefused result (λ why.
+        set_closed now (parts_of section.now) ≡ Err why) }
 {
     let line = sections(section).planning;
     let Some((text, _rest)) = first_line(line) else {
@@ -290,11 +289,10 @@ pub fn repeat_planning(
     alloc: Global,
     section: &[u8],
     now: Moment,
-) -> Result<Option<Edit>, MetaFault>
+) -> Result<Option<Edit>, Fault<Refusal>>
     requires { terminated section.now ≡ section.now }
     ensures ok { IfOk result (RewritesRepeated now (parts_of section.now) section.now) }
-    ensures err { IfErr result (λ fault.
-        (fault ≡ OutOfMemory) ⊎ FaultRepeated now (parts_of section.now).planning fault) }
+    ensures err { IfRefused result (IsRefusedRepeat now (parts_of section.now).planning) }
 {
     let line = sections(section).planning;
     let Some((text, _rest)) = first_line(line) else {

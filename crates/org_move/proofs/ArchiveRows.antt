@@ -5,7 +5,7 @@ use Rattle.org_outline.specs.States.{Keywords}
 use Rattle.org_outline.specs.Tree.{tree}
 use Rattle.std.specs.Prelude.{Ok, Err, drop}
 use Rattle.org_stamp.specs.Calendar.{Moment}
-use Rattle.org_move.specs.declared.fault.MoveFault.TheVariants.{AlreadyArchive, BadLocation, NotFound}
+use Rattle.org_fault.specs.declared.refusal.Refusal.TheVariants.{AlreadyArchive, BadLocation, NotFound}
 use Rattle.org_move.specs.Archive.{archive_properties, category_of, named, target_heading}
 use Rattle.org_move.specs.Location.{value_for, value_of_lines, location, location_of}
 use Rattle.org_move.specs.Inherited.{titles_above, inherited_tags}

@@ -22,8 +22,8 @@ use Rattle.org_outline.proofs.Found.{found_in, some_holds}
 use Rattle.org_outline.proofs.Trees.{tree-is}
 use Rattle.org_outline.proofs.Valid.{IsValid-insert}
 use Rattle.org_outline.proofs.Weights.{Weight, insert-weight, made-weight, one_each, take-weight}
-use Rattle.org_move.specs.declared.fault.MoveFault.{MoveFault}
-use Rattle.org_move.specs.declared.fault.MoveFault.TheVariants.{AlreadyArchive, InsideItself}
+use Rattle.org_fault.specs.declared.refusal.Refusal.{Refusal}
+use Rattle.org_fault.specs.declared.refusal.Refusal.TheVariants.{AlreadyArchive, InsideItself}
 use Rattle.org_move.specs.Archive.{archive_across, archive_within, archived, archived_section, if_apart, put_last, target_heading, with_heading}
 use Rattle.org_move.specs.Counts.{count_in, count_over, made_count, one_of}
 use Rattle.org_move.specs.Location.{Destination}
@@ -61,11 +61,11 @@ target_in states to d up found =
 
 -- ---- what archiving that succeeds has found and made
 
-heading_found : {A : Type 0} (s : Result (Option ℕ) PathFault) (make : Option ℕ → Result A MoveFault) (x : A) → with_heading s make ≡ Ok x → (up : Option ℕ) × (s ≡ Ok up) × (make up ≡ Ok x)
+heading_found : {A : Type 0} (s : Result (Option ℕ) PathFault) (make : Option ℕ → Result A Refusal) (x : A) → with_heading s make ≡ Ok x → (up : Option ℕ) × (s ≡ Ok up) × (make up ≡ Ok x)
 heading_found (Ok up) make x is = (up, refl, is)
 heading_found (Err fault) make x is = absurd cc
 
-apart_gives : {A : Type 0} (inside below : Bool) (x y : A) → ◌≡◌ {A = Result A MoveFault} (if inside then Err InsideItself else (if below then Err AlreadyArchive else Ok x)) (Ok y) → (inside ≡ false) × (x ≡ y)
+apart_gives : {A : Type 0} (inside below : Bool) (x y : A) → ◌≡◌ {A = Result A Refusal} (if inside then Err InsideItself else (if below then Err AlreadyArchive else Ok x)) (Ok y) → (inside ≡ false) × (x ≡ y)
 apart_gives true below x y is = absurd cc
 apart_gives false true x y is = absurd cc
 apart_gives false false x y is = (refl, cc)

@@ -13,8 +13,8 @@ use Rattle.org_outline.specs.Numbers.{size_of, number_without}
 use Rattle.org_outline.specs.Paths.{find_path}
 use Rattle.org_outline.proofs.Found.{found_in}
 use Rattle.org_outline.proofs.Taking.{size_of-room, count-without}
-use Rattle.org_move.specs.declared.fault.MoveFault.{MoveFault}
-use Rattle.org_move.specs.declared.fault.MoveFault.TheVariants.{InsideItself}
+use Rattle.org_fault.specs.declared.refusal.Refusal.{Refusal}
+use Rattle.org_fault.specs.declared.refusal.Refusal.TheVariants.{InsideItself}
 use Rattle.org_move.specs.Refile.{with_found, is_inside, moved, refile_within, Moved, refile_across}
 
 -- the parts of a refile within a document that succeeds
@@ -36,12 +36,12 @@ pub record Across (place : Place) (source target : Document) (new : Moved) : Typ
   pub target_is : insert (Some parent) place (node_at source node).node target ≡ new.target
 
 -- what was found, where something was made of it
-pub found_of : {A : Type 0} (r : Result ℕ PathFault) (make : ℕ → Result A MoveFault) (x : A) → with_found r make ≡ Ok x → (i : ℕ) × (r ≡ Ok i) × (make i ≡ Ok x)
+pub found_of : {A : Type 0} (r : Result ℕ PathFault) (make : ℕ → Result A Refusal) (x : A) → with_found r make ≡ Ok x → (i : ℕ) × (r ≡ Ok i) × (make i ≡ Ok x)
 found_of (Ok i) make x is = (i, refl, is)
 found_of (Err fault) make x is = absurd cc
 
 moved_of : (place : Place) (d new : Document) (i p : ℕ) (b : Bool) → b ≡ is_inside d i p → i < node_count d → p < node_count d
-    → ◌≡◌ {A = Result Document MoveFault} (if b then Err InsideItself else Ok (moved i p place d)) (Ok new) → Within place d new
+    → ◌≡◌ {A = Result Document Refusal} (if b then Err InsideItself else Ok (moved i p place d)) (Ok new) → Within place d new
 moved_of place d new i p true b i_in p_in is = absurd cc
 moved_of place d new i p false b i_in p_in is =
     record { node = i; parent = p; node_in = i_in; parent_in = p_in; outside = sym b; is = cc }

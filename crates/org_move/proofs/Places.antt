@@ -3,10 +3,12 @@ use Rattle.std.proofs.Common.{◌≡◌, ℕ, true, false, Bool, ◌&&◌, List,
 use Rattle.std.specs.Prelude.{Result, IfErr, if◌then◌else◌}
 use Rattle.std.specs.Option.{option_map}
 use Rattle.std.specs.Str.{is_utf8}
+use Rattle.org_fault.specs.declared.fault.Fault.{Fault}
+use Rattle.org_fault.specs.declared.fault.Fault.TheVariants.{OutOfMemory, Refused}
+use Rattle.org_fault.specs.declared.refusal.Refusal.{Refusal}
+use Rattle.org_fault.specs.declared.refusal.Refusal.TheVariants.{NoSuchFile}
 use Rattle.org_disk.specs.Names.{is_archive_name, is_file_name}
 use Rattle.org_outline.specs.States.{Keywords}
-use Rattle.org_move.specs.declared.fault.MoveFault.{MoveFault}
-use Rattle.org_move.specs.declared.fault.MoveFault.TheVariants.{NotFound, NotUnique, InsideItself, AlreadyArchive, BadLocation, NoSuchFile, OutOfMemory}
 use Rattle.org_move.specs.Answers.{IsNameOf, IsPlaceAs}
 use Rattle.org_move.specs.Location.{Destination, Halves, Heading, file_named, halves_of, heading_of, location_at, value_for, with_file}
 
@@ -24,23 +26,20 @@ located states s name t value i halves heading b b_is own value_is cut same read
     rw (first, second, third) refl
 
 -- only the file's name may be wrong after the value was read
-late : (to : Destination) (b : Bool) → IfErr (if b then Ok to else Err NoSuchFile) (λ fault. fault ≡ NoSuchFile)
+late : (to : Destination) (b : Bool) → IfErr (if b then Ok to else Err NoSuchFile) (λ why. why ≡ NoSuchFile)
 late to true = tt
 late to false = refl
 
-pub no_memory : (to : Destination) → IfErr (with_file to) (λ fault. fault ≡ NoSuchFile)
+pub no_memory : (to : Destination) → IfErr (with_file to) (λ why. why ≡ NoSuchFile)
 no_memory to = late to (is_utf8 to.file && is_file_name to.file)
 
-named_fault : (bytes : List ℕ) (to : Destination) (fault : MoveFault) → bytes ≡ to.file → IsNameOf bytes (Err fault) → IsPlaceAs (with_file to) (Err fault)
-named_fault bytes to NotFound same gives = absurd gives
-named_fault bytes to NotUnique same gives = absurd gives
-named_fault bytes to InsideItself same gives = absurd gives
-named_fault bytes to AlreadyArchive same gives = absurd gives
-named_fault bytes to BadLocation same gives = absurd gives
-named_fault bytes to NoSuchFile same gives = let none : (is_utf8 to.file && is_file_name to.file) ≡ false = ap (λ b. is_utf8 b && is_file_name b) (sym same) ∙ gives in rw none refl
+named_fault : (bytes : List ℕ) (to : Destination) (fault : Fault Refusal) → bytes ≡ to.file → IsNameOf bytes (Err fault) → IsPlaceAs (with_file to) (Err fault)
 named_fault bytes to OutOfMemory same gives = no_memory to
+named_fault bytes to (Refused why) same gives =
+    let none : (is_utf8 to.file && is_file_name to.file) ≡ false = ap (λ b. is_utf8 b && is_file_name b) (sym same) ∙ gives.1 in
+    rw (none, gives.0) refl
 
-pub name_fault : (bytes : List ℕ) (to : Destination) (defined : Result Destination MoveFault) (r : Result (List ℕ) MoveFault) (fault : MoveFault)
+pub name_fault : (bytes : List ℕ) (to : Destination) (defined : Result Destination Refusal) (r : Result (List ℕ) (Fault Refusal)) (fault : Fault Refusal)
     → defined ≡ with_file to → bytes ≡ to.file → IsNameOf bytes r → r ≡ Err fault → IsPlaceAs defined (Err fault)
 name_fault bytes to defined r fault is same gives was =
     subst (λ d. IsPlaceAs d (Err fault)) (sym is) (named_fault bytes to fault same (subst (IsNameOf bytes) was gives))

@@ -7,8 +7,8 @@ use Rattle.org_outline.specs.declared.moves.Place.TheVariants.{First, Last}
 use Rattle.org_outline.specs.declared.steps.Step.{Step}
 use Rattle.org_outline.specs.States.{Keywords}
 use Rattle.org_outline.specs.Tree.{print, tree}
-use Rattle.org_move.specs.declared.fault.MoveFault.{MoveFault}
-use Rattle.org_move.specs.declared.fault.MoveFault.TheVariants.{NotFound, NotUnique, InsideItself}
+use Rattle.org_fault.specs.declared.refusal.Refusal.{Refusal}
+use Rattle.org_fault.specs.declared.refusal.Refusal.TheVariants.{NotFound, NotUnique, InsideItself}
 use Rattle.org_move.specs.Counts.{count_in, count_over}
 use Rattle.org_move.specs.Refile.{refile_within, refile_across, Moved}
 
@@ -23,8 +23,8 @@ states = record { active = codes "TODO" ∷ []; done = codes "DONE" ∷ [] }
 abbrev only : List ℕ → Step
 only title = record { title = title; number = None }
 
-abbrev within : List Step → List Step → Place → List ℕ → Result (List ℕ) MoveFault
-within path to place text = result_map_both print (λ fault. fault) (refile_within states path to place (tree text))
+abbrev within : List Step → List Step → Place → List ℕ → Result (List ℕ) Refusal
+within path to place text = result_map_both print (λ why. why) (refile_within states path to place (tree text))
 
 -- ---- within a text
 
@@ -89,7 +89,7 @@ target_second = refl
 
 -- ---- across two texts
 
-first_of_target : result_map_both (λ (d : Moved). print d.source ++ print d.target) (λ (fault : MoveFault). fault)
+first_of_target : result_map_both (λ (d : Moved). print d.source ++ print d.target) (λ (why : Refusal). why)
     (refile_across states (only (codes "A") ∷ only (codes "B") ∷ []) (tree (line (codes "* A") ++ line (codes "** B") ++ line (codes "b")))
     states (only (codes "T") ∷ []) (tree (line (codes "* T") ++ line (codes "** K"))) First)
     ≡ Ok (line (codes "* A") ++ (line (codes "* T") ++ line (codes "** B") ++ line (codes "b") ++ line (codes "** K")))

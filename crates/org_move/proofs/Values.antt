@@ -32,8 +32,8 @@ use Rattle.org_meta.proofs.Flat.{Flat, both_lines, clock_text_line, date_line, d
 use Rattle.org_meta.proofs.Keeping.{keeps_put}
 use Rattle.org_meta.proofs.Reading.{line_said}
 use Rattle.org_meta.proofs.Resplit.{split_put}
-use Rattle.org_move.specs.declared.fault.MoveFault.{MoveFault}
-use Rattle.org_move.specs.declared.fault.MoveFault.TheVariants.{AlreadyArchive, NoSuchFile}
+use Rattle.org_fault.specs.declared.refusal.Refusal.{Refusal}
+use Rattle.org_fault.specs.declared.refusal.Refusal.TheVariants.{AlreadyArchive, NoSuchFile}
 use Rattle.org_move.specs.Archive.{archive_properties, category_of, named, put_each, time_text, unless_none, without_org}
 use Rattle.org_move.specs.Inherited.{first_ones, inherited_tags, is_colon, last_value, nearest, nonempty, nonempty_only, own_value, tag_list, tags_above, titles_above}
 use Rattle.org_move.specs.Location.{Destination, Halves, Heading, and_file, file_named, halves_of, heading_of, is_archive_line, is_title_alone, location, location_of, titled_line, value_behind, value_for, value_of_lines, with_byte}
@@ -357,7 +357,7 @@ of_halves_line : (states : Keywords) (name : List ℕ) (o : Option Halves) → I
 of_halves_line states name None line = tt
 of_halves_line states name (Some halves) line = with_heading_line (file_named name halves.file) (heading_of states halves.heading) (heading_line states halves.heading line)
 
-with_file_is : (b : Bool) (place to : Destination) → ◌≡◌ {A = Result Destination MoveFault} (if b then Ok place else Err NoSuchFile) (Ok to) → place ≡ to
+with_file_is : (b : Bool) (place to : Destination) → ◌≡◌ {A = Result Destination Refusal} (if b then Ok place else Err NoSuchFile) (Ok to) → place ≡ to
 with_file_is true place to is = cc
 with_file_is false place to is = absurd cc
 
@@ -366,7 +366,7 @@ and_file_line None to line is = absurd cc
 and_file_line (Some place) to line is =
     subst (λ (to : Destination). Flat to.title) (with_file_is (is_utf8 place.file && is_file_name place.file) place to is) line
 
-not_archive : (b : Bool) (r : Result Destination MoveFault) (to : Destination) → ◌≡◌ {A = Result Destination MoveFault} (if b then Err AlreadyArchive else r) (Ok to) → r ≡ Ok to
+not_archive : (b : Bool) (r : Result Destination Refusal) (to : Destination) → ◌≡◌ {A = Result Destination Refusal} (if b then Err AlreadyArchive else r) (Ok to) → r ≡ Ok to
 not_archive true r to is = absurd cc
 not_archive false r to is = is
 

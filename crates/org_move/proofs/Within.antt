@@ -1,6 +1,9 @@
 -- The edits of a subtree archived in its own text make the document that is defined.
 use Rattle.std.proofs.Common.{◌≡◌, ℕ, ◌<◌, List, [], ◌∷◌, Option, Ok, Err, rules, refl, sym, ap, subst, ◌∙◌}
 use Rattle.std.specs.Prelude.{Result, IsOk}
+use Rattle.org_fault.specs.declared.fault.Fault.{Fault}
+use Rattle.org_fault.specs.declared.fault.Fault.TheVariants.{OutOfMemory, Refused}
+use Rattle.org_fault.specs.declared.refusal.Refusal.{Refusal}
 use Rattle.org_splice.specs.Edits.{AreEdits}
 use Rattle.org_splice.specs.Lines.{terminated}
 use Rattle.org_splice.specs.declared.edit.Edit.{Edit}
@@ -11,8 +14,6 @@ use Rattle.org_outline.specs.Tree.{Document, Node, node_count, print, print_node
 use Rattle.org_outline.specs.Moves.{InsertsAt, take}
 use Rattle.org_outline.specs.Numbers.{parent_without, size_of}
 use Rattle.org_outline.proofs.TwoEdits.{two_edits}
-use Rattle.org_move.specs.declared.fault.MoveFault.{MoveFault}
-use Rattle.org_move.specs.declared.fault.MoveFault.TheVariants.{OutOfMemory}
 use Rattle.org_move.specs.Answers.{IsMadeAs}
 use Rattle.org_move.specs.Archive.{archive_within_at, archived, filled, if_apart, put_last, target_heading}
 use Rattle.org_move.specs.Edits.{insertion, removal}
@@ -33,26 +34,26 @@ found_up states name now to d s i up s_is found =
     rw there refl
 
 pub not_apart : {C : Type 0} (states : Keywords) (name : List ℕ) (now : Moment) (to : Destination) (d : Document) (Fits : Document → C → Type 0) (s : Result (Option ℕ) PathFault)
-    (i : ℕ) (up : Option ℕ) (fault : MoveFault)
-    → s ≡ target_heading states to d → s ≡ Ok up → Err fault ≡ if_apart d i up up
-    → IsMadeAs {A = C} (archive_within_at states name now to d i) Fits (Err fault)
-not_apart {C} states name now to d Fits s i up fault s_is found fails =
-    apart_fails {C = C} d i up up (left_with states name now to d i up) (archive_within_at states name now to d i) Fits fault
+    (i : ℕ) (up : Option ℕ) (why : Refusal)
+    → s ≡ target_heading states to d → s ≡ Ok up → Err why ≡ if_apart d i up up
+    → IsMadeAs {A = C} (archive_within_at states name now to d i) Fits (Err (Refused why))
+not_apart states name now to d Fits s i up why s_is found fails =
+    apart_fails d i up up (left_with states name now to d i up) (archive_within_at states name now to d i) why
     (found_up states name now to d s i up s_is found) fails
 
-some_ok : (r : Result Document MoveFault) (d : Document) → r ≡ Ok d → IsOk r
+some_ok : (r : Result Document Refusal) (d : Document) → r ≡ Ok d → IsOk r
 some_ok (Ok new) d is = search rules
 some_ok (Err fault) d is = absurd cc
 
 -- memory is wanted only where a document is defined
 pub starved : {C : Type 0} (states : Keywords) (name : List ℕ) (now : Moment) (to : Destination) (d : Document) (Fits : Document → C → Type 0) (s : Result (Option ℕ) PathFault)
-    (i : ℕ) (asked up : Option ℕ) (fault : MoveFault)
+    (i : ℕ) (asked up : Option ℕ) (fault : Fault Refusal)
     → s ≡ target_heading states to d → s ≡ Ok asked → Ok up ≡ if_apart d i asked asked → fault ≡ OutOfMemory
     → IsMadeAs {A = C} (archive_within_at states name now to d i) Fits (Err fault)
 starved {C} states name now to d Fits s i asked up fault s_is found is memory =
     let defined : archive_within_at states name now to d i ≡ Ok (left_with states name now to d i asked) =
     found_up states name now to d s i asked s_is found ∙ apart_too d i asked asked up (left_with states name now to d i asked) is in
-    subst (λ (f : MoveFault). IsMadeAs {A = C} (archive_within_at states name now to d i) Fits (Err f)) (sym memory) (some_ok (archive_within_at states name now to d i) (left_with states name now to d i asked) defined)
+    subst (λ (f : Fault Refusal). IsMadeAs {A = C} (archive_within_at states name now to d i) Fits (Err f)) (sym memory) (some_ok (archive_within_at states name now to d i) (left_with states name now to d i asked) defined)
 
 pub archived_within : (states : Keywords) (name : List ℕ) (now : Moment) (t : List ℕ) (to : Destination) (s : Result (Option ℕ) PathFault)
     (i : ℕ) (asked up : Option ℕ) (at : ℕ) (bytes : List ℕ) (out goes_in : Edit)

@@ -3,6 +3,8 @@
 use Rattle.std.specs.Prelude.{ℕ, ◌==◌, nat_eq, if◌then◌else◌, Option, None, Some, Result, Ok, Err, List, [], ◌∷◌, ◌++◌, codes, filter, length, take, ◌-◌, ◌+◌}
 use Rattle.std.specs.List.{ends_with, join_with_byte}
 use Rattle.std.specs.Option.{unwrap_or}
+use Rattle.org_fault.specs.declared.refusal.Refusal.{Refusal}
+use Rattle.org_fault.specs.declared.refusal.Refusal.TheVariants.{AlreadyArchive, InsideItself}
 use Rattle.org_stamp.specs.Calendar.{Moment, weekday_of}
 use Rattle.org_stamp.specs.Stamp.{date_text, day_name, clock_text}
 use Rattle.org_outline.specs.declared.steps.Step.{Step}
@@ -11,15 +13,13 @@ use Rattle.org_outline.specs.declared.paths.PathFault.{PathFault}
 use Rattle.org_outline.specs.States.{Keywords}
 use Rattle.org_outline.specs.Tree.{Document, Node, node_at, node_count, nodes}
 use Rattle.org_outline.specs.Parts.{parts_of}
-use Rattle.org_outline.specs.Paths.{find_path, titled_nodes, the_only}
+use Rattle.org_outline.specs.Paths.{find_path, refusal_of, titled_nodes, the_only}
 use Rattle.org_outline.specs.Moves.{append_heading, insert, shift_node, take as take_out}
 use Rattle.org_outline.specs.Numbers.{heading_over, parent_without, size_of}
 use Rattle.org_meta.specs.Sections.{NodeProperty, SectionParts, joined, put, split}
-use Rattle.org_move.specs.declared.fault.MoveFault.{MoveFault}
-use Rattle.org_move.specs.declared.fault.MoveFault.TheVariants.{AlreadyArchive, InsideItself}
 use Rattle.org_move.specs.Inherited.{nearest, titles_above, inherited_tags}
 use Rattle.org_move.specs.Location.{Destination}
-use Rattle.org_move.specs.Refile.{Moved, fault_of, is_inside, with_found}
+use Rattle.org_move.specs.Refile.{Moved, is_inside, with_found}
 
 -- ---- the properties of an archived entry
 
@@ -104,15 +104,15 @@ filled to None node =
 
 -- ---- archiving
 
--- what is made with the heading of a destination, and the fault where there are several
+-- what is made with the heading of a destination, and the refusal where there are several
 abbrev pub with_heading : {A : Type 0} → Result (Option ℕ) PathFault
-    → (Option ℕ → Result A MoveFault) → Result A MoveFault
+    → (Option ℕ → Result A Refusal) → Result A Refusal
 with_heading (Ok up) make = make up
-with_heading (Err fault) make = Err (fault_of fault)
+with_heading (Err fault) make = Err (refusal_of fault)
 
 -- what is made where the heading at the destination, if it is there, neither lies in the entry nor
 -- above it
-abbrev pub if_apart : {A : Type 0} → Document → ℕ → Option ℕ → A → Result A MoveFault
+abbrev pub if_apart : {A : Type 0} → Document → ℕ → Option ℕ → A → Result A Refusal
 if_apart d i None new = Ok new
 if_apart d i (Some p) new =
     if is_inside d i p then Err InsideItself
@@ -120,7 +120,7 @@ if_apart d i (Some p) new =
 
 -- archiving within a document, the text of the file of this name: heading i goes to the destination
 abbrev pub archive_within_at : Keywords → List ℕ → Moment → Destination → Document → ℕ
-    → Result Document MoveFault
+    → Result Document Refusal
 archive_within_at states name now to d i =
     with_heading (target_heading states to d) (λ up.
     if_apart d i up
@@ -129,13 +129,13 @@ archive_within_at states name now to d i =
 
 -- .. and so does the heading at `path`
 abbrev pub archive_within : Keywords → List ℕ → List Step → Moment → Destination → Document
-    → Result Document MoveFault
+    → Result Document Refusal
 archive_within states name path now to d =
     with_found (find_path states d path) (λ i. archive_within_at states name now to d i)
 
 -- archiving into another document, the text of the destination's file: heading i of the source
 abbrev pub archive_across_at : Keywords → List ℕ → Moment → Document → Keywords → Destination
-    → Document → ℕ → Result Moved MoveFault
+    → Document → ℕ → Result Moved Refusal
 archive_across_at states name now source there to target i =
     with_heading (target_heading there to target) (λ up.
     Ok (record {
@@ -145,7 +145,7 @@ archive_across_at states name now source there to target i =
 
 -- .. and the heading at `path`
 abbrev pub archive_across : Keywords → List ℕ → List Step → Moment → Document → Keywords
-    → Destination → Document → Result Moved MoveFault
+    → Destination → Document → Result Moved Refusal
 archive_across states name path now source there to target =
     with_found (find_path states source path) (λ i.
     archive_across_at states name now source there to target i)

@@ -5,6 +5,8 @@ use Rattle.std.specs.Borrow.{Bor}
 use Rattle.std.specs.List.{find}
 use Rattle.std.specs.Option.{option_map, option_and_then, option_or, unwrap_or}
 use Rattle.std.specs.Str.{str_eq_ignore_ascii_case, is_utf8}
+use Rattle.org_fault.specs.declared.refusal.Refusal.{Refusal}
+use Rattle.org_fault.specs.declared.refusal.Refusal.TheVariants.{AlreadyArchive, BadLocation, NoSuchFile}
 use Rattle.org_splice.specs.Blanks.{is_blank, behind, trimmed}
 use Rattle.org_splice.specs.Lines.{terminated, lines_of}
 use Rattle.org_disk.specs.Names.{is_archive_name, is_file_name}
@@ -15,8 +17,6 @@ use Rattle.org_outline.specs.Text.{level_of}
 use Rattle.org_outline.specs.Tree.{tree}
 use Rattle.org_outline.specs.Parts.{Parts, parts_of}
 use Rattle.org_outline.specs.Paths.{find_path}
-use Rattle.org_move.specs.declared.fault.MoveFault.{MoveFault}
-use Rattle.org_move.specs.declared.fault.MoveFault.TheVariants.{AlreadyArchive, BadLocation, NoSuchFile}
 use Rattle.org_move.specs.Inherited.{nonempty, nearest}
 use Rattle.org_move.specs.Refile.{with_found}
 
@@ -147,21 +147,21 @@ location_of states name value =
     (halves_of value)
 
 -- one whose file has a name that a file can have
-abbrev pub with_file : Destination → Result Destination MoveFault
+abbrev pub with_file : Destination → Result Destination Refusal
 with_file to = if is_utf8 to.file && is_file_name to.file then Ok to else Err NoSuchFile
 
--- what is made of a destination, and the fault where there is none
-abbrev pub and_file : Option Destination → Result Destination MoveFault
+-- what is made of a destination, and the refusal where there is none
+abbrev pub and_file : Option Destination → Result Destination Refusal
 and_file None = Err BadLocation
 and_file (Some to) = with_file to
 
 -- where heading i goes that is archived from the file of this name
-abbrev pub location_at : Keywords → List ℕ → List ℕ → ℕ → Result Destination MoveFault
+abbrev pub location_at : Keywords → List ℕ → List ℕ → ℕ → Result Destination Refusal
 location_at states name text i =
     if is_archive_name name then Err AlreadyArchive
     else and_file (location_of states name (value_for text i))
 
 -- .. and the heading at a path
-abbrev pub location : Keywords → List ℕ → List Step → List ℕ → Result Destination MoveFault
+abbrev pub location : Keywords → List ℕ → List Step → List ℕ → Result Destination Refusal
 location states name path text =
     with_found (find_path states (tree text) path) (λ i. location_at states name text i)

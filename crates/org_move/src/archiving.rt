@@ -12,13 +12,13 @@ ghost use Rattle.org_move.specs.Answers.{IsMadeAs};
 ghost use Rattle.org_move.specs.Archive.{archive_across_at, archive_within_at, filled, put_last};
 ghost use Rattle.org_move.specs.Location.{Destination};
 
-use crate::MoveFault;
 use crate::destination::Location;
 use crate::place::apart;
 use crate::refile::{level_of, without};
 use crate::subtree::archived_lines;
 use crate::target::target_heading;
 use org_disk::FileName;
+use org_fault::{Fault, Refusal};
 use org_outline::{Node, Outline, Place};
 use org_splice::{Bytes, Edit};
 use org_stamp::Moment;
@@ -106,7 +106,7 @@ pub fn archive(
     node: Node,
     now: Moment,
     to: &Location,
-) -> Result<(Edit, Edit), MoveFault>
+) -> Result<(Edit, Edit), Fault<Refusal>>
     requires { node < node_count (tree source.now.text) }
     ensures { let from = tree source.now.text in
         let into = tree target.now.text in
@@ -143,7 +143,7 @@ pub fn archive_within(
     node: Node,
     now: Moment,
     to: &Location,
-) -> Result<[Edit; 2], MoveFault>
+) -> Result<[Edit; 2], Fault<Refusal>>
     requires { node < node_count (tree outline.now.text) }
     ensures { let states = outline.now.states in
         let document = tree outline.now.text in

@@ -6,7 +6,6 @@
 
 mod archiving;
 mod destination;
-mod fault;
 mod inherited;
 pub mod laws;
 mod locating;
@@ -18,6 +17,5 @@ mod target;
 
 pub use archiving::{archive, archive_within};
 pub use destination::Location;
-pub use fault::MoveFault;
 pub use locating::location_searched;
 pub use refile::{refile_across, refile_within};

@@ -13,12 +13,12 @@ ghost use Rattle.org_move.specs.Answers.{IsNameOf, IsPlaceAs};
 ghost use Rattle.org_move.specs.Location.{ComesTo, LeavesLines, location_at, file_named, halves_made, halves_of, has_archive_line, heading_made, heading_of, is_archive_line, is_title_alone, value_for, value_of_lines, with_file, with_name};
 ghost use Rattle.org_splice.specs.Blanks.{is_blank, behind};
 
-use crate::MoveFault;
 use crate::destination::Location;
 use crate::inherited::{nearest, nonempty};
 use memchr::memmem::Finder;
 use memchr::memrchr;
 use org_disk::{FileName, NameFault};
+use org_fault::{Fault, Refusal};
 use org_meta::first_line;
 use org_outline::{HeadParts, Node, Outline, States, heading_level};
 use org_splice::blanks::{behind_blanks, trimmed};
@@ -220,16 +220,16 @@ fn file_text(alloc: Global, name: &[u8], text: &[u8]) -> Result<Vec<u8>, AllocEr
 
 /// The name that the bytes are.
 #[tactic(auto, using(crate::proofs::Utf8::is_no_utf8))]
-fn file_name(alloc: Global, bytes: &[u8]) -> Result<FileName, MoveFault>
+fn file_name(alloc: Global, bytes: &[u8]) -> Result<FileName, Fault<Refusal>>
     ensures { IsNameOf bytes.now result }
 {
     let Ok(text) = str::from_utf8(bytes) else {
-        return Err(MoveFault::NoSuchFile);
+        return Err(Fault::Refused(Refusal::NoSuchFile));
     };
     match FileName::new(alloc, text) {
         Ok(name) => Ok(name),
-        Err(NameFault::BadName) => Err(MoveFault::NoSuchFile),
-        Err(NameFault::OutOfMemory) => Err(MoveFault::OutOfMemory),
+        Err(NameFault::BadName) => Err(Fault::Refused(Refusal::NoSuchFile)),
+        Err(NameFault::OutOfMemory) => Err(Fault::OutOfMemory),
     }
 }
 
@@ -240,7 +240,7 @@ fn place(
     file: &[u8],
     level: usize,
     title: &[u8],
-) -> Result<Location, MoveFault>
+) -> Result<Location, Fault<Refusal>>
     requires { level + 1 < 2 ^ 63 }
     ensures { let file = file_named name.now file.now in
         IsPlaceAs (with_file (record { file = file; level = level; title = title.now })) result }
@@ -276,7 +276,7 @@ pub fn location_searched(
     name: &FileName,
     node: Node,
     searched: &mut Searched,
-) -> Result<Location, MoveFault>
+) -> Result<Location, Fault<Refusal>>
     requires node { node < node_count (tree outline.now.text) }
     requires searched { IsSearched has_archive_line searched.old outline.now.text }
     ensures place { let states = outline.now.states in
@@ -284,13 +284,13 @@ pub fn location_searched(
     ensures searched { IsSearched has_archive_line searched.new outline.now.text }
 {
     if name.is_archive() {
-        return Err(MoveFault::AlreadyArchive);
+        return Err(Fault::Refused(Refusal::AlreadyArchive));
     }
     let Some((file, line)) = halves(value_for(outline, node, searched)) else {
-        return Err(MoveFault::BadLocation);
+        return Err(Fault::Refused(Refusal::BadLocation));
     };
     let Some((level, title)) = heading(outline.states(), line) else {
-        return Err(MoveFault::BadLocation);
+        return Err(Fault::Refused(Refusal::BadLocation));
     };
     place(alloc, name, file, level, title)
 }

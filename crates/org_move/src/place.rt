@@ -5,7 +5,7 @@ ghost use Rattle.org_outline.specs.Numbers.{LiesIn};
 ghost use Rattle.org_outline.specs.Tree.{node_count, tree};
 ghost use Rattle.org_move.specs.Archive.{if_apart};
 
-use crate::MoveFault;
+use org_fault::Refusal;
 use org_outline::{Node, Outline};
 
 /// The heading at the place, where it is there; fails where it lies in the entry, or above it.
@@ -13,7 +13,7 @@ pub(crate) fn apart(
     outline: &Outline<'_>,
     node: Node,
     up: Option<Node>,
-) -> Result<Option<Node>, MoveFault>
+) -> Result<Option<Node>, Refusal>
     requires node { node < node_count (tree outline.now.text) }
     requires up { ForSome up (λ up. up < node_count (tree outline.now.text)) }
     ensures value { result ≡ if_apart (tree outline.now.text) node up up }
@@ -26,10 +26,10 @@ pub(crate) fn apart(
         return Ok(None);
     };
     if outline.lies_in(up, node) {
-        return Err(MoveFault::InsideItself);
+        return Err(Refusal::InsideItself);
     }
     if outline.lies_in(node, up) {
-        return Err(MoveFault::AlreadyArchive);
+        return Err(Refusal::AlreadyArchive);
     }
     Ok(Some(up))
 }

@@ -11,7 +11,7 @@ ghost use Rattle.org_move.specs.Answers.{IsMadeAs};
 ghost use Rattle.org_move.specs.Edits.{insertion, removal};
 ghost use Rattle.org_move.specs.Refile.{refile_across, refile_within};
 
-use crate::MoveFault;
+use org_fault::{Fault, Refusal};
 use org_outline::{Node, Outline, Place, Step, shift};
 use org_splice::{Bytes, Edit};
 use std::alloc::{AllocError, Global};
@@ -96,7 +96,7 @@ pub fn refile_within(
     path: &[Step],
     to: &[Step],
     place: Place,
-) -> Result<[Edit; 2], MoveFault>
+) -> Result<[Edit; 2], Fault<Refusal>>
     ensures { let states = outline.now.states in
         let document = tree outline.now.text in
         IsMadeAs (refile_within states path.now to.now place document)
@@ -105,7 +105,7 @@ pub fn refile_within(
     let node = outline.find(path)?;
     let parent = outline.find(to)?;
     if outline.lies_in(parent, node) {
-        return Err(MoveFault::InsideItself);
+        return Err(Fault::Refused(Refusal::InsideItself));
     }
     let at = outline.place_without(node, Some(parent), place);
     let level = level_below(outline, parent);
@@ -128,7 +128,7 @@ pub fn refile_across(
     path: &[Step],
     to: &[Step],
     place: Place,
-) -> Result<(Edit, Edit), MoveFault>
+) -> Result<(Edit, Edit), Fault<Refusal>>
     ensures { let from = tree source.now.text in
         let into = tree target.now.text in
         IsMadeAs (refile_across source.now.states path.now from

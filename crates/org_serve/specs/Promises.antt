@@ -17,7 +17,7 @@ use Rattle.org_fileset.specs.Opening.{IsRefusedFor}
 use Rattle.org_fileset.specs.Recovery.{IsReopened}
 use Rattle.org_fileset.specs.Writes.{LeavesAlone}
 use Rattle.org_commands.specs.declared.command.Command.{Command}
-use Rattle.org_commands.specs.declared.command.Refusal.{Refusal}
+use Rattle.org_fault.specs.declared.refusal.Refusal.{Refusal}
 use Rattle.org_commands.specs.declared.command.RunFault.TheVariants.{Refused}
 use Rattle.org_commands.specs.declared.tally.Group.TheVariants.{Whole}
 use Rattle.org_commands.specs.Outcome.{Refuses, outcome}

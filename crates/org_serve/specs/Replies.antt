@@ -7,7 +7,7 @@ use Rattle.org_commands.specs.declared.command.Reply.{Reply}
 use Rattle.org_commands.specs.declared.command.Reply.TheVariants.{Done, Safe, Text, Time}
 use Rattle.org_commands.specs.declared.command.RunFault.{RunFault}
 use Rattle.org_commands.specs.declared.command.RunFault.TheVariants.{Refused, OutOfMemory, Device, Broken}
-use Rattle.org_commands.specs.Refusals.{code_of, name_of}
+use Rattle.org_fault.specs.Refusals.{code_of, name_of}
 
 abbrev pub bad_line : List ℕ
 bad_line = codes "refused 20 BadLine\n"

@@ -1,12 +1,12 @@
 -- When a moved timestamp starts after now.
-use Rattle.std.proofs.Common.{◌≡◌, ℕ, ◌+◌, ◌*◌, ◌/◌, ◌<◌, ◌≤◌, inl, inr, nat_lt, Bool, true, false, Option, None, Some, List, ℤ, pos, ◌+ℤ◌, ◌*ℤ◌, ◌<ℤ◌, ◌≤ℤ◌, refl, sym, ap, ◌∙◌, subst, arith}
+use Rattle.std.proofs.Common.{◌≡◌, ℕ, ◌+◌, ◌/◌, ◌<◌, ◌≤◌, inl, inr, nat_lt, Bool, true, false, Option, None, Some, List, ℤ, pos, ◌+ℤ◌, ◌*ℤ◌, ◌<ℤ◌, ◌≤ℤ◌, refl, sym, ap, ◌∙◌, subst, arith}
 use Rattle.std.proofs.lemmas.Bool.{cases_lt}
 use Rattle.std.proofs.lemmas.Bool.Decides.{nat_tests}
 use Rattle.jiff_core.proofs.SignedLemmas.{signed_arith}
 use Rattle.org_stamp.specs.declared.kind.Times.{Times}
-use Rattle.org_stamp.specs.declared.kind.Unit.{Unit}
-use Rattle.org_stamp.specs.declared.kind.Unit.TheVariants.{Hour, Day, Week, Month, Year}
-use Rattle.org_stamp.specs.Calendar.{CivilDay, Moment, IsDay, day_number, minutes_of, days_after, months_after}
+use Rattle.org_stamp.specs.declared.kind.Base.{Base}
+use Rattle.org_stamp.specs.declared.kind.Base.TheVariants.{Minutes}
+use Rattle.org_stamp.specs.Calendar.{CivilDay, Moment, IsDay, day_number, minutes_of}
 use Rattle.org_stamp.specs.Stamp.{StampValue, Part, IsTime, start_of}
 use Rattle.org_stamp.specs.Repeat.{IsLater, at_total, moved, target_of}
 use Rattle.org_stamp.proofs.Later.{after_number, civil_of}
@@ -40,39 +40,24 @@ total_minutes s total h =
     let number = after_number s.day (total / 1440) (civil_of s.day h) in
     omega (arith, signed_arith, number)
 
--- hours count from the start
-pub hour_minutes : (s : StampValue) (k v : ℕ) → IsDay s.day → minutes_of (start_of (moved s Hour (k * v))) ≡ minutes_of (start_of s) +ℤ pos (k * (60 * v))
-hour_minutes s k v h =
-    let total = total_minutes s ((start_of s).minute + 60 * (k * v)) h in
+-- minutes count from the start
+pub minutes_moved : (s : StampValue) (n : ℕ) → IsDay s.day → minutes_of (start_of (moved s Minutes n)) ≡ minutes_of (start_of s) +ℤ pos n
+minutes_moved s n h =
+    let total = total_minutes s ((start_of s).minute + n) h in
     omega (arith, signed_arith, total)
 
-pub at_unit : (s : StampValue) (u w : Unit) (n : ℕ) (now : Moment) → u ≡ w → IsLater (moved s w n) now → IsLater (moved s u n) now
-at_unit s u w n now e h = subst (λ (x : Unit). IsLater (moved s x n) now) (sym e) h
+pub later_in : (s : StampValue) (base is : Base) (n : ℕ) (now : Moment) → base ≡ is → IsLater (moved s is n) now → IsLater (moved s base n) now
+later_in s base is n now e h = subst (λ (x : Base). IsLater (moved s x n) now) (sym e) h
 
-pub of_unit : (s : StampValue) (u w : Unit) (n : ℕ) (now : Moment) → u ≡ w → IsLater (moved s u n) now → IsLater (moved s w n) now
-of_unit s u w n now e h = subst (λ (x : Unit). IsLater (moved s x n) now) e h
+-- by the day on which it stands, that many base units behind its own
+module _ (s : StampValue) (base is : Base) (go : CivilDay → ℕ → CivilDay) (now : Moment) (day : CivilDay) (t : ℤ) (e : base ≡ is) (goes : (n : ℕ) → record s { day = go s.day n } ≡ moved s is n) (from : s.day ≡ day) (time : IsTime s.time) (minute : now.minute < 1440) (target : t ≡ target_of s.time now) where
+  there : (n : ℕ) → record s { day = go day n } ≡ moved s base n
+  there n = ap (λ d. record s { day = go d n }) (sym from) ∙ goes n ∙ ap (λ x. moved s x n) (sym e)
 
--- by the day on which it stands
-pub by_day : (s : StampValue) (u w : Unit) (n : ℕ) (now : Moment) (d : CivilDay) (t : ℤ) → u ≡ w → record s { day = d } ≡ moved s w n → IsTime s.time → now.minute < 1440 → t ≡ target_of s.time now → t ≤ℤ day_number d → IsLater (moved s u n) now
-by_day s u w n now d t e is time minute target h =
-    at_unit s u w n now e (subst (λ (x : StampValue). IsLater x now) is (later_day s.active s.time s.cookies d now time minute (subst (λ (z : ℤ). z ≤ℤ day_number d) target h)))
+  pub later_there : (n : ℕ) → t ≤ℤ day_number (go day n) → IsLater (moved s base n) now
+  later_there n h =
+      subst (λ (x : StampValue). IsLater x now) (there n) (later_day s.active s.time s.cookies (go day n) now time minute (subst (λ (z : ℤ). z ≤ℤ day_number (go day n)) target h))
 
-pub not_by_day : (s : StampValue) (u w : Unit) (n : ℕ) (now : Moment) (d : CivilDay) (t : ℤ) → u ≡ w → record s { day = d } ≡ moved s w n → IsTime s.time → now.minute < 1440 → t ≡ target_of s.time now → day_number d <ℤ t → IsLater (moved s u n) now → ⊥
-not_by_day s u w n now d t e is time minute target h later =
-    not_later_day s.active s.time s.cookies d now time minute (subst (λ (z : ℤ). day_number d <ℤ z) target h) (subst (λ (x : StampValue). IsLater x now) (sym is) (of_unit s u w n now e later))
-
--- the number of units, counted in days or months
-pub units : (k v m : ℕ) → k * (m * v) ≡ m * (k * v)
-units k v m = omega arith
-
-pub day_is : (s : StampValue) (day : CivilDay) (k v : ℕ) → s.day ≡ day → record s { day = days_after day (k * v) } ≡ moved s Day (k * v)
-day_is s day k v e = ap (λ d. record s { day = days_after d (k * v) }) (sym e)
-
-pub week_is : (s : StampValue) (day : CivilDay) (k v : ℕ) → s.day ≡ day → record s { day = days_after day (k * (7 * v)) } ≡ moved s Week (k * v)
-week_is s day k v e = ap (λ n. record s { day = days_after day n }) (units k v 7) ∙ ap (λ d. record s { day = days_after d (7 * (k * v)) }) (sym e)
-
-pub month_is : (s : StampValue) (day : CivilDay) (k v : ℕ) → s.day ≡ day → record s { day = months_after day (k * v) } ≡ moved s Month (k * v)
-month_is s day k v e = ap (λ d. record s { day = months_after d (k * v) }) (sym e)
-
-pub year_is : (s : StampValue) (day : CivilDay) (k v : ℕ) → s.day ≡ day → record s { day = months_after day (k * (12 * v)) } ≡ moved s Year (k * v)
-year_is s day k v e = ap (λ n. record s { day = months_after day n }) (units k v 12) ∙ ap (λ d. record s { day = months_after d (12 * (k * v)) }) (sym e)
+  pub not_later_there : (n : ℕ) → day_number (go day n) <ℤ t → IsLater (moved s base n) now → ⊥
+  not_later_there n h later =
+      not_later_day s.active s.time s.cookies (go day n) now time minute (subst (λ (z : ℤ). day_number (go day n) <ℤ z) target h) (subst (λ (x : StampValue). IsLater x now) (sym (there n)) later)

@@ -7,17 +7,18 @@ use Rattle.jiff_core.proofs.SignedLemmas.{signed_arith}
 use Rattle.org_stamp.specs.declared.kind.Times.{Times}
 use Rattle.org_stamp.specs.declared.kind.Unit.{Unit}
 use Rattle.org_stamp.specs.declared.kind.Unit.TheVariants.{Hour, Day, Week, Month, Year}
+use Rattle.org_stamp.specs.declared.kind.Base.TheVariants.{Minutes}
 use Rattle.org_stamp.specs.declared.kind.Mark.{Mark}
 use Rattle.org_stamp.specs.declared.kind.Mark.TheVariants.{Cumulate, CatchUp, Restart}
 use Rattle.org_stamp.specs.declared.kind.Interval.{Interval}
 use Rattle.org_stamp.specs.declared.kind.Repeater.{Repeater}
-use Rattle.org_stamp.specs.declared.fault.RepeatFault.{RepeatFault}
-use Rattle.org_stamp.specs.declared.fault.RepeatFault.TheVariants.{BadRepeat}
+use Rattle.org_fault.specs.declared.refusal.Refusal.{Refusal}
+use Rattle.org_fault.specs.declared.refusal.Refusal.TheVariants.{BadRepeat}
 use Rattle.org_stamp.specs.Calendar.{CivilDay, Moment, IsDay, day_number, minutes_of, days_after, months_after, month_number}
 use Rattle.org_stamp.specs.Stamp.{StampValue, IsStamp, has_one_time, first_repeater, start_of}
-use Rattle.org_stamp.specs.Repeat.{is_hour, shifted, moved, in_range, IsLater, IsLaterBy, is_later, is_later_by, first_from, most_times, target_of, RepeatsBy, RepeatsAs, IsNext, repeated_by, repeated_as, repeated}
+use Rattle.org_stamp.specs.Repeat.{in_base, is_hour, shifted, moved, in_range, IsLater, IsLaterBy, is_later, is_later_by, first_from, most_times, target_of, RepeatsBy, RepeatsAs, IsNext, repeated_by, repeated_as, repeated}
 use Rattle.org_stamp.proofs.Later.{after_number, civil_of, last_number, reach, IsTarget}
-use Rattle.org_stamp.proofs.Ahead.{hour_minutes, later_day}
+use Rattle.org_stamp.proofs.Ahead.{minutes_moved, later_day}
 
 -- the first number of which f is true
 first_is : (f : ℕ → Bool) (n k m : ℕ) → k ≤ m → m ≤ k + n → f m ≡ true → ((j : ℕ) → k ≤ j → j < m → f j ≡ false) → first_from f n k ≡ m
@@ -82,18 +83,15 @@ module _ (s : StampValue) (now : Moment) (valid : IsStamp s) (today : IsDay now.
       let within : month_number now.day < month_number s.day + n = omega (arith, today.0.1, far) in
       far_day (months_after s.day n) (reach s.day now.day n (target_of s.time now) valid.day today within (target_is s.time now))
 
-  far_hours : (j v : ℕ) → most_times < j → j ≤ j * v → IsLater (moved s Hour (j * v)) now
-  far_hours j v far more =
-      let minutes = hour_minutes s j v valid.day in
-      let some : j * (60 * v) ≡ 60 * (j * v) = omega arith in
-      omega (arith, signed_arith, minutes, some, numbers, far, more, minute)
+  far_minutes : (n : ℕ) → 60 * most_times < n → IsLater (moved s Minutes n) now
+  far_minutes n far = omega (arith, signed_arith, minutes_moved s n valid.day, numbers, far, minute)
 
-  far : (u : Unit) (j v : ℕ) → most_times < j → 1 ≤ v → IsLater (moved s u (j * v)) now
-  far Hour j v past some = far_hours j v past (times_over j v some)
+  far : (u : Unit) (j v : ℕ) → most_times < j → 1 ≤ v → let step = in_base u v in IsLater (moved s step.0 (j * step.1)) now
+  far Hour j v past some = far_minutes (j * (60 * v)) (omega (arith, past, times_over j v some))
   far Day j v past some = far_days (j * v) (omega (arith, past, times_over j v some))
-  far Week j v past some = far_days (7 * (j * v)) (omega (arith, past, times_over j v some))
+  far Week j v past some = far_days (j * (7 * v)) (omega (arith, past, times_over j v some))
   far Month j v past some = far_months (j * v) (omega (arith, past, times_over j v some))
-  far Year j v past some = far_months (12 * (j * v)) (omega (arith, past, times_over j v some))
+  far Year j v past some = far_months (j * (12 * v)) (omega (arith, past, times_over j v some))
 
   bounded : (i : Interval) (k : ℕ) → 1 ≤ i.value → ((j : ℕ) → 1 ≤ j → j < k → ¬ (IsLater (shifted s i j) now)) → k ≤ 1 + most_times
   bounded i k some least =
@@ -102,7 +100,7 @@ module _ (s : StampValue) (now : Moment) (valid : IsStamp s) (today : IsDay now.
         | inr few ↦ few
       ]
 
-  by_computed : (m : Mark) (i : Interval) (r : Result StampValue RepeatFault) → 1 ≤ i.value → RepeatsBy m i s now r → repeated_by m i s now ≡ r
+  by_computed : (m : Mark) (i : Interval) (r : Result StampValue Refusal) → 1 ≤ i.value → RepeatsBy m i s now r → repeated_by m i s now ≡ r
   by_computed Cumulate i r some a = sym a
   by_computed Restart i r some a = sym a
   by_computed CatchUp i r some (k, from, later, least, is) =
@@ -116,7 +114,7 @@ module _ (s : StampValue) (now : Moment) (valid : IsStamp s) (today : IsDay now.
   matched true a b x B other is = sym is
   matched false a b x B other is = other refl is
 
-  as_computed : (o : Option Repeater) (r : Result StampValue RepeatFault) → RepeatsAs o s now r → repeated_as o s now ≡ r
+  as_computed : (o : Option Repeater) (r : Result StampValue Refusal) → RepeatsAs o s now r → repeated_as o s now ≡ r
   as_computed None r is = sym is
   as_computed (Some p) r is =
       let hour = is_hour p.interval.unit && not (has_one_time s.time) in
@@ -125,5 +123,5 @@ module _ (s : StampValue) (now : Moment) (valid : IsStamp s) (today : IsDay now.
       (λ some rest. matched hour (Err BadRepeat) (repeated_by p.mark p.interval s now) r (RepeatsBy p.mark p.interval s now r)
       (λ _ by. by_computed p.mark p.interval r (grind (arith, nat_tests, some)) by) rest) is
 
-pub repeats_computed : (s : StampValue) (now : Moment) (r : Result StampValue RepeatFault) → IsStamp s → IsDay now.day → now.minute < 1440 → IsNext s now r → repeated s now ≡ r
+pub repeats_computed : (s : StampValue) (now : Moment) (r : Result StampValue Refusal) → IsStamp s → IsDay now.day → now.minute < 1440 → IsNext s now r → repeated s now ≡ r
 repeats_computed s now r valid today minute is = as_computed s now valid today minute (first_repeater s.cookies) r is

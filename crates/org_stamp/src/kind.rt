@@ -15,6 +15,14 @@ pub enum Unit {
     Year,
 }
 
+/// What a timestamp is moved by: each unit is a number of one of these.
+#[derive(Clone, Copy)]
+pub enum Base {
+    Minutes,
+    Days,
+    Months,
+}
+
 /// How a repeater moves a timestamp (Org manual, "Repeated tasks").
 #[derive(Clone, Copy)]
 pub enum Mark {

@@ -4,7 +4,6 @@
 
 mod calendar;
 mod durations;
-mod fault;
 mod inside;
 mod kind;
 pub mod laws;
@@ -15,6 +14,5 @@ mod steps;
 mod text;
 
 pub use durations::duration;
-pub use fault::RepeatFault;
 pub use moment::Moment;
 pub use stamp::Stamp;

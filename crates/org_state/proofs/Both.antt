@@ -18,12 +18,12 @@ use Rattle.org_outline.proofs.Rewriting.{count-rewritten, others-rewritten}
 use Rattle.org_meta.specs.Edits.{Rewrites}
 use Rattle.org_meta.specs.Sections.{split, joined}
 use Rattle.org_meta.specs.Clocking.{opened}
-use Rattle.org_state.specs.declared.fault.StateFault.{StateFault}
+use Rattle.org_fault.specs.declared.refusal.Refusal.{Refusal}
 use Rattle.org_state.specs.Edits.{section_start, moved, EditsSection}
-use Rattle.org_state.specs.declared.fault.StateFault.TheVariants.{NotFound, NotUnique, UnknownState, OddPlanning, BadRepeat, DateRange, ClockBackwards, OutOfMemory}
+use Rattle.org_fault.specs.declared.fault.Fault.{Fault}
+use Rattle.org_fault.specs.declared.fault.Fault.TheVariants.{OutOfMemory, Refused}
 use Rattle.org_state.specs.Answers.{Makes}
 use Rattle.org_state.specs.Clock.{with_section_at, opened_section, with_opened, with_closed, switched, ClosesSection, AnswersSwitch}
-use Rattle.org_state.specs.Todo.{fault_of_meta}
 use Rattle.org_state.proofs.Steps.{prints}
 use Rattle.org_state.proofs.Switching.{section_made_in}
 
@@ -123,26 +123,20 @@ not_same i from other = elim (cases_Bool (eqb i from)) [ inl e ↦ absurd (other
 pub switched_none : (now : Moment) (from : ℕ) (d : Document) (i : ℕ) → i ≡ from → switched now from d i ≡ Ok None
 switched_none now from d i same = let yes : eqb i from ≡ true = grind (arith, nat_tests) in rw yes refl
 
-switched_by : (now : Moment) (from : ℕ) (d : Document) (i : ℕ) (r : Result Document StateFault) → i ≢ from → with_closed now from d ≡ r
-    → switched now from d i ≡ result_map_both (λ terminated. Some (with_opened now i terminated)) (λ fault. fault) r
-switched_by now from d i r other is = rw (not_same i from other) (ap (result_map_both (λ terminated. Some (with_opened now i terminated)) (λ fault. fault)) is)
+switched_by : (now : Moment) (from : ℕ) (d : Document) (i : ℕ) (r : Result Document Refusal) → i ≢ from → with_closed now from d ≡ r
+    → switched now from d i ≡ result_map_both (λ terminated. Some (with_opened now i terminated)) (λ why. why) r
+switched_by now from d i r other is = rw (not_same i from other) (ap (result_map_both (λ terminated. Some (with_opened now i terminated)) (λ why. why)) is)
 
-pub switch_refused : (now : Moment) (t u : List ℕ) (from i : ℕ) (fault : StateFault) → u ≡ t → i ≢ from → ClosesSection now (tree u) from (Err fault) → AnswersSwitch now t from i (Err fault)
+pub switch_refused : (now : Moment) (t u : List ℕ) (from i : ℕ) (fault : Fault Refusal) → u ≡ t → i ≢ from → ClosesSection now (tree u) from (Err fault) → AnswersSwitch now t from i (Err fault)
 switch_refused now t u from i fault text other a = by_fault fault (subst (λ (u : List ℕ). ClosesSection now (tree u) from (Err fault)) text a)
   where
-    by_fault : (fault : StateFault) → ClosesSection now (tree t) from (Err fault) → AnswersSwitch now t from i (Err fault)
-    by_fault NotFound a = switched_by now from (tree t) i (Err NotFound) other a
-    by_fault NotUnique a = switched_by now from (tree t) i (Err NotUnique) other a
-    by_fault UnknownState a = switched_by now from (tree t) i (Err UnknownState) other a
-    by_fault OddPlanning a = switched_by now from (tree t) i (Err OddPlanning) other a
-    by_fault BadRepeat a = switched_by now from (tree t) i (Err BadRepeat) other a
-    by_fault DateRange a = switched_by now from (tree t) i (Err DateRange) other a
-    by_fault ClockBackwards a = switched_by now from (tree t) i (Err ClockBackwards) other a
+    by_fault : (fault : Fault Refusal) → ClosesSection now (tree t) from (Err fault) → AnswersSwitch now t from i (Err fault)
+    by_fault (Refused why) a = switched_by now from (tree t) i (Err why) other (ap (result_map_both (with_section_at from (tree t)) (λ why. why)) a)
     by_fault OutOfMemory a =
-        (with_opened now i (with_section_at from (tree t) a.0), switched_by now from (tree t) i (Ok (with_section_at from (tree t) a.0)) other (ap (result_map_both (with_section_at from (tree t)) fault_of_meta) a.1))
+        (with_opened now i (with_section_at from (tree t) a.0), switched_by now from (tree t) i (Ok (with_section_at from (tree t) a.0)) other (ap (result_map_both (with_section_at from (tree t)) (λ why. why)) a.1))
 
--- memory was refused once the clock that runs can be closed
-pub switch_starved : (now : Moment) (t u : List ℕ) (from i : ℕ) (closing : Edit) (fault : StateFault) → u ≡ t → i ≢ from → ClosesSection now (tree u) from (Ok closing) → fault ≡ OutOfMemory → AnswersSwitch now t from i (Err fault)
+-- there was no memory once the clock that runs can be closed
+pub switch_starved : (now : Moment) (t u : List ℕ) (from i : ℕ) (closing : Edit) (fault : Fault Refusal) → u ≡ t → i ≢ from → ClosesSection now (tree u) from (Ok closing) → fault ≡ OutOfMemory → AnswersSwitch now t from i (Err fault)
 switch_starved now t u from i closing fault text other closes memory =
     let can = subst (λ (u : List ℕ). ClosesSection now (tree u) from (Ok closing)) text closes in
     rw memory (switch_refused now t t from i OutOfMemory refl other (can.0, can.1))
@@ -201,7 +195,7 @@ switch_made t u i from now opening closing items text stays_terminated lt there 
     let c = subst (λ (u : List ℕ). ClosesSection now (tree u) from (Ok closing)) text closes in
     let final : Document = with_opened now i (with_section_at from d c.0) in
     let is : switched now from d i ≡ Ok (Some final) =
-    switched_by now from d i (Ok (with_section_at from d c.0)) other (ap (result_map_both (with_section_at from d) fault_of_meta) c.1) in (
+    switched_by now from d i (Ok (with_section_at from d c.0)) other (ap (result_map_both (with_section_at from d) (λ why. why)) c.1) in (
       Some final,
       is,
       elim order [

@@ -10,8 +10,8 @@ use Rattle.org_outline.specs.declared.paths.PathFault.TheVariants as path
 use Rattle.org_outline.specs.declared.steps.Step.{Step}
 use Rattle.org_outline.specs.States.{Keywords}
 use Rattle.org_outline.specs.Tree.{print, tree}
-use Rattle.org_state.specs.declared.fault.StateFault.{StateFault}
-use Rattle.org_state.specs.declared.fault.StateFault.TheVariants.{NotUnique, ClockBackwards}
+use Rattle.org_fault.specs.declared.refusal.Refusal.{Refusal}
+use Rattle.org_fault.specs.declared.refusal.Refusal.TheVariants.{NotUnique, ClockBackwards}
 use Rattle.org_state.specs.Clock.{running_in, with_opened, with_closed, switched, switched_at, clocked_minutes, clocked_at}
 
 -- a line of these characters
@@ -56,12 +56,12 @@ half_past_eleven = at_minute (civil_day 2026 7 1) 690
 abbrev opened_text : Moment → ℕ → List ℕ → List ℕ
 opened_text now i text = print (with_opened now i (tree text))
 
-abbrev closed_text : Moment → ℕ → List ℕ → Result (List ℕ) StateFault
-closed_text now i text = result_map_both print (λ fault. fault) (with_closed now i (tree text))
+abbrev closed_text : Moment → ℕ → List ℕ → Result (List ℕ) Refusal
+closed_text now i text = result_map_both print (λ why. why) (with_closed now i (tree text))
 
 -- clocked in at heading i where a clock runs at heading `from`
-abbrev switched_text : Moment → ℕ → ℕ → List ℕ → Result (Option (List ℕ)) StateFault
-switched_text now from i text = result_map_both (option_map print) (λ fault. fault) (switched now from (tree text) i)
+abbrev switched_text : Moment → ℕ → ℕ → List ℕ → Result (Option (List ℕ)) Refusal
+switched_text now from i text = result_map_both (option_map print) (λ why. why) (switched now from (tree text) i)
 
 -- ---- in, and out
 

@@ -16,14 +16,13 @@ use Rattle.org_outline.proofs.Rewriting.{node-rewritten}
 use Rattle.org_outline.proofs.Sections.{valid_node}
 use Rattle.org_outline.proofs.Trees.{tree-is}
 use Rattle.org_outline.proofs.Valid.{tree-print}
-use Rattle.org_meta.specs.declared.fault.MetaFault.{MetaFault}
+use Rattle.org_fault.specs.declared.refusal.Refusal.{Refusal}
 use Rattle.org_meta.specs.Clocks.{is_open, minutes_in}
 use Rattle.org_meta.specs.Clocking.{clock_line, closed_line, minutes_run}
 use Rattle.org_meta.proofs.ClosedClocks.{NoStar, opened_is_line, closed_is_line, closed_begins, closed_says, open_says, not_run}
 use Rattle.org_meta.proofs.Flat.{tested}
 use Rattle.org_meta.proofs.Keeping.{keeps_opened}
 use Rattle.org_state.specs.Clock.{runs_at, running_heading, with_section_at, opened_section, with_opened, closed_first, with_closed, switched, clocked_minutes}
-use Rattle.org_state.specs.Todo.{fault_of_meta}
 use Rattle.org_state.specs.Open.{open_clocks}
 use Rattle.org_state.proofs.Opens.{map_ok, switched_by, closed_count, clock_runs, first_line}
 
@@ -47,10 +46,10 @@ first_plain now [] new e all = let same : [] ≡ new = cc in subst (AllByRecursi
 first_plain now (l ∷ ls) new e all =
     elim (cases_Bool (is_open l)) [
       | inl runs ↦
-          let c = map_ok (λ closed. closed ∷ ls) (λ (fault : MetaFault). fault) (closed_line now l) new (rw runs at e) in
+          let c = map_ok (λ closed. closed ∷ ls) (λ (why : Refusal). why) (closed_line now l) new (rw runs at e) in
           subst (AllByRecursion IsPlain) c.2 (closed_plain now l c.0 c.1 all.0, all.1)
       | inr other ↦
-          let more = map_ok (λ more. l ∷ more) (λ (fault : MetaFault). fault) (closed_first now ls) new (rw other at e) in
+          let more = map_ok (λ more. l ∷ more) (λ (why : Refusal). why) (closed_first now ls) new (rw other at e) in
           subst (AllByRecursion IsPlain) more.2 (all.0, first_plain now ls more.0 more.1 all.1)
     ]
 
@@ -66,7 +65,7 @@ opened_valid now i d lt valid =
 
 pub closed_valid : (now : Moment) (i : ℕ) (d new : Document) → i < node_count d → with_closed now i d ≡ Ok new → IsValid d → IsValid new
 closed_valid now i d new lt e valid =
-    let c = map_ok (with_section_at i d) fault_of_meta (closed_first now (node_at d i).node.section) new e in
+    let c = map_ok (with_section_at i d) (λ (why : Refusal). why) (closed_first now (node_at d i).node.section) new e in
     subst IsValid c.2 (section_valid i d c.0 lt valid (first_plain now (node_at d i).node.section c.0 c.1))
 
 pub switched_valid : (now : Moment) (from i : ℕ) (d new : Document) → from < node_count d → i < node_count d → switched now from d i ≡ Ok (Some new) → IsValid d → IsValid new
@@ -100,12 +99,12 @@ first_counts now [] new line more minutes day minute opens run e = absurd cc
 first_counts now (l ∷ ls) new line more minutes day minute opens run e =
     elim (cases_Bool (is_open l)) [
       | inl runs ↦
-          let c = map_ok (λ closed. closed ∷ ls) (λ (fault : MetaFault). fault) (closed_line now l) new (rw runs at e) in
+          let c = map_ok (λ closed. closed ∷ ls) (λ (why : Refusal). why) (closed_line now l) new (rw runs at e) in
           let same : l ≡ line = (let both : l ∷ filter is_open ls ≡ line ∷ more = sym (line_opens l ls runs) ∙ opens in cc) in
           let says : minutes_in c.0 ≡ minutes = closed_says now l c.0 minutes day minute (ap (minutes_run now) same ∙ run) c.1 in
           ap (sum_by minutes_in) (sym c.2) ∙ sum_by-cons minutes_in c.0 ls ∙ omega (arith, says, open_says l runs, sum_by-cons minutes_in l ls)
       | inr other ↦
-          let later = map_ok (λ more. l ∷ more) (λ (fault : MetaFault). fault) (closed_first now ls) new (rw other at e) in
+          let later = map_ok (λ more. l ∷ more) (λ (why : Refusal). why) (closed_first now ls) new (rw other at e) in
           let rest = first_counts now ls later.0 line more minutes day minute (sym (line_closes l ls other) ∙ opens) run later.1 in
           ap (sum_by minutes_in) (sym later.2) ∙ sum_by-cons minutes_in l later.0 ∙ omega (arith, rest, sum_by-cons minutes_in l ls)
     ]
@@ -119,7 +118,7 @@ closing_adds now i line more minutes d new day minute opens run e =
     let weight : Node → ℕ = weigh_node (λ rest section. sum_by minutes_in section) in
     let runs : running_heading d ≡ Some i = clock_runs i line more d opens in
     let lt : i < node_count d = (position-Some runs_at (nodes d) i no_node runs).0 in
-    let c = map_ok (with_section_at i d) fault_of_meta (closed_first now own.section) new e in
+    let c = map_ok (with_section_at i d) (λ (why : Refusal). why) (closed_first now own.section) new e in
     let first = first_line 0 i i (nodes d) line more runs opens in
     let counts : sum_by minutes_in c.0 ≡ sum_by minutes_in own.section + minutes = first_counts now own.section c.0 line first.0 minutes day minute first.1 run c.1 in
     let there : (node_at new i).node ≡ record own { section = c.0 } = ap (λ d. (node_at d i).node) (sym c.2) ∙ (node-rewritten i own.rest c.0 d lt).1 in

@@ -8,30 +8,30 @@ use Rattle.org_outline.specs.Tree.{Document}
 use Rattle.org_meta.specs.Planning.{PlanningLine}
 use Rattle.org_meta.specs.Sections.{split}
 use Rattle.org_meta.proofs.Computed.{entries_computed}
-use Rattle.org_state.specs.declared.fault.StateFault.{StateFault}
+use Rattle.org_fault.specs.declared.refusal.Refusal.{Refusal}
 use Rattle.org_state.specs.Keyword.{keyword_in}
 use Rattle.org_state.specs.Todo.{Own, changed, first_active, repeating, repeated_parts, TurnsDone, Turns, is_done, own_at, with_own_at, heading_to_change, IsTodoAt, IsTodo, turned_done, turned, todo_at, todo}
 
 module _ (states : Keywords) (state : List ℕ) (now : Moment) where
-  done_computed : (own : Own) (o : Option PlanningLine) (r : Result Own StateFault) → TurnsDone states state now own o r → turned_done states state now own o ≡ r
+  done_computed : (own : Own) (o : Option PlanningLine) (r : Result Own Refusal) → TurnsDone states state now own o r → turned_done states state now own o ≡ r
   done_computed own None r is = sym is
   done_computed own (Some p) r (text, are, is) =
-      ap (λ t. changed states (first_active states) own (result_map_both (repeated_parts state (keyword_in states own.rest) now p (split own.section)) (λ fault. fault) t))
+      ap (λ t. changed states (first_active states) own (result_map_both (repeated_parts state (keyword_in states own.rest) now p (split own.section)) (λ why. why) t))
       (entries_computed now p.entries text are) ∙ sym is
 
-  turn_computed : (was is : Bool) (own : Own) (r : Result Own StateFault) → Turns was is states state now own r → turned was is states state now own ≡ r
+  turn_computed : (was is : Bool) (own : Own) (r : Result Own Refusal) → Turns was is states state now own r → turned was is states state now own ≡ r
   turn_computed true false own r turns = sym turns
   turn_computed false true own r turns = done_computed own (repeating (split own.section).planning) r turns
   turn_computed true true own r turns = sym turns
   turn_computed false false own r turns = sym turns
 
-  at_computed : (d : Document) (heading : Result (Option ℕ) StateFault) (r : Result (Option Document) StateFault) → IsTodoAt states state now d heading r → todo_at states state now d heading ≡ r
+  at_computed : (d : Document) (heading : Result (Option ℕ) Refusal) (r : Result (Option Document) Refusal) → IsTodoAt states state now d heading r → todo_at states state now d heading ≡ r
   at_computed d (Err fault) r is = sym is
   at_computed d (Ok None) r is = sym is
   at_computed d (Ok (Some i)) r (own, changes, is) =
-      ap (result_map_both (λ own. Some (with_own_at i d own)) (λ fault. fault))
+      ap (result_map_both (λ own. Some (with_own_at i d own)) (λ why. why))
       (turn_computed (is_done states (keyword_in states (own_at d i).rest)) (is_done states state) (own_at d i) own changes) ∙ sym is
 
-pub todo_computed : (states : Keywords) (path : List Step) (state : List ℕ) (now : Moment) (d : Document) (r : Result (Option Document) StateFault) → IsTodo states path state now d r
+pub todo_computed : (states : Keywords) (path : List Step) (state : List ℕ) (now : Moment) (d : Document) (r : Result (Option Document) Refusal) → IsTodo states path state now d r
     → todo states path state now d ≡ r
 todo_computed states path state now d r is = at_computed states state now d (heading_to_change states path state d) r is

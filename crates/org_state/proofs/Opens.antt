@@ -11,15 +11,13 @@ use Rattle.std.proofs.lemmas.List.Quantifiers.{position-Some}
 use Rattle.org_stamp.specs.Calendar.{Moment, IsDay}
 use Rattle.org_outline.specs.Tree.{Document, Placed, nodes, node_at, node_count, no_node}
 use Rattle.org_outline.proofs.Rewriting.{count-rewritten, node-rewritten}
-use Rattle.org_meta.specs.declared.fault.MetaFault.{MetaFault}
+use Rattle.org_fault.specs.declared.refusal.Refusal.{Refusal}
 use Rattle.org_meta.specs.Clocks.{is_open, line_span}
 use Rattle.org_meta.specs.Clocking.{clock_line, closed_line, is_logbook, in_logbook, logged, opened}
 use Rattle.org_meta.specs.Sections.{is_end, split, joined}
 use Rattle.org_meta.proofs.ClosedClocks.{opened_is_open, closed_is_not_open}
 use Rattle.org_meta.proofs.Puts.{joined_split}
-use Rattle.org_state.specs.declared.fault.StateFault.{StateFault}
 use Rattle.org_state.specs.Clock.{runs_at, running_heading, with_section_at, opened_section, with_opened, closed_first, with_closed, switched}
-use Rattle.org_state.specs.Todo.{fault_of_meta}
 use Rattle.org_state.specs.Open.{clocks_from, open_clocks}
 use Rattle.org_state.proofs.Both.{own_section}
 use Rattle.org_state.proofs.Searches.{position_here, position_later}
@@ -278,11 +276,11 @@ section_loses now [] new e = let same : [] ≡ new = cc in ap (λ (ls : List (Li
 section_loses now (l ∷ ls) new e =
     elim (cases_Bool (is_open l)) [
       | inl runs ↦
-          let c = map_ok (λ closed. closed ∷ ls) (λ (fault : MetaFault). fault) (closed_line now l) new (rw runs at e) in
+          let c = map_ok (λ closed. closed ∷ ls) (λ (why : Refusal). why) (closed_line now l) new (rw runs at e) in
           ap (λ (ls : List (List ℕ)). filter is_open ls) (sym c.2) ∙ line_closes c.0 ls (closed_is_not_open now l c.0 c.1)
           ∙ ap (λ (t : List (List ℕ)). drop 1 t) (sym (line_opens l ls runs))
       | inr other ↦
-          let more = map_ok (λ more. l ∷ more) (λ (fault : MetaFault). fault) (closed_first now ls) new (rw other at e) in
+          let more = map_ok (λ more. l ∷ more) (λ (why : Refusal). why) (closed_first now ls) new (rw other at e) in
           ap (λ (ls : List (List ℕ)). filter is_open ls) (sym more.2) ∙ line_closes l more.0 other ∙ section_loses now ls more.0 more.1
           ∙ ap (λ (t : List (List ℕ)). drop 1 t) (sym (line_closes l ls other))
     ]
@@ -304,7 +302,7 @@ opened_adds now i d day minute lt =
 
 pub closed_loses : (now : Moment) (i : ℕ) (d new : Document) → running_heading d ≡ Some i → with_closed now i d ≡ Ok new → open_clocks new ≡ drop 1 (open_clocks d)
 closed_loses now i d new runs e =
-    let c = map_ok (with_section_at i d) fault_of_meta (closed_first now (node_at d i).node.section) new e in
+    let c = map_ok (with_section_at i d) (λ (why : Refusal). why) (closed_first now (node_at d i).node.section) new e in
     let rest : List ℕ = (node_at d i).node.rest in
     let lt : i < node_count d = (position-Some runs_at (nodes d) i no_node runs).0 in
     let less : filter is_open (node_at (with_section_at i d c.0) i).node.section ≡ drop 1 (filter is_open (node_at d i).node.section) =
@@ -323,13 +321,13 @@ switched_by now from i d new e =
     elim (cases_Bool (eqb i from)) [
       | inl same ↦ absurd (let none = rw same at e in cc)
       | inr other ↦
-          let c = map_ok (λ closed. Some (with_opened now i closed)) (λ (fault : StateFault). fault) (with_closed now from d) (Some new) (rw other at e) in
+          let c = map_ok (λ closed. Some (with_opened now i closed)) (λ (why : Refusal). why) (with_closed now from d) (Some new) (rw other at e) in
           record { middle = c.0; closed = c.1; opened = let both : Some (with_opened now i c.0) ≡ Some new = c.2 in cc }
     ]
 
 pub closed_count : (now : Moment) (i : ℕ) (d new : Document) → with_closed now i d ≡ Ok new → node_count new ≡ node_count d
 closed_count now i d new e =
-    let c = map_ok (with_section_at i d) fault_of_meta (closed_first now (node_at d i).node.section) new e in
+    let c = map_ok (with_section_at i d) (λ (why : Refusal). why) (closed_first now (node_at d i).node.section) new e in
     ap node_count (sym c.2) ∙ count-rewritten i (node_at d i).node.rest c.0 d
 
 -- the first open clock runs

@@ -5,10 +5,8 @@ use Rattle.org_stamp.specs.Calendar.{Moment, civil_day, at_minute}
 use Rattle.org_outline.specs.declared.steps.Step.{Step}
 use Rattle.org_outline.specs.States.{Keywords}
 use Rattle.org_outline.specs.Tree.{Document, tree}
-use Rattle.org_meta.specs.declared.fault.MetaFault.TheVariants as meta
-use Rattle.org_stamp.specs.declared.fault.RepeatFault.TheVariants as repeat
-use Rattle.org_state.specs.declared.fault.StateFault.{StateFault}
-use Rattle.org_state.specs.declared.fault.StateFault.TheVariants.{NotFound, NotUnique, UnknownState, OddPlanning, BadRepeat, DateRange}
+use Rattle.org_fault.specs.declared.refusal.Refusal.{Refusal}
+use Rattle.org_fault.specs.declared.refusal.Refusal.TheVariants.{NotFound, NotUnique, UnknownState, OddPlanning, BadRepeat, DateRange}
 use Rattle.org_state.specs.Keyword.{with_keyword}
 use Rattle.org_state.specs.Todo.{IsTodo}
 
@@ -27,7 +25,7 @@ abbrev only : List ℕ → Step
 only title = record { title = title; number = None }
 
 -- what putting the heading A into a state makes of a text
-abbrev Todo : List ℕ → List ℕ → Result (Option Document) StateFault → Type 0
+abbrev Todo : List ℕ → List ℕ → Result (Option Document) Refusal → Type 0
 Todo state text r = IsTodo states (only (codes "A") ∷ []) state now (tree text) r
 
 -- ---- the keyword
@@ -96,8 +94,8 @@ not_unique = refl
 -- hours need a time
 bad_repeat : Todo (codes "DONE") (line (codes "* TODO A") ++ line (codes "SCHEDULED: <2026-01-05 Mon +1h>")) (Err BadRepeat)
 unfolding states now
-bad_repeat = (Err BadRepeat, (Err meta.BadRepeat, (Err meta.BadRepeat, (Err repeat.BadRepeat, refl, refl), refl), refl), refl)
+bad_repeat = (Err BadRepeat, (Err BadRepeat, (Err BadRepeat, (Err BadRepeat, refl, refl), refl), refl), refl)
 
 past_9999 : Todo (codes "DONE") (line (codes "* TODO A") ++ line (codes "SCHEDULED: <9999-06-01 +1y>")) (Err DateRange)
 unfolding states now
-past_9999 = (Err DateRange, (Err meta.DateRange, (Err meta.DateRange, (Err repeat.DateRange, refl, refl), refl), refl), refl)
+past_9999 = (Err DateRange, (Err DateRange, (Err DateRange, (Err DateRange, refl, refl), refl), refl), refl)

@@ -19,18 +19,16 @@ use Rattle.org_outline.specs.Text.{heading_line}
 use Rattle.org_outline.specs.Tree.{Document, Node, print, tree, nodes, node_at, node_count, no_node}
 use Rattle.org_outline.proofs.Changes.{own_lines_local}
 use Rattle.org_outline.proofs.Rewriting.{same-rewritten}
-use Rattle.org_meta.specs.declared.fault.MetaFault.{MetaFault}
-use Rattle.org_meta.specs.declared.fault.MetaFault.TheVariants as meta
+use Rattle.org_fault.specs.declared.refusal.Refusal.{Refusal}
+use Rattle.org_fault.specs.declared.fault.Fault.{Fault}
+use Rattle.org_fault.specs.declared.fault.Fault.TheVariants.{OutOfMemory, Refused}
 use Rattle.org_meta.specs.Clocks.{is_open, open_line, line_span, IsOpenAt, HasOpenAt}
 use Rattle.org_meta.specs.Clocking.{opened, closed_line, Closes, ClosesNot}
 use Rattle.org_meta.specs.Edits.{Rewrites, RewritesParts}
 use Rattle.org_meta.specs.Sections.{split, joined, parts_of}
 use Rattle.org_state.specs.declared.run.Running.{Running}
-use Rattle.org_state.specs.declared.fault.StateFault.{StateFault}
-use Rattle.org_state.specs.declared.fault.StateFault.TheVariants.{NotFound, NotUnique, UnknownState, OddPlanning, BadRepeat, DateRange, ClockBackwards, OutOfMemory}
 use Rattle.org_state.specs.Edits.{section_start, moved, EditsSection}
 use Rattle.org_state.specs.Clock.{runs_at, running_heading, span_from, running_at, running_in, with_section_at, opened_section, closed_first, AnswersClosing, ClosesSection}
-use Rattle.org_state.specs.Todo.{fault_of_meta}
 use Rattle.org_state.proofs.Steps.{prints, section_step, section_is_lines}
 use Rattle.org_state.proofs.Searches.{position_here, position_later}
 
@@ -72,19 +70,19 @@ pub record FirstOpen (section : List (List ℕ)) (span : Span) : Type 0 where
   pub end : span.end ≡ length (print_lines before) + length line + 1
   pub runs : is_open line ≡ true
   pub closes : (now : Moment) (terminated : List ℕ) → closed_line now line ≡ Ok terminated → closed_first now section ≡ Ok (before ++ (terminated ∷ after))
-  pub refuses : (now : Moment) (fault : MetaFault) → closed_line now line ≡ Err fault → closed_first now section ≡ Err fault
+  pub refuses : (now : Moment) (why : Refusal) → closed_line now line ≡ Err why → closed_first now section ≡ Err why
 
 map_some : {A B : Type 0} (f : A → B) (o : Option A) (y : B) → option_map f o ≡ Some y → (x : A) × (o ≡ Some x) × (f x ≡ y)
 map_some f None y e = absurd cc
 map_some f (Some x) y e = (x, refl, cc)
 
-first_closes : (now : Moment) (l : List ℕ) (ls : List (List ℕ)) (r : Result (List ℕ) MetaFault) → is_open l ≡ true → closed_line now l ≡ r
-    → closed_first now (l ∷ ls) ≡ result_map_both (λ terminated. terminated ∷ ls) (λ fault. fault) r
-first_closes now l ls r runs is = rw runs (ap (result_map_both (λ terminated. terminated ∷ ls) (λ fault. fault)) is)
+first_closes : (now : Moment) (l : List ℕ) (ls : List (List ℕ)) (r : Result (List ℕ) Refusal) → is_open l ≡ true → closed_line now l ≡ r
+    → closed_first now (l ∷ ls) ≡ result_map_both (λ terminated. terminated ∷ ls) (λ why. why) r
+first_closes now l ls r runs is = rw runs (ap (result_map_both (λ terminated. terminated ∷ ls) (λ why. why)) is)
 
-later_closes : (now : Moment) (l : List ℕ) (ls : List (List ℕ)) (r : Result (List (List ℕ)) MetaFault) → is_open l ≡ false → closed_first now ls ≡ r
-    → closed_first now (l ∷ ls) ≡ result_map_both (λ more. l ∷ more) (λ fault. fault) r
-later_closes now l ls r other is = rw other (ap (result_map_both (λ more. l ∷ more) (λ fault. fault)) is)
+later_closes : (now : Moment) (l : List ℕ) (ls : List (List ℕ)) (r : Result (List (List ℕ)) Refusal) → is_open l ≡ false → closed_first now ls ≡ r
+    → closed_first now (l ∷ ls) ≡ result_map_both (λ more. l ∷ more) (λ why. why) r
+later_closes now l ls r other is = rw other (ap (result_map_both (λ more. l ∷ more) (λ why. why)) is)
 
 open_here : (l : List ℕ) (ls : List (List ℕ)) (span : Span) → is_open l ≡ true → open_line (l ∷ ls) ≡ Some span → FirstOpen (l ∷ ls) span
 open_here l ls span runs e =
@@ -243,7 +241,7 @@ module _ (t : List ℕ) (r : Running) (s : Stands t r) where
             ∙ sym (print_lines-append s.first.before (new ∷ s.first.after));
       }
 
-  ok_line : (e : Edit) (q : Result (List ℕ) MetaFault) → MatchResult q (λ terminated. Rewrites e (part t r.line) (terminated ∷ [])) (λ fault. ⊥)
+  ok_line : (e : Edit) (q : Result (List ℕ) Refusal) → MatchResult q (λ terminated. Rewrites e (part t r.line) (terminated ∷ [])) (λ fault. ⊥)
       → (terminated : List ℕ) × (q ≡ Ok terminated) × Rewrites e (part t r.line) (terminated ∷ [])
   ok_line e (Ok new) g = (new, refl, g)
   ok_line e (Err fault) g = absurd g
@@ -266,25 +264,15 @@ module _ (t : List ℕ) (r : Running) (s : Stands t r) where
   pub closing_in : (e2 : Edit) (new : List (List ℕ)) → terminated t ≡ t → EditsSection e2 (tree t) r.heading new → e2.at + e2.removed ≤ length t
   closing_in e2 new stays_terminated edits = (section_made t r.heading e2 new stays_terminated s.heading edits).0
 
-  pub closing_refused : (now : Moment) (fault : MetaFault) → ClosesNot now (part t r.line) (record { start = 0; end = length (part t r.line) }) fault
-      → ClosesSection now (tree t) r.heading (Err (fault_of_meta fault))
-  closing_refused now meta.ClockBackwards why =
-      ap (result_map_both (with_section_at r.heading (tree t)) fault_of_meta) (s.first.refuses now meta.ClockBackwards (why [] s.first.line [] line_alone))
-  closing_refused now meta.OddPlanning why = absurd (why [] s.first.line [] line_alone)
-  closing_refused now meta.BadRepeat why = absurd (why [] s.first.line [] line_alone)
-  closing_refused now meta.DateRange why = absurd (why [] s.first.line [] line_alone)
-  closing_refused now meta.OutOfMemory why =
-      let can = why [] s.first.line [] line_alone in (s.first.before ++ (can.0 ∷ s.first.after), s.first.closes now can.0 can.1)
+  pub closing_refused : (now : Moment) (fault : Fault Refusal) → ClosesNot now (part t r.line) (record { start = 0; end = length (part t r.line) }) fault
+      → ClosesSection now (tree t) r.heading (Err fault)
+  closing_refused now (Refused why) not = s.first.refuses now why (not [] s.first.line [] line_alone)
+  closing_refused now OutOfMemory not =
+      let can = not [] s.first.line [] line_alone in (s.first.before ++ (can.0 ∷ s.first.after), s.first.closes now can.0 can.1)
 
-  pub closing_answers : (now : Moment) (result : Result Edit StateFault) → terminated t ≡ t → ClosesSection now (tree t) r.heading result → AnswersClosing now t r.heading result
+  pub closing_answers : (now : Moment) (result : Result Edit (Fault Refusal)) → terminated t ≡ t → ClosesSection now (tree t) r.heading result → AnswersClosing now t r.heading result
   closing_answers now (Ok e) stays_terminated a =
       let d : Document = tree t in
-      (with_section_at r.heading d a.0, ap (result_map_both (with_section_at r.heading d) fault_of_meta) a.1, section_made t r.heading e a.0 stays_terminated s.heading a.2)
-  closing_answers now (Err NotFound) stays_terminated a = a
-  closing_answers now (Err NotUnique) stays_terminated a = a
-  closing_answers now (Err UnknownState) stays_terminated a = a
-  closing_answers now (Err OddPlanning) stays_terminated a = a
-  closing_answers now (Err BadRepeat) stays_terminated a = a
-  closing_answers now (Err DateRange) stays_terminated a = a
-  closing_answers now (Err ClockBackwards) stays_terminated a = a
-  closing_answers now (Err OutOfMemory) stays_terminated a = (with_section_at r.heading (tree t) a.0, ap (result_map_both (with_section_at r.heading (tree t)) fault_of_meta) a.1)
+      (with_section_at r.heading d a.0, ap (result_map_both (with_section_at r.heading d) (λ why. why)) a.1, section_made t r.heading e a.0 stays_terminated s.heading a.2)
+  closing_answers now (Err (Refused why)) stays_terminated a = ap (result_map_both (with_section_at r.heading (tree t)) (λ why. why)) a
+  closing_answers now (Err OutOfMemory) stays_terminated a = (with_section_at r.heading (tree t) a.0, ap (result_map_both (with_section_at r.heading (tree t)) (λ why. why)) a.1)

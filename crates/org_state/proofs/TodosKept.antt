@@ -23,7 +23,7 @@ use Rattle.org_outline.proofs.Sections.{valid_node}
 use Rattle.org_outline.proofs.Splitting.{keyword_front, state_word}
 use Rattle.org_outline.proofs.Trees.{tree-is}
 use Rattle.org_outline.proofs.Valid.{tree-print}
-use Rattle.org_meta.specs.declared.fault.MetaFault.{MetaFault}
+use Rattle.org_fault.specs.declared.refusal.Refusal.{Refusal}
 use Rattle.org_meta.specs.Moments.{moment_text}
 use Rattle.org_meta.specs.Planning.{PlanningLine, clear_closed, has_repeater, planning_of, repeated_entries, set_closed}
 use Rattle.org_meta.specs.Sections.{SectionParts, joined, property_line, split}
@@ -32,10 +32,9 @@ use Rattle.org_meta.proofs.ClosedClocks.{moment_line}
 use Rattle.org_meta.proofs.Flat.{Flat, both_lines, empty_line, tested, with_first_byte}
 use Rattle.org_meta.proofs.Keeping.{All-drawer, AllParts, all_joined, all_split}
 use Rattle.org_meta.proofs.PlannedLines.{SectionLine, cleared_parts, closed_parts, front_line, note_is_line, property_is_line, repeated_is_line, tested_line}
-use Rattle.org_state.specs.declared.fault.StateFault.{StateFault}
-use Rattle.org_state.specs.declared.fault.StateFault.TheVariants.{UnknownState}
+use Rattle.org_fault.specs.declared.refusal.Refusal.TheVariants.{UnknownState}
 use Rattle.org_state.specs.Keyword.{is_state, keyword_in, with_keyword, with_word}
-use Rattle.org_state.specs.Todo.{Own, changed, fault_of_meta, first_active, heading_asked, heading_to_change, if_repeating, in_state, is_done, own_at, repeated_parts, repeating, todo, todo_at, turned, turned_done, with_lines, with_own_at}
+use Rattle.org_state.specs.Todo.{Own, changed, first_active, heading_asked, heading_to_change, if_repeating, in_state, is_done, own_at, repeated_parts, repeating, todo, todo_at, turned, turned_done, with_lines, with_own_at}
 use Rattle.org_state.proofs.ClocksKept.{no_star}
 use Rattle.org_state.proofs.Opens.{map_ok}
 
@@ -118,10 +117,10 @@ lines_kept : (states : Keywords) (word : List ℕ) (own : Own) (section : List (
 lines_kept states word own section is o plain =
     record { space = with_keyword_space states word own.rest o.space; rest = with_keyword_line states word own.rest is o.rest; section = plain }
 
-changed_kept : (states : Keywords) (word : List ℕ) (own new : Own) (parts : Result SectionParts MetaFault) → Flat word → IsOwn own → ((q : SectionParts) → parts ≡ Ok q → AllParts IsPlain q)
+changed_kept : (states : Keywords) (word : List ℕ) (own new : Own) (parts : Result SectionParts Refusal) → Flat word → IsOwn own → ((q : SectionParts) → parts ≡ Ok q → AllParts IsPlain q)
     → changed states word own parts ≡ Ok new → IsOwn new
 changed_kept states word own new parts is o each e =
-    let q = map_ok (λ parts. with_lines states word own (joined parts)) fault_of_meta parts new e in
+    let q = map_ok (λ parts. with_lines states word own (joined parts)) (λ (why : Refusal). why) parts new e in
     subst IsOwn q.2 (lines_kept states word own (joined q.0) is o (all_joined IsPlain q.0 (each q.0 q.1)))
 
 -- the first line of the planning, where it repeats
@@ -170,9 +169,9 @@ module _ (states : Keywords) (state : List ℕ) (now : Moment) (own new : Own) (
       let old : List ℕ = keyword_in states own.rest in
       let make : List ℕ → SectionParts = repeated_parts state old now p (split own.section) in
       let r = repeating_line (split own.section).planning p parts_plain.planning is in
-      changed_kept states (first_active states) own new (result_map_both make (λ (fault : MetaFault). fault) (repeated_entries now p.entries)) (first_active_line states are) o
+      changed_kept states (first_active states) own new (result_map_both make (λ (why : Refusal). why) (repeated_entries now p.entries)) (first_active_line states are) o
       (λ q made.
-      let text = map_ok make (λ (fault : MetaFault). fault) (repeated_entries now p.entries) q made in
+      let text = map_ok make (λ (why : Refusal). why) (repeated_entries now p.entries) q made in
       subst (AllParts IsPlain) text.2
       (repeated_kept state old now p (split own.section) text.0 (state_line states state are known) (keyword_line states own.rest o.rest) r text.1 parts_plain)) e
 
@@ -195,7 +194,7 @@ asked : (states : Keywords) (state : List ℕ) (d : Document) (i : ℕ) (found :
 asked states state d i (Err fault) e = absurd cc
 asked states state d i (Ok k) e = by_tests (is_state states state) (bytes_eq (keyword_in states (node_at d k).node.rest) state) refl e
   where
-    by_tests : (a b : Bool) → is_state states state ≡ a → ◌≡◌ {A = Result (Option ℕ) StateFault} (if a then (if b then Ok None else Ok (Some k)) else Err UnknownState) (Ok (Some i)) → Asked states state i (Ok k)
+    by_tests : (a b : Bool) → is_state states state ≡ a → ◌≡◌ {A = Result (Option ℕ) Refusal} (if a then (if b then Ok None else Ok (Some k)) else Err UnknownState) (Ok (Some i)) → Asked states state i (Ok k)
     by_tests true true known e = absurd cc
     by_tests true false known e = let same : k ≡ i = cc in record { found_is = ap (λ i. Ok i) same; known = known }
     by_tests false b known e = absurd cc
@@ -205,13 +204,13 @@ own_valid i d lt valid =
     let own : IsNode (node_at d i).node = valid_node d i valid lt in
     record { space = own.heading.space; rest = record { flat = own.heading.rest }; section = own.heading.section }
 
-at_heading : (states : Keywords) (path : List Step) (state : List ℕ) (now : Moment) (d new : Document) (asked_is : Result (Option ℕ) StateFault) → IsTrue (are_states states)
+at_heading : (states : Keywords) (path : List Step) (state : List ℕ) (now : Moment) (d new : Document) (asked_is : Result (Option ℕ) Refusal) → IsTrue (are_states states)
     → heading_to_change states path state d ≡ asked_is → todo_at states state now d asked_is ≡ Ok (Some new) → IsValid d → IsValid new
 at_heading states path state now d new (Err fault) are is e valid = absurd cc
 at_heading states path state now d new (Ok None) are is e valid = absurd cc
 at_heading states path state now d new (Ok (Some i)) are is e valid =
     let found = asked states state d i (find_path states d path) is in
-    let made = map_ok (λ own. Some (with_own_at i d own)) (λ (fault : StateFault). fault) (in_state states state now (own_at d i)) (Some new) e in
+    let made = map_ok (λ own. Some (with_own_at i d own)) (λ (why : Refusal). why) (in_state states state now (own_at d i)) (Some new) e in
     let same : with_own_at i d made.0 ≡ new = (let both : Some (with_own_at i d made.0) ≡ Some new = made.2 in cc) in
     let own = own_valid i d (found_in states d path i found.found_is) valid in
     let kept = turned_kept states state now (own_at d i) made.0 are found.known own (is_done states (keyword_in states (node_at d i).node.rest)) (is_done states state) made.1 in

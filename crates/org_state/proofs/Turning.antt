@@ -1,6 +1,6 @@
 -- What the edits of a change make is what is defined.
 use Rattle.std.proofs.Common.{◌≡◌, ℕ, ◌+◌, ◌<◌, ◌≤◌, Bool, true, false, true≢false, append_assoc, Option, Some, None, Ok, Err, List, [], ◌∷◌, ◌++◌, length, refl, sym, ap, subst, ◌∙◌, arith, codes, inl, inr}
-use Rattle.std.specs.Prelude.{◌≢◌, ◌⊎◌, IfOk, IfErr, Result, Vec}
+use Rattle.std.specs.Prelude.{◌≢◌, IfOk, IfErr, Result, Vec}
 use Rattle.std.specs.Result.{result_map_both}
 use Rattle.std.specs.Str.{bytes_eq}
 use Rattle.std.specs.Global.{Global}
@@ -15,62 +15,51 @@ use Rattle.org_outline.specs.declared.steps.Step.{Step}
 use Rattle.org_outline.specs.States.{Keywords}
 use Rattle.org_outline.specs.Paths.{find_path}
 use Rattle.org_outline.specs.Tree.{Document, print, tree, node_at, node_count}
-use Rattle.org_meta.specs.declared.fault.MetaFault.{MetaFault}
-use Rattle.org_meta.specs.declared.fault.MetaFault.TheVariants as meta
+use Rattle.org_fault.specs.declared.refusal.Refusal.{Refusal}
+use Rattle.org_fault.specs.declared.refusal.Refusal.TheVariants.{OddPlanning}
+use Rattle.org_fault.specs.declared.fault.Fault.{Fault}
+use Rattle.org_fault.specs.declared.fault.Fault.TheVariants.{OutOfMemory, Refused}
+use Rattle.org_fault.specs.Faults.{IfRefusal}
+use Rattle.org_fault.proofs.Faults.{refused_as, no_memory}
 use Rattle.org_meta.specs.Edits.{Rewrites, RewritesParts}
 use Rattle.org_meta.specs.Moments.{moment_text}
 use Rattle.org_meta.specs.Notes.{note_line, with_note}
 use Rattle.org_meta.specs.Planning.{PlanningLine, planning_of, has_repeater, AreRepeated, set_closed}
-use Rattle.org_meta.specs.Replans.{RewritesOk, FaultIn, HasNoRepeater, RewritesRepeated, RewritesRepeatedIn, FaultRepeated, repeated_line}
+use Rattle.org_meta.specs.Replans.{RewritesOk, HasNoRepeater, RewritesRepeated, RewritesRepeatedIn, IsRefusedRepeat, repeated_line}
 use Rattle.org_meta.specs.Sections.{SectionParts, split, joined, parts_of, put, planning_size}
 use Rattle.org_meta.proofs.Puts.{joined_split}
 use Rattle.org_meta.proofs.AllLines.{AllByRecursion-take}
 use Rattle.org_meta.proofs.Resplit.{split_planning, split_front}
-use Rattle.org_state.specs.declared.fault.StateFault.{StateFault}
-use Rattle.org_state.specs.declared.fault.StateFault.TheVariants.{NotFound, NotUnique, UnknownState, OddPlanning, BadRepeat, DateRange, ClockBackwards, OutOfMemory}
 use Rattle.org_state.specs.Keyword.{is_state, keyword_in, with_keyword}
 use Rattle.org_state.specs.Edits.{section_start, moved, EditsRest}
-use Rattle.org_state.specs.Todo.{Own, own_at, with_own_at, with_lines, changed, first_active, if_repeating, repeating, repeated_parts, TurnsDone, Turns, IsChanged, is_done, IsTodo, IsTodoAt, heading_asked, heading_to_change, fault_of_meta}
+use Rattle.org_state.specs.Todo.{Own, own_at, with_own_at, with_lines, changed, first_active, if_repeating, repeating, repeated_parts, TurnsDone, Turns, IsChanged, is_done, IsTodo, IsTodoAt, heading_asked, heading_to_change}
 use Rattle.org_state.specs.Answers.{AnswersOwn, AnswersTodo}
 use Rattle.org_state.proofs.Fronts.{front_short, planning_short}
 use Rattle.org_state.proofs.Steps.{repeat_lines, four_made, section_is_lines}
 
 -- ---- faults
 
--- a fault of the planning is the change's, unless memory ran out
-pub handed : (IsDefined : Result Own StateFault → Type 0) (t : List ℕ) (i : ℕ) (result : Result (Vec Edit Global) StateFault)
+pub handed : (IsDefined : Result Own Refusal → Type 0) (t : List ℕ) (i : ℕ) (result : Result (Vec Edit Global) (Fault Refusal))
     → IfOk result (λ edits. (own : Own) × IsDefined (Ok own) × ((edits.items ≢ []) × AreEdits edits.items t (print (with_own_at i (tree t) own)))) → IfErr result (λ fault. fault ≡ OutOfMemory)
     → AnswersOwn IsDefined t i result
 handed IsDefined t i (Ok edits) ok err = ok
-handed IsDefined t i (Err fault) ok err = let P : StateFault → Type 0 = λ fault. AnswersOwn IsDefined t i (Err fault) in subst P (sym err) tt
-
-pub faulted : (IsDefined : Result Own StateFault → Type 0) (t : List ℕ) (i : ℕ) (fault : MetaFault) → (fault ≡ meta.OutOfMemory) ⊎ IsDefined (Err (fault_of_meta fault))
-    → AnswersOwn IsDefined t i (Err (fault_of_meta fault))
-faulted IsDefined t i meta.OddPlanning (inl e) = absurd cc
-faulted IsDefined t i meta.OddPlanning (inr d) = d
-faulted IsDefined t i meta.BadRepeat (inl e) = absurd cc
-faulted IsDefined t i meta.BadRepeat (inr d) = d
-faulted IsDefined t i meta.DateRange (inl e) = absurd cc
-faulted IsDefined t i meta.DateRange (inr d) = d
-faulted IsDefined t i meta.ClockBackwards (inl e) = absurd cc
-faulted IsDefined t i meta.ClockBackwards (inr d) = d
-faulted IsDefined t i meta.OutOfMemory e = tt
+handed IsDefined t i (Err fault) ok err = no_memory fault (λ why. IsDefined (Err why)) err
 
 -- ---- a section that was replanned
 
-ok_parts : (r : Result SectionParts MetaFault) (section : List ℕ) (e : Edit) → RewritesOk r section e → (p : SectionParts) × (r ≡ Ok p) × RewritesParts e section p
+ok_parts : (r : Result SectionParts Refusal) (section : List ℕ) (e : Edit) → RewritesOk r section e → (p : SectionParts) × (r ≡ Ok p) × RewritesParts e section p
 ok_parts (Ok p) section e g = (p, refl, g)
 ok_parts (Err fault) section e g = absurd g
 
-pub replanned_within : (r : Result SectionParts MetaFault) (section bytes : List ℕ) (e : Edit) → section ≡ bytes → RewritesOk r section e → e.at + e.removed ≤ length bytes
+pub replanned_within : (r : Result SectionParts Refusal) (section bytes : List ℕ) (e : Edit) → section ≡ bytes → RewritesOk r section e → e.at + e.removed ≤ length bytes
 replanned_within r section bytes e is g = let parts = ok_parts r section e g in omega (arith, parts.2.within, ap length is)
 
-pub replanned_refused : (plan : SectionParts → Result SectionParts MetaFault) (states : Keywords) (word : List ℕ) (own : Own) (section : List ℕ) (fault : MetaFault) → lines_of section ≡ own.section
-    → FaultIn (plan (parts_of section)) fault → (fault ≡ meta.OutOfMemory) ⊎ (Err (fault_of_meta fault) ≡ changed states word own (plan (split own.section)))
-replanned_refused plan states word own section fault lines (inl memory) = inl memory
-replanned_refused plan states word own section fault lines (inr is) = inr (sym (ap (changed states word own) (ap (λ (ls : List (List ℕ)). plan (split ls)) (sym lines) ∙ is)))
+pub replanned_refused : (plan : SectionParts → Result SectionParts Refusal) (states : Keywords) (word : List ℕ) (own : Own) (section : List ℕ) (fault : Fault Refusal) → lines_of section ≡ own.section
+    → IfRefusal fault (λ why. plan (parts_of section) ≡ Err why) → IfRefusal fault (λ why. Err why ≡ changed states word own (plan (split own.section)))
+replanned_refused plan states word own section fault lines =
+    refused_as fault _ _ (λ why is. sym (ap (changed states word own) (ap (λ (ls : List (List ℕ)). plan (split ls)) (sym lines) ∙ is)))
 
-pub replanned_answers : (plan : SectionParts → Result SectionParts MetaFault) (states : Keywords) (word t : List ℕ) (i : ℕ) (section : List ℕ) (e : Edit) (result : Result (Vec Edit Global) StateFault)
+pub replanned_answers : (plan : SectionParts → Result SectionParts Refusal) (states : Keywords) (word t : List ℕ) (i : ℕ) (section : List ℕ) (e : Edit) (result : Result (Vec Edit Global) (Fault Refusal))
     → section ≡ print_lines (node_at (tree t) i).node.section → lines_of section ≡ (node_at (tree t) i).node.section → RewritesOk (plan (parts_of section)) section e
     → ((new : List (List ℕ)) → Rewrites e (print_lines (own_at (tree t) i).section) new → AnswersOwn (λ r. r ≡ Ok (with_lines states word (own_at (tree t) i) new)) t i result)
     → AnswersOwn (λ r. r ≡ changed states word (own_at (tree t) i) (plan (split (own_at (tree t) i).section))) t i result
@@ -79,7 +68,7 @@ replanned_answers plan states word t i section e result bytes lines g made =
     let parts = ok_parts (plan (parts_of section)) section e g in
     let is : plan (split own.section) ≡ Ok parts.0 = ap (λ (ls : List (List ℕ)). plan (split ls)) (sym lines) ∙ parts.1 in
     let gives : Rewrites e (print_lines own.section) (joined parts.0) = subst (λ (s : List ℕ). Rewrites e s (joined parts.0)) bytes parts.2 in
-    subst (λ (x : Result Own StateFault). AnswersOwn (λ r. r ≡ x) t i result) (sym (ap (changed states word own) is)) (made (joined parts.0) gives)
+    subst (λ (x : Result Own Refusal). AnswersOwn (λ r. r ≡ x) t i result) (sym (ap (changed states word own) is)) (made (joined parts.0) gives)
 
 -- ---- repetition
 
@@ -124,29 +113,28 @@ repeated_alone now ls e all g =
     repeated_in now (split ls).planning (split ls).planning e (subst P (planning_alone ls (print_lines (split ls).planning) all refl) g)
 
 -- why a planning line can't be repeated
-repeat_faults : (states : Keywords) (state : List ℕ) (now : Moment) (own : Own) (parts : SectionParts) (ls : List (List ℕ)) (fault : MetaFault)
-    → split own.section ≡ record parts { planning = ls } → FaultRepeated now ls fault → TurnsDone states state now own (repeating ls) (Err (fault_of_meta fault))
-repeat_faults states state now own parts [] fault is wrong = absurd wrong
-repeat_faults states state now own parts (l ∷ ls) fault is (inl odd) =
+repeat_faults : (states : Keywords) (state : List ℕ) (now : Moment) (own : Own) (parts : SectionParts) (ls : List (List ℕ)) (why : Refusal)
+    → split own.section ≡ record parts { planning = ls } → IsRefusedRepeat now ls why → TurnsDone states state now own (repeating ls) (Err why)
+repeat_faults states state now own parts [] why is wrong = absurd wrong
+repeat_faults states state now own parts (l ∷ ls) why is (inl odd) =
     let none : repeating (l ∷ ls) ≡ None = ap if_repeating odd.1 in
-    let P : Option PlanningLine → Type 0 = λ o. TurnsDone states state now own o (Err (fault_of_meta fault)) in
-    let refused : set_closed now (split own.section) ≡ Err meta.OddPlanning = ap (set_closed now) is ∙ rw odd.1 refl in
-    subst P (sym none) (ap (λ (f : MetaFault). changed states state own (Err f)) odd.0 ∙ sym (ap (changed states state own) refused))
-repeat_faults states state now own parts (l ∷ ls) fault is (inr wrong) =
-    let P : Option PlanningLine → Type 0 = λ o. TurnsDone states state now own o (Err (fault_of_meta fault)) in
-    subst P (sym (repeating_some l ls wrong.0 wrong.1 wrong.2)) (Err fault, wrong.3, refl)
+    let P : Option PlanningLine → Type 0 = λ o. TurnsDone states state now own o (Err why) in
+    let refused : set_closed now (split own.section) ≡ Err OddPlanning = ap (set_closed now) is ∙ rw odd.1 refl in
+    subst P (sym none) (ap (λ (f : Refusal). changed states state own (Err f)) odd.0 ∙ sym (ap (changed states state own) refused))
+repeat_faults states state now own parts (l ∷ ls) why is (inr wrong) =
+    let P : Option PlanningLine → Type 0 = λ o. TurnsDone states state now own o (Err why) in
+    subst P (sym (repeating_some l ls wrong.0 wrong.1 wrong.2)) (Err why, wrong.3, refl)
 
 -- the planning line that the code asks is that of the section
 planning_is : (ls : List (List ℕ)) (line : List ℕ) → AllByRecursion IsLine ls → line ≡ print_lines (split ls).planning → (parts_of line).planning ≡ (split ls).planning
 planning_is ls line all is = ap (λ (p : SectionParts). p.planning) (planning_alone ls line all is)
 
-pub repeat_refused : (states : Keywords) (state : List ℕ) (now : Moment) (own : Own) (line : List ℕ) (fault : MetaFault) → AllByRecursion IsLine own.section → line ≡ print_lines (split own.section).planning
-    → (fault ≡ meta.OutOfMemory) ⊎ FaultRepeated now (parts_of line).planning fault
-    → (fault ≡ meta.OutOfMemory) ⊎ TurnsDone states state now own (repeating (split own.section).planning) (Err (fault_of_meta fault))
-repeat_refused states state now own line fault all is (inl memory) = inl memory
-repeat_refused states state now own line fault all is (inr wrong) =
-    let P : List (List ℕ) → Type 0 = λ ls. FaultRepeated now ls fault in
-    inr (repeat_faults states state now own (split own.section) (split own.section).planning fault refl (subst P (planning_is own.section line all is) wrong))
+pub repeat_refused : (states : Keywords) (state : List ℕ) (now : Moment) (own : Own) (line : List ℕ) (fault : Fault Refusal) → AllByRecursion IsLine own.section → line ≡ print_lines (split own.section).planning
+    → IfRefusal fault (IsRefusedRepeat now (parts_of line).planning)
+    → IfRefusal fault (λ why. TurnsDone states state now own (repeating (split own.section).planning) (Err why))
+repeat_refused states state now own line fault all is = refused_as fault _ _ (λ why wrong.
+    let P : List (List ℕ) → Type 0 = λ ls. IsRefusedRepeat now ls why in
+    repeat_faults states state now own (split own.section) (split own.section).planning why refl (subst P (planning_is own.section line all is) wrong))
 
 -- where nothing repeats, the entry is closed
 pub nothing_repeats : (now : Moment) (ls : List (List ℕ)) (line : List ℕ) (made : Option Edit) → AllByRecursion IsLine ls → line ≡ print_lines (split ls).planning
@@ -222,7 +210,7 @@ repeat_made states state now t i section front old stamp active a b c a2 b2 c2 k
 
 -- ---- the keyword alone
 
-pub kept : (was is : Bool) (states : Keywords) (state : List ℕ) (now : Moment) (own : Own) (t : List ℕ) (i : ℕ) (result : Result (Vec Edit Global) StateFault)
+pub kept : (was is : Bool) (states : Keywords) (state : List ℕ) (now : Moment) (own : Own) (t : List ℕ) (i : ℕ) (result : Result (Vec Edit Global) (Fault Refusal))
     → was ≡ is → AnswersOwn (λ r. r ≡ Ok (with_lines states state own own.section)) t i result → AnswersOwn (Turns was is states state now own) t i result
 kept true true states state now own t i result e answers = answers
 kept false false states state now own t i result e answers = answers
@@ -232,7 +220,7 @@ kept false true states state now own t i result e answers = absurd (true≢false
 -- ---- an entry that turns
 
 -- the change of an entry that was done, or not, and is to be, or not
-pub turned : (was is : Bool) (states : Keywords) (state : List ℕ) (now : Moment) (own : Own) (t : List ℕ) (i : ℕ) (result : Result (Vec Edit Global) StateFault)
+pub turned : (was is : Bool) (states : Keywords) (state : List ℕ) (now : Moment) (own : Own) (t : List ℕ) (i : ℕ) (result : Result (Vec Edit Global) (Fault Refusal))
     → is_done states (keyword_in states own.rest) ≡ was → is_done states state ≡ is → AnswersOwn (Turns was is states state now own) t i result
     → AnswersOwn (IsChanged states state now own) t i result
 turned was is states state now own t i result was_is is_is answers =
@@ -241,7 +229,7 @@ turned was is states state now own t i result was_is is_is answers =
 
 -- ---- a document
 
-pub todo_answers : (states : Keywords) (path : List Step) (state : List ℕ) (now : Moment) (t : List ℕ) (i : ℕ) (result : Result (Vec Edit Global) StateFault)
+pub todo_answers : (states : Keywords) (path : List Step) (state : List ℕ) (now : Moment) (t : List ℕ) (i : ℕ) (result : Result (Vec Edit Global) (Fault Refusal))
     → find_path states (tree t) path ≡ Ok i → is_state states state ≡ true → bytes_eq (keyword_in states (node_at (tree t) i).node.rest) state ≡ false
     → AnswersOwn (IsChanged states state now (own_at (tree t) i)) t i result → AnswersTodo states path state now t result
 todo_answers states path state now t i result found known other answers = by_result result answers
@@ -252,19 +240,13 @@ todo_answers states path state now t i result found known other answers = by_res
     asked : heading_to_change states path state (tree t) ≡ Ok (Some i)
     asked = ap (heading_asked states state (tree t)) found ∙ rw (known, other) refl
 
-    todo_is : (r : Result Own StateFault) → IsChanged states state now (own_at (tree t) i) r
-        → IsTodo states path state now (tree t) (result_map_both (λ own. Some (with_own_at i (tree t) own)) (λ fault. fault) r)
+    todo_is : (r : Result Own Refusal) → IsChanged states state now (own_at (tree t) i) r
+        → IsTodo states path state now (tree t) (result_map_both (λ own. Some (with_own_at i (tree t) own)) (λ why. why) r)
     todo_is r is =
-        let P : Result (Option ℕ) StateFault → Type 0 = λ a. IsTodoAt states state now (tree t) a (result_map_both (λ own. Some (with_own_at i (tree t) own)) (λ fault. fault) r) in
+        let P : Result (Option ℕ) Refusal → Type 0 = λ a. IsTodoAt states state now (tree t) a (result_map_both (λ own. Some (with_own_at i (tree t) own)) (λ why. why) r) in
         subst P (sym asked) (r, is, refl)
 
-    by_result : (result : Result (Vec Edit Global) StateFault) → AnswersOwn (IsChanged states state now (own_at (tree t) i)) t i result → AnswersTodo states path state now t result
+    by_result : (result : Result (Vec Edit Global) (Fault Refusal)) → AnswersOwn (IsChanged states state now (own_at (tree t) i)) t i result → AnswersTodo states path state now t result
     by_result (Ok edits) a = (Some (with_own_at i (tree t) a.0), todo_is (Ok a.0) a.1, a.2)
-    by_result (Err NotFound) a = todo_is (Err NotFound) a
-    by_result (Err NotUnique) a = todo_is (Err NotUnique) a
-    by_result (Err UnknownState) a = todo_is (Err UnknownState) a
-    by_result (Err OddPlanning) a = todo_is (Err OddPlanning) a
-    by_result (Err BadRepeat) a = todo_is (Err BadRepeat) a
-    by_result (Err DateRange) a = todo_is (Err DateRange) a
-    by_result (Err ClockBackwards) a = todo_is (Err ClockBackwards) a
+    by_result (Err (Refused why)) a = todo_is (Err why) a
     by_result (Err OutOfMemory) a = (i, asked)

@@ -1,10 +1,11 @@
 -- A heading that is to get another state, as the code has it.
 use Rattle.std.specs.Prelude.{Result, Vec}
 use Rattle.std.specs.Global.{Global}
+use Rattle.org_fault.specs.declared.fault.Fault.{Fault}
+use Rattle.org_fault.specs.declared.refusal.Refusal.{Refusal}
 use Rattle.org_splice.specs.declared.edit.Edit.{Edit}
 use Rattle.org_outline.specs.Tree.{tree}
 use Rattle.org_state.specs.declared.changing.Change.{Change}
-use Rattle.org_state.specs.declared.fault.StateFault.{StateFault}
 use Rattle.org_state.specs.Answers.{AnswersOwn}
 use Rattle.org_state.specs.Todo.{Own, own_at}
 
@@ -12,8 +13,9 @@ use Rattle.org_state.specs.Todo.{Own, own_at}
 abbrev pub own_of : Change → Own
 own_of change = own_at (tree change.outline.now.text) change.node
 
--- edits that give it the own lines that are defined, or the fault that is, unless memory ran out
-abbrev pub AnswersChange : (Result Own StateFault → Type 0) → Change
-    → Result (Vec Edit Global) StateFault → Type 0
+-- edits that give it the own lines that are defined, or the refusal that is, unless memory
+-- ran out
+abbrev pub AnswersChange : (Result Own Refusal → Type 0) → Change
+    → Result (Vec Edit Global) (Fault Refusal) → Type 0
 AnswersChange IsDefined change result =
     AnswersOwn IsDefined change.outline.now.text change.node result

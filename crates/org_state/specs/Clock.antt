@@ -6,6 +6,10 @@ use Rattle.std.specs.Global.{Global}
 use Rattle.std.specs.List.{position, sum_by}
 use Rattle.std.specs.Option.{option_map}
 use Rattle.std.specs.Result.{result_map_both}
+use Rattle.org_fault.specs.Faults.{IsWhyNot}
+use Rattle.org_fault.specs.declared.fault.Fault.{Fault}
+use Rattle.org_fault.specs.declared.fault.Fault.TheVariants.{OutOfMemory, Refused}
+use Rattle.org_fault.specs.declared.refusal.Refusal.{Refusal}
 use Rattle.org_splice.specs.declared.Span.{Span}
 use Rattle.org_splice.specs.declared.edit.Edit.{Edit}
 use Rattle.org_splice.specs.Edits.{AreEdits}
@@ -17,17 +21,13 @@ use Rattle.org_outline.specs.States.{Keywords}
 use Rattle.org_outline.specs.Tree.{Document, Placed, print, tree, nodes, node_at}
 use Rattle.org_outline.specs.Moves.{with_own_lines}
 use Rattle.org_outline.specs.Numbers.{weigh_node}
-use Rattle.org_outline.specs.Paths.{find_path}
-use Rattle.org_meta.specs.declared.fault.MetaFault.{MetaFault}
+use Rattle.org_outline.specs.Paths.{find_path, refusal_of}
 use Rattle.org_meta.specs.Clocks.{is_open, open_line, minutes_in}
 use Rattle.org_meta.specs.Clocking.{opened, closed_line}
 use Rattle.org_meta.specs.Sections.{split, joined}
 use Rattle.org_state.specs.declared.run.Running.{Running}
-use Rattle.org_state.specs.declared.fault.StateFault.{StateFault}
-use Rattle.org_state.specs.declared.fault.StateFault.TheVariants.{OutOfMemory}
 use Rattle.org_state.specs.Edits.{section_start, EditsSection}
 use Rattle.org_state.specs.Answers.{Makes}
-use Rattle.org_state.specs.Todo.{fault_of_path, fault_of_meta}
 
 -- ---- the running clock
 
@@ -75,33 +75,33 @@ with_opened now i d = with_section_at i d (opened_section now d i)
 -- ---- out
 
 -- lines with the first open clock line closed, unless the moment is before its start
-abbrev pub closed_first : Moment → List (List ℕ) → Result (List (List ℕ)) MetaFault
+abbrev pub closed_first : Moment → List (List ℕ) → Result (List (List ℕ)) Refusal
 closed_first now [] = Ok []
 closed_first now (l ∷ ls) =
-    if is_open l then result_map_both (λ closed. closed ∷ ls) (λ fault. fault) (closed_line now l)
-    else result_map_both (λ more. l ∷ more) (λ fault. fault) (closed_first now ls)
+    if is_open l then result_map_both (λ closed. closed ∷ ls) (λ why. why) (closed_line now l)
+    else result_map_both (λ more. l ∷ more) (λ why. why) (closed_first now ls)
 
 -- the first clock that runs at heading i closed
-abbrev pub with_closed : Moment → ℕ → Document → Result Document StateFault
+abbrev pub with_closed : Moment → ℕ → Document → Result Document Refusal
 with_closed now i d =
-    result_map_both (with_section_at i d) fault_of_meta
+    result_map_both (with_section_at i d) (λ why. why)
     (closed_first now (node_at d i).node.section)
 
 -- ---- in, where a clock runs
 
 -- a clock opened at heading i, the one that runs at heading `from` closed; nothing changes where
 -- both are one heading
-abbrev pub switched : Moment → ℕ → Document → ℕ → Result (Option Document) StateFault
+abbrev pub switched : Moment → ℕ → Document → ℕ → Result (Option Document) Refusal
 switched now from d i =
     if i == from then Ok None
-    else result_map_both (λ closed. Some (with_opened now i closed)) (λ fault. fault)
+    else result_map_both (λ closed. Some (with_opened now i closed)) (λ why. why)
     (with_closed now from d)
 
 -- at the heading that was found
 abbrev pub switched_at : Moment → ℕ → Document → Result ℕ PathFault
-    → Result (Option Document) StateFault
+    → Result (Option Document) Refusal
 switched_at now from d (Ok i) = switched now from d i
-switched_at now from d (Err fault) = Err (fault_of_path fault)
+switched_at now from d (Err why) = Err (refusal_of why)
 
 -- ---- the time clocked
 
@@ -114,38 +114,35 @@ clocked_minutes d i =
 -- those of the heading at a path
 abbrev pub clocked_at : Keywords → List Step → Document → Result ℕ PathFault
 clocked_at states path d =
-    result_map_both (clocked_minutes d) (λ fault. fault) (find_path states d path)
+    result_map_both (clocked_minutes d) (λ why. why) (find_path states d path)
 
 -- ---- what calls answer
 
 -- an edit that closes the first clock that runs at heading i, or why it can't be closed; memory is
 -- wanted only where it can
-abbrev pub AnswersClosing : Moment → List ℕ → ℕ → Result Edit StateFault → Type 0
+abbrev pub AnswersClosing : Moment → List ℕ → ℕ → Result Edit (Fault Refusal) → Type 0
 AnswersClosing now text i (Ok edit) =
     (new : Document)
     × (with_closed now i (tree text) ≡ Ok new)
     × AreEdits (edit ∷ []) text (print new)
-AnswersClosing now text i (Err OutOfMemory) =
-    (new : Document) × (with_closed now i (tree text) ≡ Ok new)
-AnswersClosing now text i (Err fault) = with_closed now i (tree text) ≡ Err fault
+AnswersClosing now text i (Err fault) = IsWhyNot (with_closed now i (tree text)) fault
 
 -- the same, by the section
-abbrev pub ClosesSection : Moment → Document → ℕ → Result Edit StateFault → Type 0
+abbrev pub ClosesSection : Moment → Document → ℕ → Result Edit (Fault Refusal) → Type 0
 ClosesSection now d i (Ok edit) =
     (new : List (List ℕ))
     × (closed_first now (node_at d i).node.section ≡ Ok new)
     × EditsSection edit d i new
-ClosesSection now d i (Err OutOfMemory) =
-    (new : List (List ℕ)) × (closed_first now (node_at d i).node.section ≡ Ok new)
-ClosesSection now d i (Err fault) = with_closed now i d ≡ Err fault
+ClosesSection now d i (Err fault) = IsWhyNot (closed_first now (node_at d i).node.section) fault
 
 -- edits that clock in at heading i, where a clock runs at heading `from`, or why that can't be;
 -- memory is wanted only where something is to change
-abbrev pub AnswersSwitch : Moment → List ℕ → ℕ → ℕ → Result (Vec Edit Global) StateFault → Type 0
+abbrev pub AnswersSwitch : Moment → List ℕ → ℕ → ℕ → Result (Vec Edit Global) (Fault Refusal)
+    → Type 0
 AnswersSwitch now text from i (Ok edits) =
     (new : Option Document)
     × (switched now from (tree text) i ≡ Ok new)
     × Makes new text edits.items
 AnswersSwitch now text from i (Err OutOfMemory) =
     (new : Document) × (switched now from (tree text) i ≡ Ok (Some new))
-AnswersSwitch now text from i (Err fault) = switched now from (tree text) i ≡ Err fault
+AnswersSwitch now text from i (Err (Refused why)) = switched now from (tree text) i ≡ Err why

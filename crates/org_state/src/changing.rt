@@ -12,14 +12,14 @@ ghost use Rattle.org_meta.specs.Sections.{split, parts_of, joined, put};
 ghost use Rattle.org_outline.specs.Tree.{node_count, tree};
 ghost use Rattle.org_state.specs.Answers.{AnswersTodo};
 ghost use Rattle.org_state.specs.Change.{AnswersChange, own_of};
-ghost use Rattle.org_state.specs.declared.fault.StateFault.TheVariants.{OutOfMemory};
+ghost use Rattle.org_fault.specs.declared.fault.Fault.TheVariants.{OutOfMemory};
 ghost use Rattle.org_state.specs.Edits.{moved, section_start};
 ghost use Rattle.org_state.specs.Keyword.{with_keyword};
 ghost use Rattle.org_state.specs.Todo.{with_lines, changed, repeating, TurnsDone, IsChanged};
 
-use crate::fault::StateFault;
 use crate::keyword::is_state;
 use crate::own::{above_rest, in_section, keyword_edit, section_of};
+use org_fault::{Fault, Refusal};
 use org_meta::{add_note, clear_closed, put_property, repeat_planning, sections, set_closed};
 use org_outline::{Node, Outline, Step};
 use org_splice::Edit;
@@ -69,7 +69,7 @@ struct Change<'a> {
 
 impl Change<'_> {
     /// An edit of the heading's section, and that of its keyword.
-    fn with_section(&self, alloc: Global, edit: Edit) -> Result<Vec<Edit>, StateFault>
+    fn with_section(&self, alloc: Global, edit: Edit) -> Result<Vec<Edit>, Fault<Refusal>>
         requires node { self.now.node < node_count (tree self.now.outline.now.text) }
         requires within { edit.at + edit.removed
             ≤ length (print_lines (own_of self.now).section) }
@@ -82,7 +82,7 @@ impl Change<'_> {
     }
 
     /// The edits of an entry that turns back: its CLOSED entry goes.
-    fn turn_back(&self, alloc: Global) -> Result<Vec<Edit>, StateFault>
+    fn turn_back(&self, alloc: Global) -> Result<Vec<Edit>, Fault<Refusal>>
         requires { self.now.node < node_count (tree self.now.outline.now.text) }
         ensures { let own = own_of self.now in
             AnswersChange (λ r. r ≡ changed self.now.outline.now.states self.now.state.now own
@@ -101,7 +101,7 @@ impl Change<'_> {
         property: Edit,
         planning: Edit,
         keyword: Edit,
-    ) -> Result<Vec<Edit>, StateFault>
+    ) -> Result<Vec<Edit>, Fault<Refusal>>
         requires node { self.now.node < node_count (tree self.now.outline.now.text) }
         requires note { note.at + note.removed ≤ length (print_lines (own_of self.now).section) }
         requires property { property.at + property.removed
@@ -123,7 +123,7 @@ impl Change<'_> {
     }
 
     /// The edits of a repeated task that turns done, where `planning` repeats its planning line.
-    fn repeat(&self, alloc: Global, planning: Edit) -> Result<Vec<Edit>, StateFault>
+    fn repeat(&self, alloc: Global, planning: Edit) -> Result<Vec<Edit>, Fault<Refusal>>
         requires node { self.now.node < node_count (tree self.now.outline.now.text) }
         requires planning { let line = print_lines (split (own_of self.now).section).planning in
             RewritesRepeated self.now.moment (parts_of line) line (Some planning) }
@@ -140,7 +140,7 @@ impl Change<'_> {
     }
 
     /// The edits of an entry that turns done and isn't repeated: it gets a CLOSED entry.
-    fn close(&self, alloc: Global) -> Result<Vec<Edit>, StateFault>
+    fn close(&self, alloc: Global) -> Result<Vec<Edit>, Fault<Refusal>>
         requires { self.now.node < node_count (tree self.now.outline.now.text) }
         ensures { let own = own_of self.now in
             AnswersChange (λ r. r ≡ changed self.now.outline.now.states self.now.state.now own
@@ -152,7 +152,7 @@ impl Change<'_> {
 
     /// The edits of an entry that turns done: its planning is repeated, or else it gets a CLOSED
     /// entry.
-    fn turn_done(&self, alloc: Global) -> Result<Vec<Edit>, StateFault>
+    fn turn_done(&self, alloc: Global) -> Result<Vec<Edit>, Fault<Refusal>>
         requires { self.now.node < node_count (tree self.now.outline.now.text) }
         ensures { let own = own_of self.now in
             AnswersChange (TurnsDone self.now.outline.now.states self.now.state.now self.now.moment
@@ -166,7 +166,7 @@ impl Change<'_> {
     }
 
     /// The edits of a heading whose keyword alone changes.
-    fn reword(&self, alloc: Global) -> Result<Vec<Edit>, StateFault>
+    fn reword(&self, alloc: Global) -> Result<Vec<Edit>, Fault<Refusal>>
         requires { self.now.node < node_count (tree self.now.outline.now.text) }
         ensures { let own = own_of self.now in
             AnswersChange (λ r. r ≡ Ok (with_lines self.now.outline.now.states self.now.state.now
@@ -177,7 +177,7 @@ impl Change<'_> {
     }
 
     /// The edits of a heading that gets another state than it has.
-    fn edits(&self, alloc: Global) -> Result<Vec<Edit>, StateFault>
+    fn edits(&self, alloc: Global) -> Result<Vec<Edit>, Fault<Refusal>>
         requires { self.now.node < node_count (tree self.now.outline.now.text) }
         ensures { AnswersChange (IsChanged self.now.outline.now.states self.now.state.now
             self.now.moment (own_of self.now)) self.now result }
@@ -218,13 +218,13 @@ pub fn todo(
     path: &[Step],
     state: &[u8],
     now: Moment,
-) -> Result<Vec<Edit>, StateFault>
+) -> Result<Vec<Edit>, Fault<Refusal>>
     ensures { AnswersTodo outline.now.states path.now state.now now outline.now.text
         result }
 {
     let node = outline.find(path)?;
     if !is_state(outline.states(), state) {
-        return Err(StateFault::UnknownState);
+        return Err(Fault::Refused(Refusal::UnknownState));
     }
     if outline.parts(node).keyword == state {
         return Ok(Vec::new(alloc));

@@ -11,9 +11,9 @@ ghost use Rattle.org_state.specs.Clock.{has_clock, span_from, running_in, runs_a
 ghost use Rattle.org_state.specs.Clock.{AnswersClosing, ClosesSection, AnswersSwitch};
 ghost use Rattle.org_state.specs.Edits.{section_start, EditsSection};
 
-use crate::fault::StateFault;
 use crate::own::{in_section, section_of};
 use crate::run::Running;
+use org_fault::{Fault, Refusal};
 use org_meta::{close_clock, find_open, open_clock, total};
 use org_outline::{Node, Outline, PathFault, Step};
 use org_splice::{Edit, Searched, Span};
@@ -120,7 +120,12 @@ pub fn clock_in(
 }
 
 /// The edit that closes the clock that runs in the text.
-fn closing(alloc: Global, text: &[u8], running: Running, now: Moment) -> Result<Edit, StateFault>
+fn closing(
+    alloc: Global,
+    text: &[u8],
+    running: Running,
+    now: Moment,
+) -> Result<Edit, Fault<Refusal>>
     requires terminated { terminated text.now ≡ text.now }
     requires runs { running_in (tree text.now) ≡ Some running }
     ensures { ClosesSection now (tree text.now) running.heading result }
@@ -150,7 +155,7 @@ pub fn clock_out(
     text: &[u8],
     running: Running,
     now: Moment,
-) -> Result<Edit, StateFault>
+) -> Result<Edit, Fault<Refusal>>
     requires terminated { terminated text.now ≡ text.now }
     requires runs { running_in (tree text.now) ≡ Some running }
     ensures { AnswersClosing now text.now running.heading result }
@@ -165,7 +170,7 @@ fn switch(
     node: Node,
     running: Running,
     now: Moment,
-) -> Result<Vec<Edit>, StateFault>
+) -> Result<Vec<Edit>, Fault<Refusal>>
     requires node { node < node_count (tree outline.now.text) }
     requires runs { running_in (tree outline.now.text) ≡ Some running }
     requires other { node ≢ running.heading }
@@ -196,7 +201,7 @@ pub fn switch_clock(
     node: Node,
     running: Running,
     now: Moment,
-) -> Result<Vec<Edit>, StateFault>
+) -> Result<Vec<Edit>, Fault<Refusal>>
     requires node { node < node_count (tree outline.now.text) }
     requires runs { running_in (tree outline.now.text) ≡ Some running }
     ensures { AnswersSwitch now outline.now.text running.heading node result }

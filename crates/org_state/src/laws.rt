@@ -7,7 +7,7 @@ ghost use Rattle.org_outline.specs.declared.steps.Step.{Step};
 ghost use Rattle.org_outline.specs.States.{Keywords, are_states};
 ghost use Rattle.org_outline.specs.Tree.{Document, IsValid, node_count, print, tree};
 ghost use Rattle.org_meta.specs.Clocking.{clock_line, minutes_run};
-ghost use Rattle.org_state.specs.declared.fault.StateFault.{StateFault};
+ghost use Rattle.org_fault.specs.declared.refusal.Refusal.{Refusal};
 ghost use Rattle.org_state.specs.Clock.{clocked_minutes, running_heading, switched, with_closed, with_opened};
 ghost use Rattle.org_state.specs.Open.{open_clocks};
 ghost use Rattle.org_state.specs.Todo.{IsTodo, todo};
@@ -15,14 +15,14 @@ ghost use Rattle.org_state.specs.Todo.{IsTodo, todo};
 /// A change of a state has one outcome.
 pub fn one_outcome()
     ensures { (states : Keywords) (path : List Step) (state : List ℕ) (now : Moment)
-        (d : Document) (r q : Result (Option Document) StateFault)
+        (d : Document) (r q : Result (Option Document) Refusal)
         → IsTodo states path state now d r → IsTodo states path state now d q → r ≡ q }
 {}
 
 /// That outcome can be computed.
 pub fn outcome_computes()
     ensures { (states : Keywords) (path : List Step) (state : List ℕ) (now : Moment)
-        (d : Document) (r : Result (Option Document) StateFault)
+        (d : Document) (r : Result (Option Document) Refusal)
         → IsTodo states path state now d r → todo states path state now d ≡ r }
 {}
 

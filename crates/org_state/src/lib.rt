@@ -6,7 +6,6 @@
 
 mod changing;
 mod clocks;
-mod fault;
 mod keyword;
 pub mod laws;
 mod own;
@@ -14,5 +13,4 @@ mod run;
 
 pub use changing::todo;
 pub use clocks::{clock_in, clock_out, clocked, running, search, switch_clock};
-pub use fault::StateFault;
 pub use run::Running;

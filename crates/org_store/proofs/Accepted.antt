@@ -15,20 +15,18 @@ use Rattle.org_outline.specs.Paths.{find_path}
 use Rattle.org_outline.specs.Tree.{Document, Node, print, tree}
 use Rattle.org_stamp.specs.Calendar.{Moment}
 use Rattle.org_fileset.specs.Names.{limit}
-use Rattle.org_capture.specs.declared.fault.CaptureFault.{CaptureFault}
 use Rattle.org_capture.specs.declared.target.Target.{Target}
 use Rattle.org_capture.specs.Capture.{captured}
-use Rattle.org_move.specs.declared.fault.MoveFault.{MoveFault}
 use Rattle.org_move.specs.Archive.{archive_across, archive_within}
 use Rattle.org_move.specs.Location.{Destination, location}
 use Rattle.org_move.specs.Refile.{Moved, refile_across, refile_within}
-use Rattle.org_state.specs.declared.fault.StateFault.{StateFault}
 use Rattle.org_state.specs.declared.run.Running.{Running}
 use Rattle.org_state.specs.Clock.{clocked_at, running_in}
 use Rattle.org_state.specs.Todo.{todo as in_state}
 use Rattle.org_commands.specs.declared.command.Command.{Command}
 use Rattle.org_commands.specs.declared.command.Command.TheVariants.{Capture, Refile, Todo, ClockIn, ClockOut, Archive, Edit, Time, Show, Settle}
-use Rattle.org_commands.specs.declared.command.Refusal.TheVariants.{TooLarge}
+use Rattle.org_fault.specs.declared.refusal.Refusal.{Refusal}
+use Rattle.org_fault.specs.declared.refusal.Refusal.TheVariants.{TooLarge}
 use Rattle.org_commands.specs.Capture.{new_entry}
 use Rattle.org_commands.specs.Clocks.{running_over}
 use Rattle.org_commands.specs.Clocking.{clocked_in, clocked_out, clock_moved}
@@ -89,11 +87,11 @@ changes_one s file text own = inl ((file, text) ∷ [], (own, tt), refl)
 changes_across : (s : Session) (file to_file : List ℕ) (new : Moved) → is_name s.names file ≡ true → is_name s.names to_file ≡ true → IsChanging s (changed s (texts_across file to_file new))
 changes_across s file to_file new own to_own = inl (texts_across file to_file new, (own, (to_own, tt)), refl)
 
-document_changes : (s : Session) (name : List ℕ) (made : Result Document CaptureFault) → is_name s.names name ≡ true → IsChanging s (with_document s name made)
+document_changes : (s : Session) (name : List ℕ) (made : Result Document Refusal) → is_name s.names name ≡ true → IsChanging s (with_document s name made)
 document_changes s name (Err why) own = inr (λ touched files accepts. absurd (cc))
 document_changes s name (Ok new) own = changes_one s name (print new) own
 
-entry_changes : (s : Session) (name : List ℕ) (target : Target) (place : Place) (moment : Moment) (entry : Result Node CaptureFault) (text : List ℕ) → is_name s.names name ≡ true
+entry_changes : (s : Session) (name : List ℕ) (target : Target) (place : Place) (moment : Moment) (entry : Result Node Refusal) (text : List ℕ) → is_name s.names name ≡ true
     → IsChanging s (with_entry s name target place moment entry text)
 entry_changes s name target place moment (Err why) text own = inr (λ touched files accepts. absurd (cc))
 entry_changes s name target place moment (Ok entry) text own = document_changes s name (captured s.states target place moment entry (tree text)) own
@@ -103,11 +101,11 @@ capture_changes : (s : Session) (name : List ℕ) (target : Target) (place : Pla
 capture_changes s name target place moment template initial None is = inr (λ touched files accepts. absurd (cc))
 capture_changes s name target place moment template initial (Some text) is = entry_changes s name target place moment (new_entry moment template initial) text (text_named s.names s.files name text is)
 
-within_changes : (s : Session) (name : List ℕ) (said : Result Document MoveFault) → is_name s.names name ≡ true → IsChanging s (with_moved s (text_within name) said)
+within_changes : (s : Session) (name : List ℕ) (said : Result Document Refusal) → is_name s.names name ≡ true → IsChanging s (with_moved s (text_within name) said)
 within_changes s name (Err why) own = inr (λ touched files accepts. absurd (cc))
 within_changes s name (Ok new) own = changes_one s name (print new) own
 
-across_changes : (s : Session) (name to_file : List ℕ) (said : Result Moved MoveFault) → is_name s.names name ≡ true → is_name s.names to_file ≡ true → IsChanging s (with_moved s (texts_across name to_file) said)
+across_changes : (s : Session) (name to_file : List ℕ) (said : Result Moved Refusal) → is_name s.names name ≡ true → is_name s.names to_file ≡ true → IsChanging s (with_moved s (texts_across name to_file) said)
 across_changes s name to_file (Err why) own to_own = inr (λ touched files accepts. absurd (cc))
 across_changes s name to_file (Ok new) own to_own = changes_across s name to_file new own to_own
 
@@ -122,7 +120,7 @@ refile_changes s name path to_file to place (Some text) (Some target) is to_is =
       | inr f ↦ rw f (across_changes s name to_file (refile_across s.states path (tree text) s.states to (tree target) place) own (text_named s.names s.files to_file target to_is))
     ]
 
-state_changes : (s : Session) (name : List ℕ) (said : Result (Option Document) StateFault) → is_name s.names name ≡ true → IsChanging s (with_state s name said)
+state_changes : (s : Session) (name : List ℕ) (said : Result (Option Document) Refusal) → is_name s.names name ≡ true → IsChanging s (with_state s name said)
 state_changes s name (Err why) own = inr (λ touched files accepts. absurd (cc))
 state_changes s name (Ok None) own = inl ([], tt, refl)
 state_changes s name (Ok (Some new)) own = changes_one s name (print new) own
@@ -139,7 +137,7 @@ archive_to_changes s name path moment text to (Some target) own is = elim (cases
   | inr f ↦ rw f (across_changes s name to.file (archive_across s.states name path moment (tree text) s.states to (tree target)) own (text_named s.names s.files to.file target is))
 ]
 
-archive_at_changes : (s : Session) (name : List ℕ) (path : List Step) (moment : Moment) (text : List ℕ) (to : Result Destination MoveFault) → is_name s.names name ≡ true → IsChanging s (archive_at s name path moment text to)
+archive_at_changes : (s : Session) (name : List ℕ) (path : List Step) (moment : Moment) (text : List ℕ) (to : Result Destination Refusal) → is_name s.names name ≡ true → IsChanging s (archive_at s name path moment text to)
 archive_at_changes s name path moment text (Err why) own = inr (λ touched files accepts. absurd (cc))
 archive_at_changes s name path moment text (Ok to) own = archive_to_changes s name path moment text to (text_at s.names s.files to.file) own refl
 
@@ -147,7 +145,7 @@ archive_changes : (s : Session) (name : List ℕ) (path : List Step) (moment : M
 archive_changes s name path moment None is = inr (λ touched files accepts. absurd (cc))
 archive_changes s name path moment (Some text) is = archive_at_changes s name path moment text (location s.states name path text) (text_named s.names s.files name text is)
 
-clock_moved_changes : (s : Session) (other name : List ℕ) (said : Result Moved StateFault) → is_name s.names other ≡ true → is_name s.names name ≡ true → IsChanging s (with_clock_moved s other name said)
+clock_moved_changes : (s : Session) (other name : List ℕ) (said : Result Moved Refusal) → is_name s.names other ≡ true → is_name s.names name ≡ true → IsChanging s (with_clock_moved s other name said)
 clock_moved_changes s other name (Err why) other_own own = inr (λ touched files accepts. absurd (cc))
 clock_moved_changes s other name (Ok new) other_own own = changes_across s other name new other_own own
 

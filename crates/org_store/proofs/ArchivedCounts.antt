@@ -12,7 +12,7 @@ use Rattle.org_outline.specs.declared.paths.PathFault.{PathFault}
 use Rattle.org_outline.specs.Paths.{find_path}
 use Rattle.org_outline.specs.Tree.{Document, print, tree}
 use Rattle.org_outline.proofs.Trees.{tree-is}
-use Rattle.org_move.specs.declared.fault.MoveFault.{MoveFault}
+use Rattle.org_fault.specs.declared.refusal.Refusal.{Refusal}
 use Rattle.org_move.specs.Archive.{archive_across, archive_within, target_heading, with_heading}
 use Rattle.org_move.specs.Location.{Destination, location}
 use Rattle.org_move.specs.Refile.{Moved}
@@ -29,7 +29,7 @@ use Rattle.org_commands.specs.Session.{Session}
 use Rattle.org_store.proofs.NodeCounts.{accepted_are, again, still_at, still_long, sum_put, weight}
 
 -- the heading of a place where something was made
-heading_at : {A : Type 0} (said : Result (Option ℕ) PathFault) (make : Option ℕ → Result A MoveFault) (x : A) → with_heading said make ≡ Ok x → (up : Option ℕ) × (said ≡ Ok up)
+heading_at : {A : Type 0} (said : Result (Option ℕ) PathFault) (make : Option ℕ → Result A Refusal) (x : A) → with_heading said make ≡ Ok x → (up : Option ℕ) × (said ≡ Ok up)
 heading_at (Ok up) make x is = (up, refl)
 heading_at (Err fault) make x is = absurd cc
 
@@ -37,7 +37,7 @@ module _ (s : Session) (apart : IsDistinct bytes_eq s.names) (each : length s.fi
   line : IsLine file
   line = name_line file named
 
-  within_archives : (text : List ℕ) (to : Destination) {touched : List (List ℕ)} (files : List (List ℕ)) (said : Result Document MoveFault) → file ≡ to.file → text_at s.names s.files file ≡ Some text → location s.states file path text ≡ Ok to
+  within_archives : (text : List ℕ) (to : Destination) {touched : List (List ℕ)} (files : List (List ℕ)) (said : Result Document Refusal) → file ≡ to.file → text_at s.names s.files file ≡ Some text → location s.states file path text ≡ Ok to
       → archive_within s.states file path now to (tree text) ≡ said → with_moved s (text_within file) said ≡ Accepts touched files → ArchivesOne s file path now files
   within_archives text to files (Err why) own at place is accepts = absurd (cc)
   within_archives text to files (Ok new) own at place is accepts =
@@ -65,7 +65,7 @@ module _ (s : Session) (apart : IsDistinct bytes_eq s.names) (each : length s.fi
         );
       }
 
-  across_archives : (text target : List ℕ) (to : Destination) {touched : List (List ℕ)} (files : List (List ℕ)) (said : Result Moved MoveFault) → file ≢ to.file → text_at s.names s.files file ≡ Some text
+  across_archives : (text target : List ℕ) (to : Destination) {touched : List (List ℕ)} (files : List (List ℕ)) (said : Result Moved Refusal) → file ≢ to.file → text_at s.names s.files file ≡ Some text
       → text_at s.names s.files to.file ≡ Some target → location s.states file path text ≡ Ok to → archive_across s.states file path now (tree text) s.states to (tree target) ≡ said
       → with_moved s (texts_across file to.file) said ≡ Accepts touched files → ArchivesOne s file path now files
   across_archives text target to files (Err why) different at there place is accepts = absurd (cc)
@@ -106,7 +106,7 @@ module _ (s : Session) (apart : IsDistinct bytes_eq s.names) (each : length s.fi
     | inr not ↦ let f = not.1 in across_archives text target to files (archive_across s.states file path now (tree text) s.states to (tree target)) not.0 at there place refl (rw f at accepts)
   ]
 
-  at_archives : (text : List ℕ) (said : Result Destination MoveFault) {touched : List (List ℕ)} (files : List (List ℕ)) → text_at s.names s.files file ≡ Some text → location s.states file path text ≡ said
+  at_archives : (text : List ℕ) (said : Result Destination Refusal) {touched : List (List ℕ)} (files : List (List ℕ)) → text_at s.names s.files file ≡ Some text → location s.states file path text ≡ said
       → archive_at s file path now text said ≡ Accepts touched files → ArchivesOne s file path now files
   at_archives text (Err why) files at place accepts = absurd (cc)
   at_archives text (Ok to) files at place accepts = to_archives text to (text_at s.names s.files to.file) files at place refl accepts

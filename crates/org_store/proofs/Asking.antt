@@ -11,20 +11,18 @@ use Rattle.org_outline.specs.Paths.{find_path}
 use Rattle.org_outline.specs.Tree.{Document, Node, print, tree}
 use Rattle.org_splice.specs.Replaced.{replaced}
 use Rattle.org_stamp.specs.Calendar.{Moment}
-use Rattle.org_capture.specs.declared.fault.CaptureFault.{CaptureFault}
 use Rattle.org_capture.specs.declared.target.Target.{Target}
 use Rattle.org_capture.specs.Capture.{captured}
-use Rattle.org_move.specs.declared.fault.MoveFault.{MoveFault}
 use Rattle.org_move.specs.Archive.{archive_across, archive_within}
 use Rattle.org_move.specs.Location.{Destination, location}
 use Rattle.org_move.specs.Refile.{Moved, refile_across, refile_within}
-use Rattle.org_state.specs.declared.fault.StateFault.{StateFault}
 use Rattle.org_state.specs.declared.run.Running.{Running}
 use Rattle.org_state.specs.Clock.{clocked_at}
 use Rattle.org_state.specs.Todo.{todo as in_state}
 use Rattle.org_commands.specs.declared.command.Command.{Command}
 use Rattle.org_commands.specs.declared.command.Command.TheVariants.{Capture, Refile, Todo, ClockIn, ClockOut, Archive, Edit, Time, Show, Settle}
-use Rattle.org_commands.specs.declared.command.Refusal.TheVariants.{TooLarge}
+use Rattle.org_fault.specs.declared.refusal.Refusal.{Refusal}
+use Rattle.org_fault.specs.declared.refusal.Refusal.TheVariants.{TooLarge}
 use Rattle.org_commands.specs.declared.command.Reply.{Reply}
 use Rattle.org_commands.specs.declared.command.Reply.TheVariants as reply
 use Rattle.org_commands.specs.declared.command.RunFault.{RunFault}
@@ -60,11 +58,11 @@ changed_else s changes = go (has_large changes) (s.accepted == 2 ^ 64 - 1)
     go false true asks = absurd (cc)
     go false false asks = absurd (cc)
 
-document_else : (s : Session) (name : List ℕ) (made : Result Document CaptureFault) → IsElse (with_document s name made)
+document_else : (s : Session) (name : List ℕ) (made : Result Document Refusal) → IsElse (with_document s name made)
 document_else s name (Err why) asks = absurd (cc)
 document_else s name (Ok new) asks = changed_else s ((name, print new) ∷ []) asks
 
-entry_else : (s : Session) (name : List ℕ) (target : Target) (place : Place) (moment : Moment) (entry : Result Node CaptureFault) (text : List ℕ) → IsElse (with_entry s name target place moment entry text)
+entry_else : (s : Session) (name : List ℕ) (target : Target) (place : Place) (moment : Moment) (entry : Result Node Refusal) (text : List ℕ) → IsElse (with_entry s name target place moment entry text)
 entry_else s name target place moment (Err why) text asks = absurd (cc)
 entry_else s name target place moment (Ok entry) text asks = document_else s name (captured s.states target place moment entry (tree text)) asks
 
@@ -72,11 +70,11 @@ capture_else : (s : Session) (name : List ℕ) (target : Target) (place : Place)
 capture_else s name target place moment template initial None asks = absurd (cc)
 capture_else s name target place moment template initial (Some text) asks = entry_else s name target place moment (new_entry moment template initial) text asks
 
-within_else : (s : Session) (name : List ℕ) (made : Result Document MoveFault) → IsElse (with_moved s (text_within name) made)
+within_else : (s : Session) (name : List ℕ) (made : Result Document Refusal) → IsElse (with_moved s (text_within name) made)
 within_else s name (Err why) asks = absurd (cc)
 within_else s name (Ok new) asks = changed_else s (text_within name new) asks
 
-across_else : (s : Session) (name to_file : List ℕ) (made : Result Moved MoveFault) → IsElse (with_moved s (texts_across name to_file) made)
+across_else : (s : Session) (name to_file : List ℕ) (made : Result Moved Refusal) → IsElse (with_moved s (texts_across name to_file) made)
 across_else s name to_file (Err why) asks = absurd (cc)
 across_else s name to_file (Ok new) asks = changed_else s (texts_across name to_file new) asks
 
@@ -88,7 +86,7 @@ refile_else s name path to_file to place (Some text) (Some target) asks =
     let across = refile_across s.states path (tree text) s.states to (tree target) place in
     either (bytes_eq name to_file) (with_moved s (text_within name) within) (with_moved s (texts_across name to_file) across) (within_else s name within) (across_else s name to_file across) asks
 
-state_else : (s : Session) (name : List ℕ) (made : Result (Option Document) StateFault) → IsElse (with_state s name made)
+state_else : (s : Session) (name : List ℕ) (made : Result (Option Document) Refusal) → IsElse (with_state s name made)
 state_else s name (Err why) asks = absurd (cc)
 state_else s name (Ok None) asks = changed_else s [] asks
 state_else s name (Ok (Some new)) asks = changed_else s ((name, print new) ∷ []) asks
@@ -104,7 +102,7 @@ archive_to_else s name path moment text to (Some target) asks =
     let across = archive_across s.states name path moment (tree text) s.states to (tree target) in
     either (bytes_eq name to.file) (with_moved s (text_within name) within) (with_moved s (texts_across name to.file) across) (within_else s name within) (across_else s name to.file across) asks
 
-archive_at_else : (s : Session) (name : List ℕ) (path : List PathStep) (moment : Moment) (text : List ℕ) (to : Result Destination MoveFault) → IsElse (archive_at s name path moment text to)
+archive_at_else : (s : Session) (name : List ℕ) (path : List PathStep) (moment : Moment) (text : List ℕ) (to : Result Destination Refusal) → IsElse (archive_at s name path moment text to)
 archive_at_else s name path moment text (Err why) asks = absurd (cc)
 archive_at_else s name path moment text (Ok to) asks = archive_to_else s name path moment text to (text_at s.names s.files to.file) asks
 
@@ -112,7 +110,7 @@ archive_else : (s : Session) (name : List ℕ) (path : List PathStep) (moment : 
 archive_else s name path moment None asks = absurd (cc)
 archive_else s name path moment (Some text) asks = archive_at_else s name path moment text (location s.states name path text) asks
 
-clock_moved_else : (s : Session) (other name : List ℕ) (made : Result Moved StateFault) → IsElse (with_clock_moved s other name made)
+clock_moved_else : (s : Session) (other name : List ℕ) (made : Result Moved Refusal) → IsElse (with_clock_moved s other name made)
 clock_moved_else s other name (Err why) asks = absurd (cc)
 clock_moved_else s other name (Ok new) asks = changed_else s (texts_across other name new) asks
 

@@ -11,11 +11,11 @@ use Rattle.org_outline.specs.declared.moves.Place.{Place}
 use Rattle.org_outline.specs.Tree.{Document, IsValid, print, tree}
 use Rattle.org_outline.proofs.Trees.{tree-is}
 use Rattle.org_outline.proofs.Valid.{tree-print}
-use Rattle.org_move.specs.declared.fault.MoveFault.{MoveFault}
+use Rattle.org_fault.specs.declared.refusal.Refusal.{Refusal}
 use Rattle.org_move.specs.Counts.{count_in, count_over}
 use Rattle.org_move.specs.Refile.{Moved, refile_across, refile_within}
 use Rattle.org_move.proofs.Kept.{across_counts, across_valid, within_counts, within_valid}
-use Rattle.org_commands.specs.declared.command.Refusal.TheVariants.{TooLarge}
+use Rattle.org_fault.specs.declared.refusal.Refusal.TheVariants.{TooLarge}
 use Rattle.org_commands.specs.Files.{has_large}
 use Rattle.org_commands.specs.InOrder.{is_name, text_at, with_all, with_text}
 use Rattle.org_commands.specs.Outcome.{Accepts, Refuses, changed, refile, with_moved}
@@ -97,7 +97,7 @@ module _ (s : Session) (apart : IsDistinct bytes_eq s.names) (each : length s.fi
   pub again : (d : Document) → IsValid d → weight (print d) ≡ count_in rest section d
   again d valid = ap (count_in rest section) (tree-print d valid)
 
-  within_keeps : (file : List ℕ) (path to : List Step) (place : Place) (text : List ℕ) {touched : List (List ℕ)} (files : List (List ℕ)) (said : Result Document MoveFault) → text_at s.names s.files file ≡ Some text
+  within_keeps : (file : List ℕ) (path to : List Step) (place : Place) (text : List ℕ) {touched : List (List ℕ)} (files : List (List ℕ)) (said : Result Document Refusal) → text_at s.names s.files file ≡ Some text
       → refile_within s.states path to place (tree text) ≡ said → with_moved s (text_within file) said ≡ Accepts touched files → count_over rest section files ≡ count_over rest section s.files
   within_keeps file path to place text files (Err why) at is accepts = absurd (cc)
   within_keeps file path to place text files (Ok new) at is accepts =
@@ -110,7 +110,7 @@ module _ (s : Session) (apart : IsDistinct bytes_eq s.names) (each : length s.fi
         within_counts s.states path to place (tree text) new is rest section,
       )
 
-  across_keeps : (file : List ℕ) (path : List Step) (to_file : List ℕ) (to : List Step) (place : Place) (text target : List ℕ) {touched : List (List ℕ)} (files : List (List ℕ)) (said : Result Moved MoveFault) → file ≢ to_file
+  across_keeps : (file : List ℕ) (path : List Step) (to_file : List ℕ) (to : List Step) (place : Place) (text target : List ℕ) {touched : List (List ℕ)} (files : List (List ℕ)) (said : Result Moved Refusal) → file ≢ to_file
       → text_at s.names s.files file ≡ Some text → text_at s.names s.files to_file ≡ Some target → refile_across s.states path (tree text) s.states to (tree target) place ≡ said
       → with_moved s (texts_across file to_file) said ≡ Accepts touched files → count_over rest section files ≡ count_over rest section s.files
   across_keeps file path to_file to place text target files (Err why) different at there is accepts = absurd (cc)

@@ -4,9 +4,8 @@ ghost use Rattle.std.specs.Prelude.{◌≡◌};
 ghost use Rattle.org_splice.specs.Lines.{terminated};
 
 use crate::shared::{becomes, now, states, titles};
-use org_meta::{
-    MetaFault, add_note, property, put_property, repeat_planning, sections, set_closed,
-};
+use org_fault::{Fault, Refusal};
+use org_meta::{add_note, property, put_property, repeat_planning, sections, set_closed};
 use org_outline::{Outline, is_terminated};
 use org_splice::Edit;
 use org_stamp::Moment;
@@ -75,7 +74,7 @@ fn are_parts(section: &[u8], planning: &[u8], drawer: &[u8], rest: &[u8]) -> boo
 fn is_odd(alloc: Global, section: &[u8], now: Moment) -> bool
     requires { terminated section.now ≡ section.now }
 {
-    let odd = Some(MetaFault::OddPlanning);
+    let odd = Some(Fault::Refused(Refusal::OddPlanning));
     repeat_planning(alloc, section, now).err() == odd
         && set_closed(alloc, section, now).err() == odd
 }

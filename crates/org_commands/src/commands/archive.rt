@@ -16,12 +16,13 @@ ghost use Rattle.org_commands.specs.Reading.{OnlyReads};
 ghost use Rattle.org_commands.specs.Refile.{MakesDocument, MakesDocuments};
 ghost use Rattle.org_commands.specs.Session.{BetweenSessions};
 
-use crate::command::{Archive, Command, Refusal, RunFault};
+use crate::command::{Archive, Command, RunFault};
 use crate::commands::outline::{heading_at, outline_of};
 use crate::commands::plans::{plan_of_two, plan_of_two_edits};
 use crate::files::Files;
 use org_disk::{Disk, FileName};
-use org_move::{Location, MoveFault, archive, archive_within, location_searched};
+use org_fault::{Fault, Refusal};
+use org_move::{Location, archive, archive_within, location_searched};
 use org_outline::{Node, Outline, States};
 use org_texts::{NameOf, Plan};
 
@@ -41,7 +42,7 @@ fn find_location<D: Disk>(
     states: &States,
     command: &Archive,
     node: Node,
-) -> Result<Location, MoveFault>
+) -> Result<Location, Fault<Refusal>>
     requires ready { AreReady (command.now.file ∷ []) files.old.held }
     requires heading { HasHeading files.old.held.now command.now.file node }
     ensures place { let seen = bytes_or [] (text_of files.new.held.now command.now.file) in
@@ -68,7 +69,7 @@ fn plan_within<'a, D: Disk>(
     command: &'a Archive,
     node: Node,
     to: &Location,
-) -> Result<Plan<'a>, MoveFault>
+) -> Result<Plan<'a>, Fault<Refusal>>
     requires ready { IsReady command.now.file files.now.held }
     requires heading { HasHeading files.now.held.now command.now.file node }
     ensures { let seen = bytes_or [] (text_of files.now.held.now command.now.file) in
@@ -89,7 +90,7 @@ fn plan_across<'a, D: Disk>(
     command: &'a Archive,
     node: Node,
     to: &Location,
-) -> Result<Plan<'a>, MoveFault>
+) -> Result<Plan<'a>, Fault<Refusal>>
     requires source { IsReady command.now.file files.now.held }
     requires target { IsReady to.now.file files.now.held }
     requires heading { HasHeading files.now.held.now command.now.file node }

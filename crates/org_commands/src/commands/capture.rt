@@ -18,15 +18,16 @@ use crate::command::{Capture, Command, RunFault};
 use crate::commands::outline::outline_of;
 use crate::commands::plans::plan_of_one;
 use crate::files::Files;
-use org_capture::{CaptureFault, capture, entry, expand};
+use org_capture::{capture, entry, expand};
 use org_disk::Disk;
+use org_fault::{Fault, Refusal};
 use org_outline::States;
 use org_splice::Edit;
 use org_texts::{Held, NameOf, Plan};
 use std::alloc::Global;
 
 /// The entry that the template of a capture stands for.
-fn new_entry(alloc: Global, command: &Capture<'_>) -> Result<Vec<u8>, CaptureFault>
+fn new_entry(alloc: Global, command: &Capture<'_>) -> Result<Vec<u8>, Fault<Refusal>>
     ensures { MakesEntry
         (new_entry command.now.moment command.now.template command.now.initial) result }
 {
@@ -42,7 +43,7 @@ fn insertion(
     held: &Held,
     command: &Capture<'_>,
     entry: Vec<u8>,
-) -> Result<Edit, CaptureFault>
+) -> Result<Edit, Fault<Refusal>>
     requires ready { held.now.ready ≡ true }
     requires entry { (node : Node) × IsEntry entry.items node }
     ensures { (node : Node) → IsEntry entry.items node

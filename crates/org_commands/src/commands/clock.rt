@@ -18,16 +18,17 @@ ghost use Rattle.org_commands.specs.Reading.{OnlyReads};
 ghost use Rattle.org_commands.specs.Session.{BetweenSessions};
 ghost use Rattle.org_commands.specs.Todo.{PlansState};
 
-use crate::command::{ClockIn, Command, Refusal, RunFault};
+use crate::command::{ClockIn, Command, RunFault};
 use crate::commands::outline::{heading_at, outline_of};
 use crate::commands::plans::{plan_of, plan_of_one, plan_of_two};
 use crate::commands::refile::both_ready;
 use crate::commands::running::{Clock, running_clock};
 use crate::files::Files;
 use org_disk::Disk;
+use org_fault::{Fault, Refusal};
 use org_outline::{Node, States};
 use org_stamp::Moment;
-use org_state::{Running, StateFault, clock_in, clock_out, switch_clock};
+use org_state::{Running, clock_in, clock_out, switch_clock};
 use org_texts::{Held, NameOf, Plan};
 use std::alloc::Global;
 
@@ -39,7 +40,7 @@ fn plan_start<'a>(
     held: &Held,
     command: &'a ClockIn,
     node: Node,
-) -> Result<Option<Plan<'a>>, StateFault>
+) -> Result<Option<Plan<'a>>, Fault<Refusal>>
     requires ready { held.now.ready ≡ true }
     requires node { node < node_count (tree held.now.text.bytes) }
     ensures { PlansState command.now.file held.now.text.bytes
@@ -58,7 +59,7 @@ fn plan_switch<'a>(
     command: &'a ClockIn,
     node: Node,
     running: Running,
-) -> Result<Option<Plan<'a>>, StateFault>
+) -> Result<Option<Plan<'a>>, Fault<Refusal>>
     requires ready { held.now.ready ≡ true }
     requires node { node < node_count (tree held.now.text.bytes) }
     requires runs { running_in (tree held.now.text.bytes) ≡ Some running }
@@ -79,7 +80,7 @@ fn plan_in_text<'a>(
     command: &'a ClockIn,
     node: Node,
     running: Option<Running>,
-) -> Result<Option<Plan<'a>>, StateFault>
+) -> Result<Option<Plan<'a>>, Fault<Refusal>>
     requires ready { held.now.ready ≡ true }
     requires node { node < node_count (tree held.now.text.bytes) }
     requires runs { ForSome running
@@ -100,7 +101,7 @@ fn plan_stop<'a>(
     held: &Held,
     clock: &Clock,
     moment: Moment,
-) -> Result<Option<Plan<'a>>, StateFault>
+) -> Result<Option<Plan<'a>>, Fault<Refusal>>
     requires ready { held.now.ready ≡ true }
     requires runs { running_in (tree held.now.text.bytes) ≡ Some clock.now.running }
     ensures { PlansState clock.now.file held.now.text.bytes
@@ -126,7 +127,7 @@ fn plan_move<'a>(
     clock: &Clock,
     command: &'a ClockIn,
     node: Node,
-) -> Result<Plan<'a>, StateFault>
+) -> Result<Plan<'a>, Fault<Refusal>>
     requires other { other.now.ready ≡ true }
     requires ready { held.now.ready ≡ true }
     requires node { node < node_count (tree held.now.text.bytes) }

@@ -11,10 +11,11 @@ ghost use Rattle.org_commands.specs.Files.{AreReadyForCommand};
 ghost use Rattle.org_commands.specs.Outcome.{outcome};
 ghost use Rattle.org_commands.specs.Planning.{PlansAs};
 
-use crate::command::{Command, Edit, Refusal, RunFault};
+use crate::command::{Command, Edit, RunFault};
 use crate::commands::plans::plan_of_one;
 use crate::files::Files;
 use org_disk::Disk;
+use org_fault::Refusal;
 use org_splice::{Bytes, Edit as Splice};
 use org_texts::{NameOf, Plan};
 use std::alloc::Global;

@@ -15,7 +15,8 @@ use crate::commands::outline::outline_of;
 use crate::commands::plans::{plan_of_two, plan_of_two_edits};
 use crate::files::Files;
 use org_disk::{Disk, FileName};
-use org_move::{MoveFault, refile_across, refile_within};
+use org_fault::{Fault, Refusal};
+use org_move::{refile_across, refile_within};
 use org_outline::States;
 use org_texts::{Held, NameOf, Plan};
 use std::alloc::Global;
@@ -26,7 +27,7 @@ fn plan_within<'a>(
     states: &States,
     held: &Held,
     command: &'a Refile,
-) -> Result<Plan<'a>, MoveFault>
+) -> Result<Plan<'a>, Fault<Refusal>>
     requires ready { held.now.ready ≡ true }
     ensures { IsMadeAs (refile_within states.now command.now.path command.now.to_path
         command.now.place (tree held.now.text.bytes))
@@ -51,7 +52,7 @@ fn plan_across<'a>(
     source: &Held,
     target: &Held,
     command: &'a Refile,
-) -> Result<Plan<'a>, MoveFault>
+) -> Result<Plan<'a>, Fault<Refusal>>
     requires source { source.now.ready ≡ true }
     requires target { target.now.ready ≡ true }
     ensures { IsMadeAs (refile_across states.now command.now.path (tree source.now.text.bytes)

@@ -12,8 +12,9 @@ use crate::commands::outline::outline_of;
 use crate::commands::plans::plan_of;
 use crate::files::Files;
 use org_disk::Disk;
+use org_fault::{Fault, Refusal};
 use org_outline::States;
-use org_state::{StateFault, todo};
+use org_state::todo;
 use org_texts::{Held, Plan};
 use std::alloc::Global;
 
@@ -24,7 +25,7 @@ fn plan_state<'a>(
     states: &States,
     held: &Held,
     command: &'a Todo<'_>,
-) -> Result<Option<Plan<'a>>, StateFault>
+) -> Result<Option<Plan<'a>>, Fault<Refusal>>
     requires ready { held.now.ready ≡ true }
     ensures { PlansState command.now.file held.now.text.bytes
         (todo states.now command.now.path command.now.state command.now.moment

@@ -1,5 +1,5 @@
 //! Timestamps that are printed, and that are repeated.
-use org_stamp::{RepeatFault, Stamp};
+use org_stamp::Stamp;
 use std::alloc::Global;
 use std::process::Abort;
 
@@ -146,13 +146,11 @@ fn prints(rt: &impl Abort, alloc: Global, stamp: &Stamp<'_>, text: &str) -> bool
     stamp.print(alloc).expect(rt, "memory").as_slice() == text.as_bytes()
 }
 
-/// Whether a timestamp, repeated at a moment, becomes this one, or is refused by the fault of this
-/// name.
+/// Whether a timestamp, repeated at a moment, becomes this one, or is refused by this name.
 fn becomes(rt: &impl Abort, alloc: Global, given: &str, now: &str, wanted: &str) -> bool {
     match stamp(rt, given).repeat(stamp(rt, now).moment()) {
         Ok(stamp) => prints(rt, alloc, &stamp, wanted),
-        Err(RepeatFault::BadRepeat) => wanted == "BadRepeat",
-        Err(RepeatFault::DateRange) => wanted == "DateRange",
+        Err(refusal) => refusal.name() == wanted,
     }
 }
 

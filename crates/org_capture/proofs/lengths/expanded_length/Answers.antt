@@ -1,7 +1,9 @@
 use Rattle.std.proofs.Common.{◌≡◌, ◌∙◌, ◌++◌, ℕ, List, Option, None, Result, Err, refl, sym, ap}
 use Rattle.std.proofs.lemmas.Result.{err_from_is_err_and}
-use Rattle.org_capture.specs.declared.fault.CaptureFault.{CaptureFault}
-use Rattle.org_capture.specs.declared.fault.CaptureFault.TheVariants.{BadTemplate, BadEntry, NotFound, NotUnique, OutOfMemory}
+use Rattle.org_fault.specs.declared.fault.Fault.{Fault}
+use Rattle.org_fault.specs.declared.fault.Fault.TheVariants.{OutOfMemory, Refused}
+use Rattle.org_fault.specs.declared.refusal.Refusal.{Refusal}
+use Rattle.org_fault.specs.declared.refusal.Refusal.TheVariants.{BadTemplate}
 use Rattle.org_capture.specs.Template.{filled, pieces_of}
 use Rattle.org_capture.specs.declared.lengths.Sizes.{Sizes}
 use Rattle.org_capture.specs.Lengths.{AnswersLength, Grows}
@@ -9,11 +11,8 @@ use Rattle.org_capture.proofs.Filling.{fills, fills_badly}
 use Rattle.org_capture.proofs.lengths.expanded_length.Goals as goal
 
 -- a length that isn't told: the template is bad, or memory ran out
-not_filled : (more : Option (List ℕ)) (whole : Result (List ℕ) CaptureFault) (text : List ℕ) (r : Result ℕ CaptureFault) (fault same : CaptureFault) → r ≡ Err same → same ≡ fault → Grows more text (Err fault) → (more ≡ None → whole ≡ Err BadTemplate) → AnswersLength whole r
-not_filled more whole text r BadTemplate same is e none bad = rw (is, e) (bad none)
-not_filled more whole text r BadEntry same is e none bad = absurd none
-not_filled more whole text r NotFound same is e none bad = absurd none
-not_filled more whole text r NotUnique same is e none bad = absurd none
+not_filled : (more : Option (List ℕ)) (whole : Result (List ℕ) Refusal) (text : List ℕ) (r : Result ℕ (Fault Refusal)) (fault same : Fault Refusal) → r ≡ Err same → same ≡ fault → Grows more text (Err fault) → (more ≡ None → whole ≡ Err BadTemplate) → AnswersLength whole r
+not_filled more whole text r (Refused why) same is e none bad = rw (is, e, none.0) (bad none.1)
 not_filled more whole text r OutOfMemory same is e none bad = rw (is, e) tt
 
 pub returns-in_default : goal.returns-in_default

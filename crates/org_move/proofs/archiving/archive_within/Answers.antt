@@ -1,17 +1,18 @@
 use Rattle.std.proofs.Common.{ℕ, List, Option, Err, ap, ◌∙◌, subst, sym}
 use Rattle.std.specs.Prelude.{IsErrAnd, Result}
 use Rattle.std.proofs.lemmas.Result.{err_from_is_err_and}
+use Rattle.org_fault.specs.declared.fault.Fault.{Fault}
+use Rattle.org_fault.specs.declared.refusal.Refusal.{Refusal}
 use Rattle.org_splice.specs.Edits.{AreEdits}
 use Rattle.org_splice.specs.declared.edit.Edit.{Edit}
 use Rattle.org_outline.specs.Tree.{Document, Node, print, print_node, tree}
-use Rattle.org_move.specs.declared.fault.MoveFault.{MoveFault}
 use Rattle.org_move.specs.Answers.{IsMadeAs}
 use Rattle.org_move.specs.Archive.{archive_within_at, archived, filled}
 use Rattle.org_move.proofs.Within.{archived_within, not_apart, starved}
 use Rattle.org_move.proofs.archiving.archive_within.Goals as goal
 
 -- a fault that is handed on
-handed : {A B : Type 0} (said : Result B MoveFault) (Fits : B → A → Type 0) (P : MoveFault → Type 0) (r : Result A MoveFault) → IsErrAnd r P → ((fault : MoveFault) → P fault → IsMadeAs said Fits (Err fault)) → IsMadeAs said Fits r
+handed : {A B : Type 0} (said : Result B Refusal) (Fits : B → A → Type 0) (P : Fault Refusal → Type 0) (r : Result A (Fault Refusal)) → IsErrAnd r P → ((fault : Fault Refusal) → P fault → IsMadeAs said Fits (Err fault)) → IsMadeAs said Fits r
 handed said Fits P r is gives =
     let told = err_from_is_err_and r is in
     subst (IsMadeAs said Fits) (sym told.1) (gives told.0 told.2)
@@ -21,7 +22,7 @@ returns-in_err-up c =
     let outline = c.args.outline.now in
     let Fits : Document → List Edit → Type 0 = λ new edits. AreEdits edits outline.text (print new) in
     let said = archive_within_at outline.states c.args.name.now c.args.now c.args.to.now (tree outline.text) c.args.node in
-    handed said Fits _ c.from_residual-in_err-up.result c.from_residual-in_err-up.ensures.1 (λ fault is. subst (λ (f : MoveFault). IsMadeAs said Fits (Err f)) (sym is)
+    handed said Fits _ c.from_residual-in_err-up.result c.from_residual-in_err-up.ensures.1 (λ fault is. subst (λ (f : Fault Refusal). IsMadeAs said Fits (Err f)) (sym is)
     (not_apart outline.states c.args.name.now c.args.now c.args.to.now (tree outline.text) Fits _ c.args.node c.in_ok-target_heading.field-0 c.in_err-up.field-0.0
     c.target_heading.ensures.value c.in_ok-target_heading.was c.in_err-up.ensures.value))
 

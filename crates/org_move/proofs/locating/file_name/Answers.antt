@@ -12,7 +12,7 @@ returns-in-Ok-new c =
     (c.in-Ok-new.ensures.name ∙ same, rw (text, accepted) refl)
 
 pub returns-in_default : goal.returns-in_default
-returns-in_default c = rw (is_no_utf8 c.args.bytes.now c.in_default.ensures.cases.0) refl
+returns-in_default c = (refl, rw (is_no_utf8 c.args.bytes.now c.in_default.ensures.cases.0) refl)
 
 pub returns-in-Err-OutOfMemory : goal.returns-in-Err-OutOfMemory
 returns-in-Err-OutOfMemory c = tt

@@ -1,6 +1,6 @@
 use Rattle.std.proofs.Common.{◌≡◌, ℕ, List, ◌∷◌, ◌++◌, codes, subst, rules}
 use Rattle.std.specs.Fmt.{decimal}
-use Rattle.org_commands.specs.Refusals.{code_of, name_of}
+use Rattle.org_fault.specs.Refusals.{code_of, name_of}
 use Rattle.org_serve.specs.Writes.{Writes}
 use Rattle.org_serve.proofs.Pieces.{number_then}
 use Rattle.org_serve.proofs.replies.write_refusal.Goals as goal

@@ -1,23 +1,24 @@
 use Rattle.std.proofs.Common.{◌≡◌, ◌∙◌, ◌∷◌, [], ℕ, List, Result, Some, sym, ap, subst}
-use Rattle.org_outline.specs.Paths.{find_path}
+use Rattle.org_fault.specs.declared.refusal.Refusal.{Refusal}
+use Rattle.org_outline.specs.Paths.{find_path, refusal_of}
 use Rattle.org_outline.specs.Tree.{Document, tree}
 use Rattle.org_outline.proofs.Trees.{tree-terminated}
 use Rattle.org_texts.specs.Texts.{bytes_or}
-use Rattle.org_move.specs.declared.fault.MoveFault.{MoveFault}
 use Rattle.org_move.specs.Answers.{IsPlaceAs}
 use Rattle.org_move.specs.Location.{Destination}
+use Rattle.org_commands.specs.declared.command.RunFault.TheVariants.{Refused}
 use Rattle.org_commands.specs.Files.{AreReady, OpenFiles}
 use Rattle.org_commands.specs.Headings.{HasHeading}
 use Rattle.org_commands.specs.InOrder.{text_at}
-use Rattle.org_commands.specs.Keeping.{fault_of_move, fault_of_path}
-use Rattle.org_commands.specs.Outcome.{archive, archive_to, refusal_of_path}
+use Rattle.org_commands.specs.Keeping.{fault_of}
+use Rattle.org_commands.specs.Outcome.{archive, archive_to}
 use Rattle.org_commands.specs.Reading.{OnlyReads}
 use Rattle.org_commands.specs.Session.{Session}
 use Rattle.org_commands.proofs.Archives.{held_bytes, path_refused, place_found, place_is, place_refused, store_text}
 use Rattle.org_commands.proofs.MadeReady.{no_text_of, one_is_ready, one_ready, plans_not_fit, plans_then, session_in, still_named}
 use Rattle.org_commands.proofs.Plans.{one_name}
 use Rattle.org_commands.proofs.Reading.{only_reads_own, only_reads_then}
-use Rattle.org_commands.proofs.Faults.{move_own, refused_own}
+use Rattle.org_commands.proofs.Faults.{planned_own, refused_own}
 use Rattle.org_commands.proofs.Handing.{handed_on}
 use Rattle.org_commands.proofs.Planning.{plans_no_file, plans_no_read, plans_refused}
 use Rattle.org_commands.proofs.commands.archive.plan_archive.Goals as goal
@@ -45,9 +46,9 @@ returns-in_err-node g c = plans_refused g.D.Disk c.args.states.now _ c.from_resi
     let read = c.in_ok-ready.ensures.files.reads c.args.states.now tally honest in
     let own = store_text g.D.Disk c.args.states.now files tally s (k.file ∷ []) k.file read (one_ready k.file c.requires.between c.in_ok-ready.ensures.ready) (one_name k.file) (still_named k.file c.ready.ensures.files.disk.names c.in_ok-check_name.ensures) in
     let none = ap (λ (b : List ℕ). find_path c.args.states.now (tree b) k.path) (ap (bytes_or []) c.held.ensures.text) ∙ sym c.heading_at.ensures.value ∙ c.in_err-node.was in
-    plans_not_fit s (session_in g.D.Disk c.args.states.now files tally) (archive s k.file k.path k.moment (text_at s.names s.files k.file)) files.held (fault_of_path why) c.from_residual-in_err-node.result c.from_residual-in_err-node.ensures.1 read
+    plans_not_fit s (session_in g.D.Disk c.args.states.now files tally) (archive s k.file k.path k.moment (text_at s.names s.files k.file)) files.held (Refused (refusal_of why)) c.from_residual-in_err-node.result c.from_residual-in_err-node.ensures.1 read
     (path_refused s k.file k.path k.moment own.0 (held_bytes files.held k.file) why c.requires.between.unbroken own.1 own.2 none))
-    (only_reads_own c.from_residual-in_err-node.result (fault_of_path c.in_err-node.field-0.0) (handed_on c.from_residual-in_err-node.result _ c.from_residual-in_err-node.ensures.1) (refused_own (refusal_of_path c.in_err-node.field-0.0)) c.in_ok-ready.ensures.files.disk)
+    (only_reads_own c.from_residual-in_err-node.result (Refused (refusal_of c.in_err-node.field-0.0)) (handed_on c.from_residual-in_err-node.result _ c.from_residual-in_err-node.ensures.1) (refused_own (refusal_of c.in_err-node.field-0.0)) c.in_ok-ready.ensures.files.disk)
 
 pub find_location-requires-clause-ready : goal.find_location-requires-clause-ready
 find_location-requires-clause-ready g c = one_ready c.args.command.now.file c.requires.between c.in_ok-ready.ensures.ready
@@ -70,11 +71,11 @@ returns-in_err-to g c = plans_refused g.D.Disk c.args.states.now _ c.from_residu
     let told = archive s k.file k.path k.moment (text_at s.names s.files k.file) in
     let seen = held_bytes files.held k.file in
     let found = ap (λ (b : List ℕ). find_path c.args.states.now (tree b) k.path) (ap (λ (f : OpenFiles g.row.D.Denot). held_bytes f.held k.file) same ∙ ap (bytes_or []) c.held.ensures.text) ∙ sym c.heading_at.ensures.value ∙ c.in_ok-node.was in
-    let gives = subst (λ (r : Result Destination MoveFault). IsPlaceAs r c.find_location.result) (sym (place_is c.args.states.now k.file k.path seen c.in_ok-node.node found)) c.find_location.ensures.place in
-    plans_not_fit s (session_in g.D.Disk c.args.states.now files tally) told files.held (fault_of_move c.in_err-to.field-0.0) c.from_residual-in_err-to.result c.from_residual-in_err-to.ensures.1 read
+    let gives = subst (λ (r : Result Destination Refusal). IsPlaceAs r c.find_location.result) (sym (place_is c.args.states.now k.file k.path seen c.in_ok-node.node found)) c.find_location.ensures.place in
+    plans_not_fit s (session_in g.D.Disk c.args.states.now files tally) told files.held (fault_of c.in_err-to.field-0.0) c.from_residual-in_err-to.result c.from_residual-in_err-to.ensures.1 read
     (place_refused s k.file k.path k.moment own.0 seen c.find_location.result c.in_err-to.field-0.0 c.requires.between.unbroken own.1 own.2 c.in_err-to.was gives))
     (subst (λ (f : OpenFiles g.row.D.Denot). OnlyReads g.D.Disk c.args.files.now f c.from_residual-in_err-to.result) (sym c.find_location.ensures.same)
-    (only_reads_own c.from_residual-in_err-to.result (fault_of_move c.in_err-to.field-0.0) (handed_on c.from_residual-in_err-to.result _ c.from_residual-in_err-to.ensures.1) (move_own c.in_err-to.field-0.0) c.in_ok-ready.ensures.files.disk))
+    (only_reads_own c.from_residual-in_err-to.result (fault_of c.in_err-to.field-0.0) (handed_on c.from_residual-in_err-to.result _ c.from_residual-in_err-to.ensures.1) (planned_own c.in_err-to.field-0.0) c.in_ok-ready.ensures.files.disk))
 
 pub plan_archive_to-requires-clause-ready : goal.plan_archive_to-requires-clause-ready
 plan_archive_to-requires-clause-ready g c =

@@ -2,15 +2,13 @@ use Rattle.std.proofs.Common.{◌≡◌, ◌∙◌, ◌∷◌, [], true, Ok, Err
 use Rattle.std.specs.Prelude.{IsErrOf}
 use Rattle.std.specs.Str.{bytes_eq}
 use Rattle.org_texts.specs.declared.plan.Plan.{Plan}
-use Rattle.org_move.specs.declared.fault.MoveFault.{MoveFault}
-use Rattle.org_move.specs.declared.fault.MoveFault.TheVariants as move
-use Rattle.org_commands.specs.declared.command.Refusal.{Refusal}
-use Rattle.org_commands.specs.declared.command.Refusal.TheVariants.{NoSuchFile}
+use Rattle.org_fault.specs.declared.refusal.Refusal.{Refusal}
+use Rattle.org_fault.specs.declared.refusal.Refusal.TheVariants.{NoSuchFile}
 use Rattle.org_commands.specs.declared.command.RunFault.TheVariants.{Refused, Device, Broken}
 use Rattle.org_commands.specs.InOrder.{is_name}
-use Rattle.org_commands.specs.Keeping.{fault_of_move}
+use Rattle.org_commands.specs.Keeping.{fault_of}
 use Rattle.org_commands.proofs.Archives.{across_fails, across_fits, across_planned, both_ready, heading_stays, no_place, target_is_ready, within_fails, within_fits, within_planned}
-use Rattle.org_commands.proofs.Faults.{fine_is_no_fault, no_value, other_fault}
+use Rattle.org_commands.proofs.Faults.{fine_is_no_fault, no_value, other_fault, planned_own}
 use Rattle.org_commands.proofs.Handing.{handed_on}
 use Rattle.org_commands.proofs.MadeReady.{no_text_of, plans_unread, session_in}
 use Rattle.org_commands.proofs.Plans.{is_ready, one_name, second_name}
@@ -20,12 +18,7 @@ use Rattle.org_commands.proofs.commands.archive.plan_archive_to.Goals as goal
 same_name : (file other to : List ℕ) → true ≡ bytes_eq file other → other ≡ to → file ≡ to
 same_name file other to test is = search rules
 
--- no fault of a move is the device's, or that the files were broken
-move_apart : (why : MoveFault) → (fault_of_move why ≡ Broken → ⊥) × (fault_of_move why ≡ Device → ⊥)
-move_apart move.OutOfMemory = (λ no. cc, λ no. cc)
-move_apart why = (λ no. cc, λ no. cc)
-
--- .. and no refusal is
+-- no refusal is the device's fault, or that the files were broken
 refused_apart : (why : Refusal) → (IsErrOf {T = Plan} (Err (Refused why)) Broken → ⊥) × (IsErrOf {T = Plan} (Err (Refused why)) Device → ⊥)
 refused_apart why = (λ no. cc, λ no. cc)
 
@@ -99,8 +92,8 @@ returns-in_err-plan_across-clause-plans g c tally honest text at found =
 pub returns-in_err-plan_across-clause-disk : goal.returns-in_err-plan_across-clause-disk
 returns-in_err-plan_across-clause-disk g c =
     let why = c.in_err-plan_across.field-0.0 in
-    let given : c.from_residual-in_err-plan_across.result ≡ Err (fault_of_move why) = handed_on c.from_residual-in_err-plan_across.result _ c.from_residual-in_err-plan_across.ensures.1 in
-    only_reads_fine (other_fault c.from_residual-in_err-plan_across.result (fault_of_move why) Broken given (move_apart why).0) (other_fault c.from_residual-in_err-plan_across.result (fault_of_move why) Device given (move_apart why).1) c.in_ok-ready.ensures.files.disk
+    let given : c.from_residual-in_err-plan_across.result ≡ Err (fault_of why) = handed_on c.from_residual-in_err-plan_across.result _ c.from_residual-in_err-plan_across.ensures.1 in
+    only_reads_fine (other_fault c.from_residual-in_err-plan_across.result (fault_of why) Broken given (planned_own why).0) (other_fault c.from_residual-in_err-plan_across.result (fault_of why) Device given (planned_own why).1) c.in_ok-ready.ensures.files.disk
 
 pub returns-clause-plan : goal.returns-clause-plan
 returns-clause-plan g c =
@@ -136,8 +129,8 @@ returns-in_err-plan_within-clause-plan g c = no_value _ c.from_residual.result _
 pub returns-in_err-plan_within-clause-disk : goal.returns-in_err-plan_within-clause-disk
 returns-in_err-plan_within-clause-disk g c =
     let why = c.in_err-plan_within.field-0.0 in
-    let given : c.from_residual.result ≡ Err (fault_of_move why) = handed_on c.from_residual.result _ c.from_residual.ensures.1 in
-    only_reads_none c.requires.unbroken (other_fault c.from_residual.result (fault_of_move why) Broken given (move_apart why).0) (other_fault c.from_residual.result (fault_of_move why) Device given (move_apart why).1)
+    let given : c.from_residual.result ≡ Err (fault_of why) = handed_on c.from_residual.result _ c.from_residual.ensures.1 in
+    only_reads_none c.requires.unbroken (other_fault c.from_residual.result (fault_of why) Broken given (planned_own why).0) (other_fault c.from_residual.result (fault_of why) Device given (planned_own why).1)
 
 pub returns-then-eq-clause-disk : goal.returns-then-eq-clause-disk
 returns-then-eq-clause-disk g c =

@@ -2,12 +2,12 @@ use Rattle.std.proofs.Common.{◌≡◌, [], Ok, Err, refl, ap, sym}
 use Rattle.std.specs.Option.{unwrap_or}
 use Rattle.org_commands.specs.InOrder.{text_at}
 use Rattle.org_commands.specs.declared.command.RunFault.TheVariants.{Device, Broken}
-use Rattle.org_commands.specs.Keeping.{fault_of_capture}
+use Rattle.org_commands.specs.Keeping.{fault_of}
 use Rattle.org_commands.specs.Outcome.{capture, with_entry}
 use Rattle.org_commands.proofs.Captures.{entry_is, entry_refused}
 use Rattle.org_commands.proofs.MadeReady.{has_text, no_text_of, plans_not_fit, plans_then, session_in}
 use Rattle.org_commands.proofs.Reading.{only_reads_none}
-use Rattle.org_commands.proofs.Faults.{capture_own, no_value, other_fault}
+use Rattle.org_commands.proofs.Faults.{no_value, other_fault, planned_own}
 use Rattle.org_commands.proofs.Handing.{handed_on}
 use Rattle.org_commands.proofs.Planning.{plans_no_file}
 use Rattle.org_commands.proofs.commands.capture.plan_capture.Goals as goal
@@ -26,12 +26,12 @@ returns-in_err-entry g c = record {
       let files = c.args.files.now in
       let s = session_in g.D.Disk c.args.states.now files tally in
       let told = capture s k.file k.target k.place k.moment k.template k.initial (text_at s.names s.files k.file) in
-      plans_not_fit s s told files.held (fault_of_capture c.in_err-entry.field-0.0) c.from_residual-in_err-entry.result c.from_residual-in_err-entry.ensures.1 refl
+      plans_not_fit s s told files.held (fault_of c.in_err-entry.field-0.0) c.from_residual-in_err-entry.result c.from_residual-in_err-entry.ensures.1 refl
       (entry_refused s k.file k.target k.place k.moment k.template k.initial (text_at s.names s.files k.file) c.new_entry.result c.in_err-entry.field-0.0 (has_text g.D.Disk files k.file (sym c.in_ok-check_name.ensures)) c.requires.between.unbroken c.in_err-entry.was c.new_entry.ensures);
   disk =
       let why = c.in_err-entry.field-0.0 in
-      let given : c.from_residual-in_err-entry.result ≡ Err (fault_of_capture why) = handed_on c.from_residual-in_err-entry.result _ c.from_residual-in_err-entry.ensures.1 in
-      only_reads_none c.requires.between.unbroken (other_fault c.from_residual-in_err-entry.result (fault_of_capture why) Broken given (capture_own why).0) (other_fault c.from_residual-in_err-entry.result (fault_of_capture why) Device given (capture_own why).1);
+      let given : c.from_residual-in_err-entry.result ≡ Err (fault_of why) = handed_on c.from_residual-in_err-entry.result _ c.from_residual-in_err-entry.ensures.1 in
+      only_reads_none c.requires.between.unbroken (other_fault c.from_residual-in_err-entry.result (fault_of why) Broken given (planned_own why).0) (other_fault c.from_residual-in_err-entry.result (fault_of why) Device given (planned_own why).1);
 }
 
 pub plan_entry-requires-clause-entry : goal.plan_entry-requires-clause-entry

@@ -1,7 +1,7 @@
-use Rattle.std.proofs.Common.{◌≡◌, ◌<◌, ◌∙◌, List, ℕ, [], ◌∷◌, Ok, refl, sym, subst}
+use Rattle.std.proofs.Common.{◌≡◌, ◌<◌, ◌∙◌, List, ℕ, [], ◌∷◌, Ok, sym, subst}
 use Rattle.std.specs.Prelude.{IsSomeAnd}
 use Rattle.org_outline.specs.Tree.{node_count, tree}
-use Rattle.org_state.specs.declared.fault.StateFault.TheVariants.{OutOfMemory}
+use Rattle.org_fault.specs.declared.fault.Fault.TheVariants.{OutOfMemory}
 use Rattle.org_commands.specs.Clocking.{clock_moved}
 use Rattle.org_commands.proofs.Clocks.{move_made, move_not_stopped, not_moved}
 use Rattle.org_commands.proofs.Refiles.{two_made}
@@ -17,7 +17,7 @@ returns-in_err-start c =
     let clock = a.clock.now in
     let other = a.other.now.text.bytes in
     let text = a.held.now.text.bytes in
-    not_moved clock.file a.command.now.file other text (clock_moved a.command.now.moment clock.running (tree other) (tree text) (Ok a.node)) c.from_residual.result OutOfMemory (handed_on c.from_residual.result OutOfMemory c.from_residual.ensures.1) (λ some. absurd (some refl))
+    not_moved clock.file a.command.now.file other text (clock_moved a.command.now.moment clock.running (tree other) (tree text) (Ok a.node)) c.from_residual.result OutOfMemory (handed_on c.from_residual.result OutOfMemory c.from_residual.ensures.1) (λ why is. absurd (cc))
 
 pub returns-in_err-stop : goal.returns-in_err-stop
 returns-in_err-stop c =

@@ -3,10 +3,10 @@ use Rattle.org_commands.proofs.Clocks.{still_runs, still_there}
 use Rattle.org_commands.proofs.MadeReady.{first_is_ready, second_is_ready, sees_two, two_ready}
 use Rattle.org_commands.proofs.Moving.{move_fails, move_fits, move_planned}
 use Rattle.org_commands.proofs.Plans.{first_name, second_name}
-use Rattle.org_commands.proofs.Faults.{no_value, state_own}
+use Rattle.org_commands.proofs.Faults.{no_value, planned_own}
 use Rattle.org_commands.proofs.Reading.{only_reads_ok, only_reads_own}
 use Rattle.org_commands.proofs.Handing.{handed_on}
-use Rattle.org_commands.specs.Keeping.{fault_of_state}
+use Rattle.org_commands.specs.Keeping.{fault_of}
 use Rattle.org_commands.proofs.Planning.{stays_no_read}
 use Rattle.org_commands.proofs.commands.clock.start_beside.Goals as goal
 
@@ -43,7 +43,7 @@ returns-in_err-plan g c = record {
       let both = sees_two clock.file k.file c.requires.between g.D.Disk c.args.states.now c.both_ready.new.files c.requires.other c.requires.file c.in_ok-both_ready.ensures.ready c.both_ready.ensures.files.disk.names c.in_ok-both_ready.ensures.files.reads
       c.held-other.ensures.text c.held-held.ensures.text in
       move_fails both c.args.node k.moment clock.running tally honest c.plan_move.result c.from_residual-in_err-plan.result c.in_err-plan.was c.plan_move.ensures c.from_residual-in_err-plan.ensures.1;
-  disk = only_reads_own c.from_residual-in_err-plan.result (fault_of_state c.in_err-plan.field-0.0) (handed_on c.from_residual-in_err-plan.result _ c.from_residual-in_err-plan.ensures.1) (state_own c.in_err-plan.field-0.0) c.in_ok-both_ready.ensures.files.disk;
+  disk = only_reads_own c.from_residual-in_err-plan.result (fault_of c.in_err-plan.field-0.0) (handed_on c.from_residual-in_err-plan.result _ c.from_residual-in_err-plan.ensures.1) (planned_own c.in_err-plan.field-0.0) c.in_ok-both_ready.ensures.files.disk;
 }
 
 pub returns : goal.returns

@@ -1,22 +1,22 @@
 use Rattle.std.proofs.Common.{◌∷◌, [], ℕ, Option, Result, Ok}
 use Rattle.org_outline.specs.Tree.{Document, tree}
 use Rattle.org_stamp.specs.Calendar.{Moment}
-use Rattle.org_state.specs.declared.fault.StateFault.{StateFault}
+use Rattle.org_fault.specs.declared.refusal.Refusal.{Refusal}
 use Rattle.org_state.specs.declared.run.Running.{Running}
 use Rattle.org_commands.specs.Clocking.{clocked_in}
 use Rattle.org_commands.proofs.Clocks.{still_runs, still_there}
 use Rattle.org_commands.proofs.MadeReady.{one_is_ready, one_ready, sees_one}
 use Rattle.org_commands.proofs.Plans.{one_name}
 use Rattle.org_commands.proofs.Todos.{document_is, state_fails, state_fits, state_planned}
-use Rattle.org_commands.proofs.Faults.{no_value, state_own}
+use Rattle.org_commands.proofs.Faults.{no_value, planned_own}
 use Rattle.org_commands.proofs.Reading.{only_reads_ok, only_reads_own}
 use Rattle.org_commands.proofs.Handing.{handed_on}
-use Rattle.org_commands.specs.Keeping.{fault_of_state}
+use Rattle.org_commands.specs.Keeping.{fault_of}
 use Rattle.org_commands.proofs.Planning.{stays_no_read}
 use Rattle.org_commands.proofs.commands.clock.start_in_one.Goals as goal
 
 -- what clocking in at heading i makes of a document
-abbrev said : Moment → ℕ → Option Running → Document → Result (Option Document) StateFault
+abbrev said : Moment → ℕ → Option Running → Document → Result (Option Document) Refusal
 said moment i running d = clocked_in moment running d (Ok i)
 
 pub returns-in_err-ready : goal.returns-in_err-ready
@@ -46,7 +46,7 @@ returns-in_err-plan_in_text g c = record {
       let sees = sees_one a.command.now.file c.requires.between g.D.Disk a.states.now c.ready.new.self c.requires.file c.in_ok-ready.ensures.ready c.ready.ensures.files.disk.names c.in_ok-ready.ensures.files.reads c.held-held.ensures.text in
       state_fails sees tally honest (said a.command.now.moment a.node a.running (tree c.held-held.result.now.text.bytes)) c.plan_in_text.result c.from_residual-in_err-plan_in_text.result
       (document_is sees tally honest (said a.command.now.moment a.node a.running)) c.in_err-plan_in_text.was c.plan_in_text.ensures c.from_residual-in_err-plan_in_text.ensures.1;
-  disk = only_reads_own c.from_residual-in_err-plan_in_text.result (fault_of_state c.in_err-plan_in_text.field-0.0) (handed_on c.from_residual-in_err-plan_in_text.result _ c.from_residual-in_err-plan_in_text.ensures.1) (state_own c.in_err-plan_in_text.field-0.0) c.in_ok-ready.ensures.files.disk;
+  disk = only_reads_own c.from_residual-in_err-plan_in_text.result (fault_of c.in_err-plan_in_text.field-0.0) (handed_on c.from_residual-in_err-plan_in_text.result _ c.from_residual-in_err-plan_in_text.ensures.1) (planned_own c.in_err-plan_in_text.field-0.0) c.in_ok-ready.ensures.files.disk;
 }
 
 pub returns : goal.returns

@@ -5,10 +5,10 @@ use Rattle.org_commands.proofs.Clocks.{still_runs}
 use Rattle.org_commands.proofs.MadeReady.{one_is_ready, one_ready, sees_one}
 use Rattle.org_commands.proofs.Plans.{one_name}
 use Rattle.org_commands.proofs.Todos.{document_is, state_fails, state_fits, state_planned}
-use Rattle.org_commands.proofs.Faults.{no_value, state_own}
+use Rattle.org_commands.proofs.Faults.{no_value, planned_own}
 use Rattle.org_commands.proofs.Reading.{only_reads_ok, only_reads_own}
 use Rattle.org_commands.proofs.Handing.{handed_on}
-use Rattle.org_commands.specs.Keeping.{fault_of_state}
+use Rattle.org_commands.specs.Keeping.{fault_of}
 use Rattle.org_commands.proofs.Planning.{stays_no_read}
 use Rattle.org_commands.proofs.commands.clock.stop_running.Goals as goal
 
@@ -34,7 +34,7 @@ returns-in_err-plan_stop g c = record {
       let sees = sees_one clock.file c.requires.between g.D.Disk a.states.now c.ready.new.self c.requires.file c.in_ok-ready.ensures.ready c.ready.ensures.files.disk.names c.in_ok-ready.ensures.files.reads c.held-held.ensures.text in
       state_fails sees tally honest (clocked_out a.moment clock.running (tree c.held-held.result.now.text.bytes)) c.plan_stop.result c.from_residual-in_err-plan_stop.result (document_is sees tally honest (clocked_out a.moment clock.running))
       c.in_err-plan_stop.was c.plan_stop.ensures c.from_residual-in_err-plan_stop.ensures.1;
-  disk = only_reads_own c.from_residual-in_err-plan_stop.result (fault_of_state c.in_err-plan_stop.field-0.0) (handed_on c.from_residual-in_err-plan_stop.result _ c.from_residual-in_err-plan_stop.ensures.1) (state_own c.in_err-plan_stop.field-0.0) c.in_ok-ready.ensures.files.disk;
+  disk = only_reads_own c.from_residual-in_err-plan_stop.result (fault_of c.in_err-plan_stop.field-0.0) (handed_on c.from_residual-in_err-plan_stop.result _ c.from_residual-in_err-plan_stop.ensures.1) (planned_own c.in_err-plan_stop.field-0.0) c.in_ok-ready.ensures.files.disk;
 }
 
 pub returns : goal.returns

@@ -2,11 +2,11 @@ use Rattle.std.proofs.Common.{◌≡◌, ◌≢◌, ◌∙◌, List, ℕ, Ok, ap
 use Rattle.org_outline.specs.Tree.{tree}
 use Rattle.org_move.specs.Refile.{refile_across, refile_within}
 use Rattle.org_commands.specs.InOrder.{text_at}
-use Rattle.org_commands.specs.Keeping.{fault_of_move}
+use Rattle.org_commands.specs.Keeping.{fault_of}
 use Rattle.org_commands.specs.Outcome.{refile}
 use Rattle.org_commands.specs.Planning.{PlansAs}
 use Rattle.org_commands.specs.Refile.{MakesDocument, MakesDocuments, text_within, texts_across}
-use Rattle.org_commands.proofs.Faults.{move_own, no_value}
+use Rattle.org_commands.proofs.Faults.{no_value, planned_own}
 use Rattle.org_commands.proofs.Handing.{handed_on}
 use Rattle.org_commands.proofs.MadeReady.{document_fits, document_texts, documents_fit, documents_texts, first_is_ready, no_text_of, one_is_ready, second_is_ready, sees_one, sees_two, session_in}
 use Rattle.org_commands.proofs.Planning.{plans_no_file, plans_no_read}
@@ -56,7 +56,7 @@ returns-in_err-plan_within g c =
           let sees = sees_one k.file c.requires.between g.D.Disk a.states.now c.ready.new.self c.in_ok-check_name.ensures c.in_ok-ready.ensures.ready c.ready.ensures.files.disk.names c.in_ok-ready.ensures.files.reads c.held-held.ensures.text in
           move_fails c.ready.new.self.held (text_within k.file) (refile_within a.states.now k.path k.to_path k.place (tree seen.bytes)) (MakesDocument k.file seen.bytes) c.plan_within.result c.from_residual-in_err-plan_within.result sees.unbroken
           (sees.reads tally honest) (within_is sees k.path k.to_path k.place tally honest) c.in_err-plan_within.was c.plan_within.ensures c.from_residual-in_err-plan_within.ensures.1;
-      disk = only_reads_own c.from_residual-in_err-plan_within.result (fault_of_move c.in_err-plan_within.field-0.0) (handed_on c.from_residual-in_err-plan_within.result _ c.from_residual-in_err-plan_within.ensures.1) (move_own c.in_err-plan_within.field-0.0) c.in_ok-ready.ensures.files.disk;
+      disk = only_reads_own c.from_residual-in_err-plan_within.result (fault_of c.in_err-plan_within.field-0.0) (handed_on c.from_residual-in_err-plan_within.result _ c.from_residual-in_err-plan_within.ensures.1) (planned_own c.in_err-plan_within.field-0.0) c.in_ok-ready.ensures.files.disk;
     })
 
 pub returns-then-eq : goal.returns-then-eq
@@ -107,7 +107,7 @@ returns-in_err-plan_across g c =
           move_fails c.both_ready.new.files.held (texts_across k.file k.to_file) (refile_across a.states.now k.path (tree seen.bytes) a.states.now k.to_path (tree found.bytes) k.place) (MakesDocuments k.file k.to_file seen.bytes found.bytes)
           c.plan_across.result c.from_residual-in_err-plan_across.result both.0.unbroken (both.0.reads tally honest) (across_is both k.path k.to_path k.place apart tally honest) c.in_err-plan_across.was c.plan_across.ensures
           c.from_residual-in_err-plan_across.ensures.1;
-      disk = only_reads_own c.from_residual-in_err-plan_across.result (fault_of_move c.in_err-plan_across.field-0.0) (handed_on c.from_residual-in_err-plan_across.result _ c.from_residual-in_err-plan_across.ensures.1) (move_own c.in_err-plan_across.field-0.0) c.in_ok-both_ready.ensures.files.disk;
+      disk = only_reads_own c.from_residual-in_err-plan_across.result (fault_of c.in_err-plan_across.field-0.0) (handed_on c.from_residual-in_err-plan_across.result _ c.from_residual-in_err-plan_across.ensures.1) (planned_own c.in_err-plan_across.field-0.0) c.in_ok-both_ready.ensures.files.disk;
     }
 
 pub returns : goal.returns

@@ -5,7 +5,8 @@ use Rattle.org_splice.specs.declared.edit.Edit.{Edit}
 use Rattle.org_outline.specs.States.{Keywords}
 use Rattle.org_outline.specs.Tree.{tree}
 use Rattle.org_stamp.specs.Calendar.{Moment}
-use Rattle.org_state.specs.declared.fault.StateFault.{StateFault}
+use Rattle.org_fault.specs.declared.fault.Fault.{Fault}
+use Rattle.org_fault.specs.declared.refusal.Refusal.{Refusal}
 use Rattle.org_state.specs.Answers.{AnswersTodo}
 use Rattle.org_state.specs.Todo.{todo}
 use Rattle.org_commands.proofs.Todos.{plan_made, state_made, state_refused, state_stays}
@@ -13,7 +14,7 @@ use Rattle.org_commands.proofs.Handing.{handed_on}
 use Rattle.org_commands.proofs.commands.todo.plan_state.Goals as goal
 
 -- an answer, told of what the outline and the slices are
-told : (states given : Keywords) (path titles : List Step) (state word : List ℕ) (now : Moment) (text seen : List ℕ) (answer : Result (Vec Edit Global) StateFault) → given ≡ states → titles ≡ path → word ≡ state → seen ≡ text
+told : (states given : Keywords) (path titles : List Step) (state word : List ℕ) (now : Moment) (text seen : List ℕ) (answer : Result (Vec Edit Global) (Fault Refusal)) → given ≡ states → titles ≡ path → word ≡ state → seen ≡ text
     → AnswersTodo given titles word now seen answer → AnswersTodo states path state now text answer
 told states given path titles state word now text seen answer s p w t answers =
     subst (λ (k : Keywords). AnswersTodo k path state now text answer) s

@@ -5,9 +5,9 @@ use Rattle.org_commands.specs.Outcome.{todo}
 use Rattle.org_commands.proofs.MadeReady.{no_text_of, one_is_ready, sees_one, session_in}
 use Rattle.org_commands.proofs.Reading.{only_reads_ok, only_reads_own}
 use Rattle.org_commands.proofs.Todos.{state_fails, state_fits, state_planned, todo_is}
-use Rattle.org_commands.proofs.Faults.{no_value, state_own}
+use Rattle.org_commands.proofs.Faults.{no_value, planned_own}
 use Rattle.org_commands.proofs.Handing.{handed_on}
-use Rattle.org_commands.specs.Keeping.{fault_of_state}
+use Rattle.org_commands.specs.Keeping.{fault_of}
 use Rattle.org_commands.proofs.Planning.{stays_no_file, stays_no_read}
 use Rattle.org_commands.proofs.commands.todo.plan_todo.Goals as goal
 
@@ -33,7 +33,7 @@ returns-in_err-plan_state g c = record {
       let sees = sees_one k.file c.requires.between g.D.Disk a.states.now c.ready.new.self c.in_ok-check_name.ensures c.in_ok-ready.ensures.ready c.ready.ensures.files.disk.names c.in_ok-ready.ensures.files.reads c.held-held.ensures.text in
       state_fails sees tally honest (in_state a.states.now k.path k.state k.moment (tree c.held-held.result.now.text.bytes)) c.plan_state.result c.from_residual-in_err-plan_state.result (todo_is sees tally honest k.path k.state k.moment)
       c.in_err-plan_state.was c.plan_state.ensures c.from_residual-in_err-plan_state.ensures.1;
-  disk = only_reads_own c.from_residual-in_err-plan_state.result (fault_of_state c.in_err-plan_state.field-0.0) (handed_on c.from_residual-in_err-plan_state.result _ c.from_residual-in_err-plan_state.ensures.1) (state_own c.in_err-plan_state.field-0.0) c.in_ok-ready.ensures.files.disk;
+  disk = only_reads_own c.from_residual-in_err-plan_state.result (fault_of c.in_err-plan_state.field-0.0) (handed_on c.from_residual-in_err-plan_state.result _ c.from_residual-in_err-plan_state.ensures.1) (planned_own c.in_err-plan_state.field-0.0) c.in_ok-ready.ensures.files.disk;
 }
 
 pub returns : goal.returns

@@ -6,7 +6,7 @@ use Rattle.org_texts.specs.Plan.{IsOfLines, IsPlan}
 use Rattle.org_texts.specs.Texts.{Holding, TextSet, text_of}
 use Rattle.org_commands.specs.declared.command.RunFault.{RunFault}
 use Rattle.org_commands.specs.declared.command.RunFault.TheVariants.{Refused, OutOfMemory}
-use Rattle.org_commands.specs.declared.command.Refusal.TheVariants.{TooLarge}
+use Rattle.org_fault.specs.declared.refusal.Refusal.TheVariants.{TooLarge}
 use Rattle.org_commands.specs.Files.{AreSmallToWrite, AreTouched, OpenFiles, PutsPlan, files_of, has_large, new_texts, texts_in}
 use Rattle.org_commands.proofs.Held.{first_held, second_held, small_put, sound_put, sound_undone}
 use Rattle.org_commands.proofs.Handing.{handed_on}

@@ -1,10 +1,8 @@
-use Rattle.std.proofs.Common.{◌≡◌}
 use Rattle.std.proofs.lemmas.Result.{err_from_is_err_and}
 use Rattle.org_outline.specs.Tree.{tree}
 use Rattle.org_meta.specs.Planning.{set_closed}
-use Rattle.org_meta.specs.Sections.{split}
-use Rattle.org_state.specs.Todo.{Own, own_at, changed}
-use Rattle.org_state.proofs.Turning.{faulted, replanned_within, replanned_refused, replanned_answers}
+use Rattle.org_state.specs.Todo.{Own, own_at}
+use Rattle.org_state.proofs.Turning.{replanned_within, replanned_refused, replanned_answers}
 use Rattle.org_state.proofs.changing.Change.close.Goals as goal
 
 pub with_section-requires-clause-within : goal.with_section-requires-clause-within
@@ -14,7 +12,7 @@ pub returns-in_err-edit : goal.returns-in_err-edit
 returns-in_err-edit c =
     let own : Own = own_at (tree c.args.self.now.outline.now.text) c.args.self.now.node in
     let p = err_from_is_err_and c.from_residual.result c.from_residual.ensures.1 in
-    rw (p.1, p.2) (faulted (λ r. r ≡ changed c.args.self.now.outline.now.states c.args.self.now.state.now own (set_closed c.args.self.now.moment (split own.section))) c.args.self.now.outline.now.text c.args.self.now.node _ (replanned_refused (set_closed c.args.self.now.moment) c.args.self.now.outline.now.states c.args.self.now.state.now own c.section_of.result.now _ c.section_of.ensures.lines c.in_err-edit.ensures.err))
+    rw (p.1, p.2) (replanned_refused (set_closed c.args.self.now.moment) c.args.self.now.outline.now.states c.args.self.now.state.now own c.section_of.result.now _ c.section_of.ensures.lines c.in_err-edit.ensures.err)
 
 pub returns : goal.returns
 returns c =

@@ -8,7 +8,7 @@ use Rattle.org_meta.proofs.Replanning.{planning_terminated}
 use Rattle.org_state.specs.Answers.{AnswersOwn}
 use Rattle.org_state.specs.Todo.{own_at, repeating, TurnsDone}
 use Rattle.org_state.proofs.Steps.{section_is_lines}
-use Rattle.org_state.proofs.Turning.{faulted, repeat_refused, nothing_repeats}
+use Rattle.org_state.proofs.Turning.{repeat_refused, nothing_repeats}
 use Rattle.org_state.proofs.changing.Change.turn_done.Goals as goal
 
 pub repeat_planning-requires : goal.repeat_planning-requires
@@ -18,8 +18,7 @@ pub returns-in_err-planning : goal.returns-in_err-planning
 returns-in_err-planning c =
     let p = err_from_is_err_and c.from_residual.result c.from_residual.ensures.1 in
     let line = c.sections.ensures.planning ∙ ap (λ (ls : List (List ℕ)). print_lines (split ls).planning) c.section_of.ensures.lines in
-    rw (p.1, p.2) (faulted (TurnsDone c.args.self.now.outline.now.states c.args.self.now.state.now c.args.self.now.moment (own_at (tree c.args.self.now.outline.now.text) c.args.self.now.node) (repeating (split (own_at (tree c.args.self.now.outline.now.text) c.args.self.now.node).section).planning)) c.args.self.now.outline.now.text c.args.self.now.node _
-    (repeat_refused c.args.self.now.outline.now.states c.args.self.now.state.now c.args.self.now.moment (own_at (tree c.args.self.now.outline.now.text) c.args.self.now.node) c.sections.result.planning.now _ (section_is_lines c.args.self.now.outline.now.text c.args.self.now.node c.requires) line c.in_err-planning.ensures.err))
+    rw (p.1, p.2) (repeat_refused c.args.self.now.outline.now.states c.args.self.now.state.now c.args.self.now.moment (own_at (tree c.args.self.now.outline.now.text) c.args.self.now.node) c.sections.result.planning.now _ (section_is_lines c.args.self.now.outline.now.text c.args.self.now.node c.requires) line c.in_err-planning.ensures.err)
 
 pub returns-in-None : goal.returns-in-None
 returns-in-None c =

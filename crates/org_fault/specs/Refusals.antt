@@ -1,7 +1,7 @@
 -- The number and the name of each refusal, as a reply has them.
 use Rattle.std.specs.Prelude.{ℕ, List, codes}
-use Rattle.org_commands.specs.declared.command.Refusal.{Refusal}
-use Rattle.org_commands.specs.declared.command.Refusal.TheVariants.{NoSuchFile, BadTemplate, BadEntry, NotFound, NotUnique, InsideItself, AlreadyArchive, UnknownState, OddPlanning, BadRepeat, DateRange, NoClock, ClockBackwards, BadLocation, NotThere, TooLarge}
+use Rattle.org_fault.specs.declared.refusal.Refusal.{Refusal}
+use Rattle.org_fault.specs.declared.refusal.Refusal.TheVariants.{NoSuchFile, BadTemplate, BadEntry, NotFound, NotUnique, InsideItself, AlreadyArchive, UnknownState, OddPlanning, BadRepeat, DateRange, NoClock, ClockBackwards, BadLocation, NotThere, TooLarge}
 
 abbrev pub code_of : Refusal → ℕ
 code_of NoSuchFile = 1
