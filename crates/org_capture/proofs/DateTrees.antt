@@ -7,7 +7,7 @@ use Rattle.org_splice.specs.Lines.{terminated}
 use Rattle.org_splice.proofs.Ends.{both}
 use Rattle.org_outline.specs.States.{Keywords}
 use Rattle.org_outline.specs.declared.moves.Place.{Place}
-use Rattle.org_outline.specs.Text.{heading_line}
+use Rattle.org_headings.specs.Text.{heading_line}
 use Rattle.org_outline.specs.Tree.{Forest, Empty, Tree, Node, Document, tree, print, print_node, node_at, node_count}
 use Rattle.org_outline.specs.Moves.{Inserts, shifted, shift_node, then_trees, insert_before, level_below}
 use Rattle.org_outline.specs.Numbers.{children_of}

@@ -3,7 +3,7 @@ use Rattle.std.proofs.Common.{◌≡◌, arith, length, take, drop, ℕ, Bool, t
 use Rattle.std.specs.Prelude.{◌≢◌, unwrap_or}
 use Rattle.std.specs.List.{list_all, list_any, AllByRecursion}
 use Rattle.memchr.specs.Find.{IsFirstByte, is_byte}
-use Rattle.org_outline.proofs.HeadsFrom.{first_found, none_found}
+use Rattle.org_headings.proofs.HeadsFrom.{first_found, none_found}
 use Rattle.std.proofs.lemmas.Bool.{cases_Bool, eqb-true}
 use Rattle.std.proofs.lemmas.List.{append-nil, take-append-drop, take_all}
 use Rattle.org_splice.proofs.Ends.{both}

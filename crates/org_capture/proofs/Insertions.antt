@@ -18,7 +18,7 @@ use Rattle.org_outline.proofs.TwoEdits.{one_edit}
 use Rattle.org_outline.proofs.Making.{made_end, made_print}
 use Rattle.org_capture.specs.Answers.{Makes}
 use Rattle.org_capture.specs.Capture.{below_made, below_head, can_be_title, rest_of}
-use Rattle.org_outline.specs.Text.{heading_line}
+use Rattle.org_headings.specs.Text.{heading_line}
 
 -- bytes put in where an insertion puts them
 pub makes : (text : List ℕ) (new : Document) (e : Edit) (added : List ℕ) → terminated text ≡ text → e.removed ≡ 0 → e.bytes ≡ added → Inserts text (print new) e.at added → Makes e text new

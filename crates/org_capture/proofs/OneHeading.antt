@@ -8,10 +8,10 @@ use Rattle.memchr.specs.Find.{IsFirstByte, is_byte}
 use Rattle.std.specs.List.{list_any}
 use Rattle.org_splice.specs.Lines.{IsLine, terminated, print_lines, lines_of}
 use Rattle.org_splice.proofs.Lines.{terminated_twice, terminated-drop, lines_of-append, lines_of-terminated}
-use Rattle.org_outline.specs.Text.{heading_line, level_of}
+use Rattle.org_headings.specs.Text.{heading_line, level_of}
 use Rattle.org_outline.specs.Tree.{Forest, Empty, Tree, Node, Document, tree, tree_of_lines, with_line, deeper, others, print_node, nodes_from, node_at, no_node, lines}
 use Rattle.org_outline.specs.Moves.{IsPrinted}
-use Rattle.org_outline.proofs.LineWalk.{cut_found, last-terminated, no_line}
+use Rattle.org_splice.proofs.LineWalk.{cut_found, last-terminated, no_line}
 use Rattle.org_outline.proofs.Trees.{tree-is}
 use Rattle.org_fault.specs.declared.refusal.Refusal.TheVariants.{BadEntry}
 use Rattle.org_capture.specs.Entry.{one_root, only_root, entry_in, terminated_if_one, entry_text, IsEntry}

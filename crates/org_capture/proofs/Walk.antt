@@ -1,5 +1,5 @@
 -- The nodes below a heading, one after the other: those of the next level are its children.
-use Rattle.std.proofs.Common.{◌≡◌, ℕ, zero, suc, ◌+◌, ◌-◌, ◌<◌, ◌≤◌, Bool, true, false, cond, ltb, List, find, Option, Some, None, refl, sym, ap, ◌∙◌, subst, arith, inl, inr}
+use Rattle.std.proofs.Common.{◌≡◌, ℕ, zero, suc, ◌+◌, ◌-◌, ◌<◌, ◌≤◌, Bool, true, false, cond, ltb, find, Option, Some, None, refl, sym, ap, ◌∙◌, subst, arith, inl, inr}
 use Rattle.std.specs.Option.{ForSome}
 use Rattle.std.proofs.lemmas.Bool.{cases_Bool}
 use Rattle.std.proofs.lemmas.Bool.Decides.{nat_tests}
@@ -10,7 +10,8 @@ use Rattle.org_outline.proofs.Trees.{AllRoots-mono}
 use Rattle.org_outline.proofs.Placing.{roots-positive}
 use Rattle.org_outline.proofs.Sections.{valid_node}
 use Rattle.org_outline.proofs.ByNumber.{nth, node-is, count-is}
-use Rattle.org_outline.proofs.Children.{StandsAt, nth-below}
+use Rattle.org_outline.proofs.Children.{StandsAt, nth-below, stands_behind, stands_below}
+use Rattle.org_outline.proofs.Family.{all_deep}
 use Rattle.org_capture.specs.Dates.{span_below}
 
 -- the first of `count` numbers from k on that passes the test
@@ -22,33 +23,7 @@ first_from test (suc count) k = cond (test k) (Some k) (first_from test count (s
 abbrev pub OfLevel : Document → (ℕ → Bool) → ℕ → Type 0
 OfLevel d test level = (i : ℕ) → test i ≡ true → (node_at d i).node.level ≡ level
 
--- ---- trees that stand in a document
-
-kids_stand : (d : Document) (k n : ℕ) (r : List ℕ) (s : List (List ℕ)) (kids later : Forest) → StandsAt d k (Tree n r s kids later) → StandsAt d (suc k) kids
-kids_stand d k n r s kids later stands = λ j q is lt.
-    let e : ltb j (total kids) ≡ true = grind (arith, nat_tests) in
-    stands (suc j) q (omega (arith, is)) (omega (arith, lt)) ∙ rw e refl
-
-later_stand : (d : Document) (k n : ℕ) (r : List ℕ) (s : List (List ℕ)) (kids later : Forest) → StandsAt d k (Tree n r s kids later) → StandsAt d (suc k + total kids) later
-later_stand d k n r s kids later stands = λ j q is lt.
-    let past : total kids ≤ total kids + j = omega arith in
-    let e : ltb (total kids + j) (total kids) ≡ false = grind (arith, nat_tests) in
-    let back : total kids + j - total kids ≡ j = omega arith in
-    stands (suc (total kids + j)) q (omega (arith, is)) (omega (arith, lt)) ∙ rw (e, back) refl
-
 -- ---- what lies deeper
-
-all_deep : (m i : ℕ) (f : Forest) → IsForest f → AllRoots (λ n. m < n) f → i < total f → m < (nth i f).level
-all_deep m i Empty valid deep lt = absurd (omega arith)
-all_deep m zero (Tree n r s kids later) valid deep lt = deep.0
-all_deep m (suc i) (Tree n r s kids later) valid deep lt =
-    let low : m < n = deep.0 in
-    elim (cases_Bool (ltb i (total kids))) [
-      | inl e ↦
-          let inside : i < total kids = grind (arith, nat_tests) in
-          rw e (all_deep m i kids valid.2 (AllRoots-mono (λ k. n < k) (λ k. m < k) kids (λ k less. omega (arith, less, low)) valid.1) inside)
-      | inr e ↦ let past : total kids ≤ i = grind (arith, nat_tests) in rw e (all_deep m (i - total kids) later valid.4 deep.1 (omega (arith, lt, past)))
-    ]
 
 stand_deep : (d : Document) (m k i : ℕ) (f : Forest) → StandsAt d k f → IsForest f → AllRoots (λ n. m < n) f → k ≤ i → i < k + total f → m < (node_at d i).node.level
 stand_deep d m k i f stands valid deep low high =
@@ -96,12 +71,12 @@ finds_root : (d : Document) (test : ℕ → Bool) (level k : ℕ) (f : Forest) �
 finds_root d test level k Empty of stands valid low = refl
 finds_root d test level k (Tree n r s kids later) of stands valid low =
     let kids_deep : AllRoots (λ m. level < m) kids = AllRoots-mono (λ m. n < m) (λ m. level < m) kids (λ m less. omega (arith, less, low.0)) valid.1 in
-    let below : StandsAt d (suc k) kids = kids_stand d k n r s kids later stands in
+    let below : StandsAt d (suc k) kids = stands_below d k n r s kids later stands in
     elim (cases_Bool (test k)) [
       | inl e ↦ rw e refl
       | inr e ↦ rw e (
           passes test (total kids) (total later) (suc k) (λ i first last. fails d test level i of (stand_deep d level (suc k) i kids below valid.2 kids_deep first last))
-          ∙ finds_root d test level (suc k + total kids) later of (later_stand d k n r s kids later stands) valid.4 low.1)
+          ∙ finds_root d test level (suc k + total kids) later of (stands_behind d k n r s kids later stands) valid.4 low.1)
     ]
 
 -- ---- the walk

@@ -10,7 +10,7 @@ use Rattle.std.specs.declared.cmp.Ordering.TheVariants.{Equal, Greater}
 use Rattle.org_outline.specs.declared.moves.Place.{Place}
 use Rattle.org_outline.specs.declared.moves.Place.TheVariants.{Last}
 use Rattle.org_outline.specs.States.{Keywords}
-use Rattle.org_outline.specs.Text.{heading_line}
+use Rattle.org_headings.specs.Text.{heading_line}
 use Rattle.org_outline.specs.Tree.{Node, Document, node_at, node_count}
 use Rattle.org_outline.specs.Moves.{insert, insert_before, level_below, shift_node}
 use Rattle.org_outline.specs.Numbers.{children_of, heading_over, size_of}

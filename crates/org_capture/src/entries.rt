@@ -4,14 +4,14 @@
 ghost use Rattle.std.specs.Prelude.{◌≡◌, ◌↔◌, ◌<◌, ◌∷◌, [], true, nat_lt, is_some, length, IsTrue, IfOk, IfSome, MatchOption, OnOk};
 ghost use Rattle.std.specs.Option.{option_map_or};
 ghost use Rattle.org_splice.specs.Lines.{lines_of, terminated};
-ghost use Rattle.org_outline.specs.Text.{level_of};
+ghost use Rattle.org_headings.specs.Text.{level_of};
 ghost use Rattle.org_outline.specs.Tree.{Empty, Node as NodeOf, others, tree};
 ghost use Rattle.org_capture.specs.Entry.{IsEntry, entry_in, entry_text};
 ghost use Rattle.org_capture.specs.Answers.{AnswersBytes};
 
 use memchr::memchr;
 use org_fault::{Fault, Refusal};
-use org_outline::{heading_level, is_terminated};
+use org_headings::{heading_level, is_terminated};
 use std::alloc::AllocError;
 
 /// The first line of a terminated text, without its newline, and the text behind it; none where the

@@ -3,7 +3,7 @@
 //! The entry's levels are shifted as a whole. The place is the outline's (`Outline::place`).
 ghost use Rattle.std.specs.Prelude.{◌≡◌, ◌<◌, ◌≤◌, ◌^◌, ◌++◌, ◌∷◌, [], IfOk, OnOk, Ok};
 ghost use Rattle.std.specs.Option.{ForSome};
-ghost use Rattle.org_outline.specs.Text.{heading_line};
+ghost use Rattle.org_headings.specs.Text.{heading_line};
 ghost use Rattle.org_outline.specs.Tree.{Node as NodeOf, node_at, node_count, print_node, tree};
 ghost use Rattle.org_outline.specs.Moves.{IsPrinted, insert, level_below, shift_node};
 ghost use Rattle.org_capture.specs.Entry.{IsEntry};
@@ -11,7 +11,8 @@ ghost use Rattle.org_capture.specs.Capture.{rest_of};
 ghost use Rattle.org_capture.specs.Answers.{AnswersEdit};
 
 use org_fault::{Fault, Refusal};
-use org_outline::{Node, Outline, Place, heading_level, shift};
+use org_headings::heading_level;
+use org_outline::{Node, Outline, Place, shift};
 use org_splice::{Bytes, Edit};
 use std::alloc::{AllocError, Global};
 

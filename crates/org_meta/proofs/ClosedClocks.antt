@@ -25,7 +25,7 @@ use Rattle.org_meta.specs.declared.clock.Clock.TheVariants.{Open, Closed}
 use Rattle.org_meta.specs.Moments.{moment_text}
 use Rattle.org_meta.specs.Clocks.{is_clock_stamp, clock_stamp_at, behind_some, behind_mark, behind_hours, are_minutes, is_duration, closed_minutes, clock_from, clock_of, running_of, running_clock, is_open, minutes_between, minutes_in}
 use Rattle.org_meta.specs.Clocking.{clock_line, closing_text, closed_after, closed_clock, closed_line, minutes_run}
-use Rattle.org_meta.proofs.AllLines.{AllByRecursion-take}
+use Rattle.org_splice.proofs.AllLines.{AllByRecursion-take}
 use Rattle.org_meta.proofs.Flat.{Flat, tested, empty_line, both_lines, with_first_byte, two_line, date_line, day_line, clock_text_line}
 use Rattle.org_meta.proofs.PlanningText.{starts_front}
 use Rattle.org_meta.proofs.Trims.{behind_front, trim_behind}

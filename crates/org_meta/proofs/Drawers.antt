@@ -7,7 +7,7 @@ use Rattle.org_meta.specs.Lines.{BeginsWith, behind_lines}
 use Rattle.org_meta.specs.declared.parts.Sections.{Sections}
 use Rattle.org_meta.specs.Sections.{AreSections, split, is_planning, planning_size, is_drawer_start, drawer_size, is_end, NodeProperty, property_of, size_to_end, value_named, value_before_end}
 use Rattle.org_splice.proofs.Lines.{terminated-print_lines, lines_of-lines, lines_of-print_lines}
-use Rattle.org_meta.proofs.AllLines.{AllByRecursion-take, AllByRecursion-drop}
+use Rattle.org_splice.proofs.AllLines.{AllByRecursion-take, AllByRecursion-drop}
 use Rattle.org_meta.proofs.Walk.{Passed, passed_none, passed_line, passed_rest, behind_none, front_lines, print_lines-terminated}
 
 -- ---- the end of a drawer

@@ -6,7 +6,7 @@ use Rattle.std.proofs.lemmas.Bool.{cases_Bool, false≢true}
 use Rattle.org_splice.specs.Lines.{IsLine}
 use Rattle.org_stamp.specs.Calendar.{CivilDay}
 use Rattle.org_stamp.specs.Stamp.{clock_text, date_text, day_name, two_digits}
-use Rattle.org_meta.proofs.AllLines.{AllByRecursion-append}
+use Rattle.org_splice.proofs.AllLines.{AllByRecursion-append}
 
 -- a line without a newline, by name
 pub record Flat (l : List ℕ) : Type 0 where

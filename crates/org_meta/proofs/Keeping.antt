@@ -9,7 +9,7 @@ use Rattle.std.proofs.lemmas.Bool.{cases_Bool}
 use Rattle.org_meta.specs.Sections.{SectionParts, split, joined, is_end, value_named, put_before_end, put_in_drawer, planning_size, drawer_size}
 use Rattle.org_meta.specs.Notes.{with_note}
 use Rattle.org_meta.specs.Resplits.{with_drawer_line}
-use Rattle.org_meta.proofs.AllLines.{AllByRecursion-append, AllByRecursion-take, AllByRecursion-drop}
+use Rattle.org_splice.proofs.AllLines.{AllByRecursion-append, AllByRecursion-take, AllByRecursion-drop}
 
 -- what holds of each line of the parts
 pub record AllParts (P : List ℕ → Type 0) (parts : SectionParts) : Type 0 where

@@ -1,4 +1,3 @@
-pub mod AllLines
 pub mod Pushed
 pub mod FirstLine
 pub mod Walk

@@ -14,7 +14,7 @@ use Rattle.org_meta.specs.Edits.{IsPlaceFor}
 use Rattle.org_meta.specs.Sections.{SectionParts, AreSections, split, joined, is_end, planning_size}
 use Rattle.org_meta.specs.Clocking.{is_logbook, in_logbook, logged, clock_line, opened}
 use Rattle.org_splice.proofs.Lines.{print_lines-append, terminated-print_lines, lines_of-lines}
-use Rattle.org_meta.proofs.AllLines.{AllByRecursion-drop}
+use Rattle.org_splice.proofs.AllLines.{AllByRecursion-drop}
 use Rattle.org_meta.proofs.Walk.{Passed, passed_none, passed_line, print_lines-terminated}
 use Rattle.org_meta.proofs.Puts.{gives_at, section_bytes, rest_below}
 use Rattle.org_meta.proofs.Drawers.{part_lines}

@@ -18,7 +18,7 @@ use Rattle.org_meta.specs.Sections.{SectionParts, AreSections, split, joined, is
 use Rattle.org_meta.specs.Planning.{PlanningEntry, PlanningLine, planning_of, has_repeater, AreRepeated, replanned, replanned_line, closed_text, kept_text, has_closed, has_closed_entry, has_others, without_closed, with_closed, clear_closed}
 use Rattle.org_meta.specs.Replans.{RewritesOk, PutsAllRepeated, HasNoRepeater, IsRefusedRepeat, RewritesRepeated, RewritesRepeatedIn, repeated_line}
 use Rattle.org_splice.proofs.Lines.{print_lines-append, terminated-print_lines, lines_of-lines}
-use Rattle.org_meta.proofs.AllLines.{AllByRecursion-take}
+use Rattle.org_splice.proofs.AllLines.{AllByRecursion-take}
 use Rattle.org_meta.proofs.Drawers.{part_lines}
 use Rattle.org_meta.proofs.Walk.{print_lines-terminated}
 use Rattle.org_meta.proofs.PlanningText.{nothing_goes}

@@ -11,7 +11,7 @@ use Rattle.org_outline.specs.declared.steps.Step.{Step}
 use Rattle.org_outline.specs.declared.moves.Place.{Place}
 use Rattle.org_outline.specs.declared.paths.PathFault.{PathFault}
 use Rattle.org_outline.specs.States.{Keywords}
-use Rattle.org_outline.specs.Text.{heading_line}
+use Rattle.org_headings.specs.Text.{heading_line}
 use Rattle.org_outline.specs.Tree.{Document, Node, lines, print, print_node, tree, node_at, node_count}
 use Rattle.org_outline.specs.Moves.{IsPrinted, InsertsAt, insert, level_below, shift_node, take}
 use Rattle.org_outline.specs.Numbers.{LiesIn, size_of, parent_without}

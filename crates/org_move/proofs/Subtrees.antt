@@ -6,7 +6,7 @@ use Rattle.org_splice.specs.Lines.{terminated, print_lines, lines_of}
 use Rattle.org_splice.specs.declared.Span.{Span}
 use Rattle.org_splice.proofs.Lines.{print_lines-append, print_lines-lines_of, size-append}
 use Rattle.org_outline.specs.Outline.{IsSection, IsSubtree}
-use Rattle.org_outline.specs.Text.{heading_line}
+use Rattle.org_headings.specs.Text.{heading_line}
 use Rattle.org_outline.specs.Tree.{Node, lines, own_lines, print_node, tree, node_at, node_count}
 use Rattle.org_outline.proofs.Changes.{take_local}
 use Rattle.org_move.proofs.Made.{prints}

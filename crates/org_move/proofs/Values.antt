@@ -18,7 +18,7 @@ use Rattle.org_stamp.specs.Calendar.{Moment, weekday_of}
 use Rattle.org_stamp.specs.Stamp.{date_text, day_name}
 use Rattle.org_outline.specs.declared.steps.Step.{Step}
 use Rattle.org_outline.specs.States.{Keywords}
-use Rattle.org_outline.specs.Text.{level_of}
+use Rattle.org_headings.specs.Text.{level_of}
 use Rattle.org_outline.specs.Tree.{Document, IsPlain, IsValid, Placed, no_node, node_at, nodes, tree}
 use Rattle.org_outline.specs.Moves.{IsNode}
 use Rattle.org_outline.specs.Numbers.{ancestors_of}
@@ -27,7 +27,7 @@ use Rattle.org_outline.specs.Paths.{find_path, title_of}
 use Rattle.org_outline.proofs.Sections.{nodes-valid}
 use Rattle.org_outline.proofs.Trees.{tree-is}
 use Rattle.org_meta.specs.Sections.{NodeProperty, drawer_size, is_end, is_name_run, is_property_name, joined, planning_size, property, property_line, property_of, put, split, value_before_end, value_if_named, value_named}
-use Rattle.org_meta.proofs.AllLines.{AllByRecursion-append, AllByRecursion-take, AllByRecursion-drop}
+use Rattle.org_splice.proofs.AllLines.{AllByRecursion-append, AllByRecursion-take, AllByRecursion-drop}
 use Rattle.org_meta.proofs.Flat.{Flat, both_lines, clock_text_line, date_line, day_line, either_line, empty_line, tested, with_first_byte}
 use Rattle.org_meta.proofs.Keeping.{keeps_put}
 use Rattle.org_meta.proofs.Reading.{line_said}

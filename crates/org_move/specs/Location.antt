@@ -13,7 +13,7 @@ use Rattle.org_disk.specs.Names.{is_archive_name, is_file_name}
 use Rattle.org_meta.specs.Lines.{BeginsWith}
 use Rattle.org_outline.specs.declared.steps.Step.{Step}
 use Rattle.org_outline.specs.States.{Keywords}
-use Rattle.org_outline.specs.Text.{level_of}
+use Rattle.org_headings.specs.Text.{level_of}
 use Rattle.org_outline.specs.Tree.{tree}
 use Rattle.org_outline.specs.Parts.{Parts, parts_of}
 use Rattle.org_outline.specs.Paths.{find_path}

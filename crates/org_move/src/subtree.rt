@@ -3,7 +3,7 @@ ghost use Rattle.std.specs.Prelude.{◌≡◌, ◌<◌, ◌+◌, ◌^◌, ◌++�
 ghost use Rattle.std.specs.Option.{ForSome};
 ghost use Rattle.org_splice.specs.Lines.{terminated, lines_of};
 ghost use Rattle.org_outline.specs.Moves.{IsPrinted};
-ghost use Rattle.org_outline.specs.Text.{heading_line};
+ghost use Rattle.org_headings.specs.Text.{heading_line};
 ghost use Rattle.org_outline.specs.Tree.{node_at, node_count, print_node, tree};
 ghost use Rattle.org_move.specs.Archive.{archived, filled};
 

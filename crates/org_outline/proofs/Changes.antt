@@ -7,7 +7,7 @@ use Rattle.std.proofs.lemmas.Bool.Decides.{nat_tests}
 use Rattle.std.proofs.lemmas.List.{append-nil, get_or_append_left, get_or-append_right}
 use Rattle.org_splice.specs.Lines.{print_lines, IsLine}
 use Rattle.org_splice.proofs.Lines.{print_lines-append, size, size-append}
-use Rattle.org_outline.specs.Text.{heading_line, begins_with_space}
+use Rattle.org_headings.specs.Text.{heading_line, begins_with_space}
 use Rattle.org_outline.specs.Tree.{Forest, Empty, Tree, Node, Placed, total, Document, print, lines, own_lines, print_node, AllRoots, IsPlain, IsHeading, IsForest, IsValid, nodes_from, node_at, node_count, no_node}
 use Rattle.org_outline.specs.Moves.{IsNode, shift_node, from_node, later_trees, take, put_before, insert_before, with_own, with_own_lines, heading_alone, heading_behind, append_heading, Inserts, Replaces}
 use Rattle.org_outline.proofs.Nodes.{node_of}

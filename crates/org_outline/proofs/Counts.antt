@@ -5,18 +5,19 @@ use Rattle.std.specs.List.{prefix_len}
 use Rattle.std.specs.List.Sorted.{IsNonDecreasingBy}
 use Rattle.std.proofs.lemmas.Bool.{cases_Bool}
 use Rattle.std.proofs.lemmas.List.{length-map}
-use Rattle.org_outline.specs.declared.heads.Heading.{Heading}
+use Rattle.org_headings.specs.declared.heads.Heading.{Heading}
 use Rattle.org_splice.specs.Lines.{terminated}
 use Rattle.org_outline.specs.Tree.{Placed, nodes_of, node_count, tree}
-use Rattle.org_outline.specs.Outline.{heading_of, headings_of}
-use Rattle.org_outline.proofs.HeadsFrom.{heads_from-text}
-use Rattle.org_outline.proofs.Edits.{rising}
+use Rattle.org_outline.specs.Outline.{heading_of, node_headings}
+use Rattle.org_outline.proofs.Nodes.{node_headings-are}
+use Rattle.org_headings.proofs.HeadsFrom.{heads_from-text}
+use Rattle.org_headings.proofs.Edits.{rising}
 
 -- the headings of a text stand in the order of their starts
-pub headings_rise : (t : List ℕ) (hs : List Heading) → terminated t ≡ t → hs ≡ headings_of t → IsNonDecreasingBy (λ (h : Heading). h.start) hs
+pub headings_rise : (t : List ℕ) (hs : List Heading) → terminated t ≡ t → hs ≡ node_headings t → IsNonDecreasingBy (λ (h : Heading). h.start) hs
 headings_rise t hs c same =
     let P : List Heading → Type 0 = λ l. IsNonDecreasingBy (λ (h : Heading). h.start) l in
-    subst P (heads_from-text t c ∙ sym same) (rising 0 true t)
+    subst P (heads_from-text t c ∙ sym (node_headings-are t) ∙ sym same) (rising 0 true t)
 
 by_nodes : (position : ℕ) (ps : List Placed) → prefix_len (λ (h : Heading). ltb h.start position) (map heading_of ps) ≡ prefix_len (λ (p : Placed). ltb p.at position) ps
 by_nodes position [] = refl
@@ -27,8 +28,8 @@ by_nodes position (p ∷ ps) =
     ]
 
 -- a count of headings is one of nodes
-pub count_of_nodes : (t : List ℕ) (hs : List Heading) (position n : ℕ) → hs ≡ headings_of t → n ≡ prefix_len (λ (h : Heading). ltb h.start position) hs → n ≡ prefix_len (λ (p : Placed). ltb p.at position) (nodes_of t)
+pub count_of_nodes : (t : List ℕ) (hs : List Heading) (position n : ℕ) → hs ≡ node_headings t → n ≡ prefix_len (λ (h : Heading). ltb h.start position) hs → n ≡ prefix_len (λ (p : Placed). ltb p.at position) (nodes_of t)
 count_of_nodes t hs position n same is = is ∙ ap (prefix_len (λ (h : Heading). ltb h.start position)) same ∙ by_nodes position (nodes_of t)
 
-pub count_within : (t : List ℕ) (hs : List Heading) (n : ℕ) → hs ≡ headings_of t → n ≤ length hs → n ≤ node_count (tree t)
+pub count_within : (t : List ℕ) (hs : List Heading) (n : ℕ) → hs ≡ node_headings t → n ≤ length hs → n ≤ node_count (tree t)
 count_within t hs n same le = omega (arith, le, ap length same, length-map (nodes_of t) heading_of)

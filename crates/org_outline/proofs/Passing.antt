@@ -3,22 +3,23 @@ use Rattle.std.proofs.Common.{◌≡◌, ℕ, zero, suc, ◌+◌, ◌-◌, ◌<�
 use Rattle.std.specs.Prelude.{min, nat_lt}
 use Rattle.std.specs.List.{prefix_len, AllByRecursion}
 use Rattle.std.specs.Str.{bytes_eq}
-use Rattle.std.proofs.Math.Nat.{min-eq_left}
 use Rattle.std.proofs.lemmas.Bool.{cases_Bool, cases_lt}
 use Rattle.std.proofs.lemmas.Bool.Decides.{nat_tests}
 use Rattle.std.proofs.lemmas.List.{take_more, drop_more, length-drop, length-take, length-map, get_or-drop, get_or-take, get_or-map}
 use Rattle.std.proofs.lemmas.List.Sums.{prefix_len_passes, prefix_len_stops, prefix_len-le-length}
-use Rattle.org_outline.specs.declared.heads.Heading.{Heading}
-use Rattle.org_outline.specs.declared.beginnings.Beginnings.{Beginnings}
-use Rattle.org_outline.specs.declared.beginnings.Sought.{Sought}
+use Rattle.org_headings.specs.declared.heads.Heading.{Heading}
+use Rattle.org_headings.specs.declared.beginnings.Beginnings.{Beginnings}
+use Rattle.org_headings.specs.declared.beginnings.Sought.{Sought}
 use Rattle.org_outline.specs.States.{Keywords}
 use Rattle.org_outline.specs.Tree.{no_node, nodes_of, node_at, node_count, tree}
-use Rattle.org_outline.specs.Beginnings.{may_have, sought_of, beginnings_of}
-use Rattle.org_outline.specs.Outline.{AreBeginnings, heading_of, headings_of, last_above, lowest_level}
+use Rattle.org_headings.specs.Beginnings.{may_have, sought_of, beginnings_of}
+use Rattle.org_outline.specs.Outline.{heading_of, node_headings}
+use Rattle.org_headings.specs.Headings.{AreBeginnings, last_above, lowest_level}
 use Rattle.org_outline.specs.declared.paths.PathFault.{PathFault}
 use Rattle.org_outline.specs.declared.paths.Choice.{Choice}
 use Rattle.org_outline.specs.Paths.{title_of, still_to_come}
-use Rattle.org_outline.proofs.KeptLines.{begin_of}
+use Rattle.org_splice.proofs.AllLines.{AllByRecursion-drop, AllByRecursion-take}
+use Rattle.org_headings.proofs.KeptLines.{begin_of}
 use Rattle.org_splice.specs.Lines.{lines_of}
 use Rattle.org_splice.proofs.Lines.{lines_of-lines, size}
 use Rattle.org_outline.proofs.TitlePlaces.{cannot_have}
@@ -26,20 +27,6 @@ use Rattle.org_outline.proofs.Trees.{valid-tree_of_lines}
 use Rattle.org_outline.proofs.Nodes.{headings_many}
 use Rattle.org_outline.proofs.Placing.{roots-positive}
 use Rattle.org_outline.proofs.PathWalk.{deep_headings, level_at, Child_pass, Tests, pass_on, pass_stop, pass_end, Heading_walk, headed_other}
-
--- ---- the lowest level
-
-pub lowest_none : (floor n : ℕ) (hs : List Heading) → AllByRecursion (λ (h : Heading). floor < h.level) hs → n - 1 ≤ floor → lowest_level n hs ≡ n
-lowest_none floor n [] deep le = refl
-lowest_none floor n (h ∷ hs) deep le =
-    let above : floor < h.level = deep.0 in
-    let same : min n h.level ≡ n = min-eq_left (omega (arith, le, above)) in
-    ap (λ (n : ℕ). lowest_level n hs) same ∙ lowest_none floor n hs deep.1 le
-
-pub all_later : (P : Heading → Type 0) (n : ℕ) (hs : List Heading) → AllByRecursion P hs → AllByRecursion P (drop n hs)
-all_later P zero hs all = all
-all_later P (suc n) [] all = tt
-all_later P (suc n) (h ∷ hs) all = all_later P n hs all.1
 
 -- ---- no title is passed
 
@@ -54,7 +41,7 @@ not_so b is = elim (cases_Bool b) [
 ]
 
 -- `few` are the kept beginnings from `first` on and before `end`, and `count` of them are passed
-pub none_passed : (states : Keywords) (t title : List ℕ) (lines few : List Beginnings) (first end count : ℕ) (sought : Sought) → AreBeginnings lines (headings_of t) → end ≤ length lines
+pub none_passed : (states : Keywords) (t title : List ℕ) (lines few : List Beginnings) (first end count : ℕ) (sought : Sought) → AreBeginnings lines (node_headings t) → end ≤ length lines
     → end ≤ node_count (tree t) → few ≡ take (end - first) (drop first lines) → sought ≡ sought_of title → count ≡ prefix_len (λ (line : Beginnings). not (may_have sought line)) few
     → NoneHas states t title first (first + count)
 none_passed states t title lines few first end count sought (inr none) all within fe se ce i low high =
@@ -72,10 +59,10 @@ none_passed states t title lines few first end count sought (inl kept) all withi
     let less : j < end - first = omega (arith, before, prefix_len-le-length P few, short) in
     let place : first + j ≡ i = omega (arith, low) in
     let inside : i < node_count (tree t) = omega (arith, place, less, within) in
-    let many : i < length (headings_of t) = omega (arith, inside, length-map (nodes_of t) heading_of) in
+    let many : i < length (node_headings t) = omega (arith, inside, length-map (nodes_of t) heading_of) in
     let here : get_or few j d ≡ beginnings_of p.node.rest =
     ap (λ (ls : List Beginnings). get_or ls j d) fe ∙ get_or-take (end - first) (drop first lines) j d less ∙ get_or-drop first lines j d ∙ ap (λ (n : ℕ). get_or lines n d) place
-    ∙ ap (λ (ls : List Beginnings). get_or ls i d) kept ∙ get_or-map begin_of (headings_of t) i (heading_of no_node) d many
+    ∙ ap (λ (ls : List Beginnings). get_or ls i d) kept ∙ get_or-map begin_of (node_headings t) i (heading_of no_node) d many
     ∙ ap begin_of (get_or-map heading_of (nodes_of t) i no_node (heading_of no_node) inside) in
     let passes : P (beginnings_of p.node.rest) ≡ true = ap P (sym here) ∙ prefix_len_passes P few j d before in
     cannot_have states p.node.rest title (ap (λ (s : Sought). may_have s (beginnings_of p.node.rest)) (sym se) ∙ not_so (may_have sought (beginnings_of p.node.rest)) passes)
@@ -88,30 +75,30 @@ all_pass p (x ∷ xs) all =
     let one : 1 + length xs ≡ suc (length xs) = omega arith in
     rw all.0 (ap (λ k. 1 + k) (all_pass p xs all.1) ∙ one)
 
-below_top : (t : List ℕ) → AllByRecursion (λ (h : Heading). ltb 0 h.level ≡ true) (headings_of t)
+below_top : (t : List ℕ) → AllByRecursion (λ (h : Heading). ltb 0 h.level ≡ true) (node_headings t)
 below_top t =
     let d = tree t in
     let v = (valid-tree_of_lines (lines_of t) (lines_of-lines t)).forest in
     deep_headings 0 (size d.preamble) d.forest (roots-positive d.forest v) v
 
 pub end_at_top : (t : List ℕ) (first level count : ℕ) → first ≤ node_count (tree t) → level ≡ 0 → count ≡ node_count (tree t)
-    → count ≡ first + prefix_len (λ (h : Heading). nat_lt level h.level) (drop first (headings_of t))
+    → count ≡ first + prefix_len (λ (h : Heading). nat_lt level h.level) (drop first (node_headings t))
 end_at_top t first level count le top ce =
-    let all : prefix_len (λ (h : Heading). nat_lt 0 h.level) (drop first (headings_of t)) ≡ length (drop first (headings_of t)) =
-    all_pass (λ (h : Heading). nat_lt 0 h.level) (drop first (headings_of t)) (all_later (λ (h : Heading). ltb 0 h.level ≡ true) first (headings_of t) (below_top t)) in
-    let same : prefix_len (λ (h : Heading). nat_lt level h.level) (drop first (headings_of t)) ≡ prefix_len (λ (h : Heading). nat_lt 0 h.level) (drop first (headings_of t)) =
-    ap (λ (n : ℕ). prefix_len (λ (h : Heading). nat_lt n h.level) (drop first (headings_of t))) top in
-    omega (arith, all, same, le, ce, length-drop first (headings_of t), headings_many t)
+    let all : prefix_len (λ (h : Heading). nat_lt 0 h.level) (drop first (node_headings t)) ≡ length (drop first (node_headings t)) =
+    all_pass (λ (h : Heading). nat_lt 0 h.level) (drop first (node_headings t)) (AllByRecursion-drop (λ (h : Heading). ltb 0 h.level ≡ true) first (node_headings t) (below_top t)) in
+    let same : prefix_len (λ (h : Heading). nat_lt level h.level) (drop first (node_headings t)) ≡ prefix_len (λ (h : Heading). nat_lt 0 h.level) (drop first (node_headings t)) =
+    ap (λ (n : ℕ). prefix_len (λ (h : Heading). nat_lt n h.level) (drop first (node_headings t))) top in
+    omega (arith, all, same, le, ce, length-drop first (node_headings t), headings_many t)
 
 -- the headings from `first` on, and before `end`, lie deeper than the level; the next one doesn't
 abbrev pub EndsDeeper : List Heading → ℕ → ℕ → ℕ → Type 0
 EndsDeeper hs level first end = end ≡ first + prefix_len (λ (h : Heading). nat_lt level h.level) (drop first hs)
 
-pub ends_deeper : (t : List ℕ) (hs : List Heading) (level first end : ℕ) → hs ≡ headings_of t → end ≡ first + prefix_len (λ (h : Heading). nat_lt level h.level) (drop first (headings_of t)) → EndsDeeper hs level first end
+pub ends_deeper : (t : List ℕ) (hs : List Heading) (level first end : ℕ) → hs ≡ node_headings t → end ≡ first + prefix_len (λ (h : Heading). nat_lt level h.level) (drop first (node_headings t)) → EndsDeeper hs level first end
 ends_deeper t hs level first end he e = e ∙ ap (λ (hs : List Heading). first + prefix_len (λ (h : Heading). nat_lt level h.level) (drop first hs)) (sym he)
 
 -- a number before the end is that of a heading
-pub in_range : (t : List ℕ) (hs : List Heading) (index end : ℕ) → hs ≡ headings_of t → index < end → end ≤ node_count (tree t) → index < length hs
+pub in_range : (t : List ℕ) (hs : List Heading) (index end : ℕ) → hs ≡ node_headings t → index < end → end ≤ node_count (tree t) → index < length hs
 in_range t hs index end he lt fits = omega (arith, lt, fits, ap (λ (l : List Heading). length l) he, headings_many t)
 
 deep_at : (hs : List Heading) (level first end i : ℕ) (d : Heading) → EndsDeeper hs level first end → first ≤ i → i < end → level < level_at hs i d
@@ -157,7 +144,7 @@ lowest_and n [] h = refl
 lowest_and n (g ∷ hs) h = lowest_and (min n g.level) hs h
 
 few_passed : (states : Keywords) (t title : List ℕ) (all : Result (Option ℕ) PathFault) (level deepest index : ℕ) (choice : Choice) (hs : List Heading) (d : Heading) (k : ℕ) → Child_pass states t title all level deepest index choice
-    → hs ≡ headings_of t → ((i : ℕ) → index ≤ i → i < index + k → level < level_at hs i d) → NoneHas states t title index (index + k) → index + k ≤ length hs
+    → hs ≡ node_headings t → ((i : ℕ) → index ≤ i → i < index + k → level < level_at hs i d) → NoneHas states t title index (index + k) → index + k ≤ length hs
     → Child_pass states t title all level (lowest_level deepest (take k (drop index hs))) (index + k) choice
 few_passed states t title all level deepest index choice hs d zero p he deep none within =
     let here : index ≡ index + 0 = omega arith in
@@ -193,7 +180,7 @@ search_start states t title all level first end deepest choice hs p e = record {
 
 -- on to the next candidate, from the one at `index`
 pub search_on : (states : Keywords) (t title : List ℕ) (all : Result (Option ℕ) PathFault) (level first end deepest index next : ℕ) (before choice : Choice) (hs : List Heading) (d : Heading) (lowest : ℕ)
-    → Child_search states t title all level first end deepest index before → hs ≡ headings_of t → EndsDeeper hs level first end → end ≤ node_count (tree t)
+    → Child_search states t title all level first end deepest index before → hs ≡ node_headings t → EndsDeeper hs level first end → end ≤ node_count (tree t)
     → Child_pass states t title all level (min deepest (level_at hs index d)) (index + 1) choice → index + 1 ≤ next → next ≤ end → NoneHas states t title (index + 1) next
     → lowest ≡ lowest_level deepest (take (next - index) (drop index hs)) → Child_search states t title all level first end lowest next choice
 search_on states t title all level first end deepest index next before choice hs d lowest s he e fits p low high none me =
@@ -218,7 +205,7 @@ pub search_deep : (states : Keywords) (t title : List ℕ) (all : Result (Option
 search_deep states t title all level first end deepest index choice hs d s e lt = deep_at hs level first end index d e s.from lt
 
 pub search_end : (states : Keywords) (t title : List ℕ) (all : Result (Option ℕ) PathFault) (level first end deepest index : ℕ) (choice : Choice) (hs : List Heading)
-    → Child_search states t title all level first end deepest index choice → hs ≡ headings_of t → EndsDeeper hs level first end → first ≤ node_count (tree t) → end ≤ index → still_to_come choice [] ≡ all
+    → Child_search states t title all level first end deepest index choice → hs ≡ node_headings t → EndsDeeper hs level first end → first ≤ node_count (tree t) → end ≤ index → still_to_come choice [] ≡ all
 search_end states t title all level first end deepest index choice hs s he e low past =
     let d : Heading = heading_of no_node in
     let within = s.within in
@@ -254,11 +241,6 @@ head_next states t title all index next choice w low high none =
 
 -- ---- nothing lies above the top level
 
-all_first : (P : Heading → Type 0) (n : ℕ) (hs : List Heading) → AllByRecursion P hs → AllByRecursion P (take n hs)
-all_first P zero hs all = tt
-all_first P (suc n) [] all = tt
-all_first P (suc n) (h ∷ hs) all = (all.0, all_first P n hs all.1)
-
 none_above : (n i : ℕ) (best : Option ℕ) (hs : List Heading) → n ≤ 1 → AllByRecursion (λ (h : Heading). ltb 0 h.level ≡ true) hs → last_above n i best hs ≡ best
 none_above n i best [] le all = refl
 none_above n i best (h ∷ hs) le all =
@@ -266,7 +248,7 @@ none_above n i best (h ∷ hs) le all =
     let isnt : nat_lt h.level n ≡ false = grind (arith, nat_tests) in
     rw isnt (none_above n (suc i) best hs le all.1)
 
-pub top_has_none : (t : List ℕ) (hs : List Heading) (n j : ℕ) → hs ≡ headings_of t → n ≡ 1 → None ≡ last_above n 0 None (take j hs)
+pub top_has_none : (t : List ℕ) (hs : List Heading) (n j : ℕ) → hs ≡ node_headings t → n ≡ 1 → None ≡ last_above n 0 None (take j hs)
 top_has_none t hs n j he top =
     let all : AllByRecursion (λ (h : Heading). ltb 0 h.level ≡ true) hs = subst (λ (hs : List Heading). AllByRecursion (λ (h : Heading). ltb 0 h.level ≡ true) hs) (sym he) (below_top t) in
-    sym (none_above n 0 None (take j hs) (omega (arith, top)) (all_first (λ (h : Heading). ltb 0 h.level ≡ true) j hs all))
+    sym (none_above n 0 None (take j hs) (omega (arith, top)) (AllByRecursion-take (λ (h : Heading). ltb 0 h.level ≡ true) j hs all))

@@ -1,17 +1,16 @@
 -- Every heading has a path: the one whose steps count the headings before with the same title.
-use Rattle.std.proofs.Common.{◌≡◌, ℕ, zero, suc, ◌+◌, ◌-◌, ◌<◌, ◌≤◌, Bool, true, false, cond, ltb, List, [], ◌∷◌, ◌++◌, length, Option, Some, None, Ok, refl, sym, ap, subst, ◌∙◌, append_assoc, length-append, arith, inl, inr}
+use Rattle.std.proofs.Common.{◌≡◌, ℕ, zero, suc, ◌+◌, ◌-◌, ◌<◌, ◌≤◌, true, cond, ltb, List, [], ◌∷◌, ◌++◌, length, Option, Some, None, Ok, refl, sym, ap, ◌∙◌, append_assoc, length-append, arith, inl, inr}
 use Rattle.std.specs.Prelude.{slice_get}
 use Rattle.std.specs.List.{AllByRecursion, filter}
 use Rattle.std.specs.Str.{bytes_eq}
 use Rattle.std.proofs.lemmas.Bool.{cases_Bool}
 use Rattle.std.proofs.lemmas.Slice.Eq.{bytes_eq-Decides}
 use Rattle.std.proofs.lemmas.Bool.Decides.{nat_tests}
-use Rattle.org_outline.specs.declared.steps.Step.{Step}
 use Rattle.org_outline.specs.States.{Keywords}
 use Rattle.org_outline.specs.Tree.{Forest, Empty, Tree, Node, Document, total, node_at, node_count}
-use Rattle.org_outline.specs.Paths.{IsNumbered, and_below, child_at, find_below, find_path, found, path_from, path_of, step_behind, some_or_fault, the_one, title_of, titled_roots, titled_children}
+use Rattle.org_outline.specs.Paths.{IsNumbered, and_below, child_at, find_below, find_path, found, path_from, path_of, step_behind, some_or_fault, title_of, titled_roots, titled_children}
 use Rattle.org_outline.proofs.ByNumber.{nth, node-is, count-is}
-use Rattle.org_outline.proofs.Children.{StandsAt}
+use Rattle.org_outline.proofs.Children.{StandsAt, stands_behind, stands_below}
 
 -- the titles of `before` that are this one
 abbrev with_title : List ℕ → List (List ℕ) → List (List ℕ)
@@ -61,18 +60,6 @@ behind_first states d up before k n r s kids later title b =
 
 stands_first : (d : Document) (k n : ℕ) (r : List ℕ) (s : List (List ℕ)) (kids later : Forest) → StandsAt d k (Tree n r s kids later) → (node_at d k).node.children ≡ kids
 stands_first d k n r s kids later stands = ap (λ (n : Node). n.children) (stands 0 k (omega arith) (omega arith))
-
-stands_below : (d : Document) (k n : ℕ) (r : List ℕ) (s : List (List ℕ)) (kids later : Forest) → StandsAt d k (Tree n r s kids later) → StandsAt d (suc k) kids
-stands_below d k n r s kids later stands = λ j q is lt.
-    let e : ltb j (total kids) ≡ true = grind (arith, nat_tests) in
-    stands (suc j) q (omega (arith, is)) (omega (arith, lt)) ∙ rw e refl
-
-stands_behind : (d : Document) (k n : ℕ) (r : List ℕ) (s : List (List ℕ)) (kids later : Forest) → StandsAt d k (Tree n r s kids later) → StandsAt d (suc k + total kids) later
-stands_behind d k n r s kids later stands = λ j q is lt.
-    let past : total kids ≤ total kids + j = omega arith in
-    let e : ltb (total kids + j) (total kids) ≡ false = grind (arith, nat_tests) in
-    let back : total kids + j - total kids ≡ j = omega arith in
-    stands (suc (total kids + j)) q (omega (arith, is)) (omega (arith, lt)) ∙ rw (e, back) refl
 
 -- the look-up comes to the node at i of a forest
 comes_to : (states : Keywords) (d : Document) (up : Option ℕ) (before : List (List ℕ)) (i k node : ℕ) (f : Forest) → StandsAt d k f → ((title : List ℕ) → Behind states d up before k f title) → i < total f → node ≡ k + i

@@ -4,14 +4,15 @@ use Rattle.std.specs.Prelude.{replicate}
 use Rattle.std.proofs.lemmas.Bool.{eqb-true}
 use Rattle.std.proofs.lemmas.List.{length-append, length-drop, length-replicate, take_at, drop_at, drop-drop, get_or_at, take_all}
 use Rattle.memchr.specs.Find.{IsFirstByte, is_byte}
-use Rattle.org_outline.specs.declared.heads.Heading.{Heading}
+use Rattle.org_headings.specs.declared.heads.Heading.{Heading}
 use Rattle.org_splice.specs.Lines.{terminated, print_lines, IsLine}
-use Rattle.org_outline.specs.Text.{heading_line}
+use Rattle.org_headings.specs.Text.{heading_line}
 use Rattle.org_outline.specs.Tree.{lines, tree, node_at, node_count}
-use Rattle.org_outline.specs.Outline.{headings_of}
-use Rattle.org_outline.proofs.LineWalk.{line_of, cut_found}
+use Rattle.org_outline.specs.Outline.{node_headings}
+use Rattle.org_splice.proofs.LineWalk.{line_of, cut_found}
 use Rattle.org_outline.proofs.Nodes.{heading_read, heading_is}
-use Rattle.org_outline.proofs.Sections.{node-valid, first_newline, from_node}
+use Rattle.org_outline.proofs.Sections.{node-valid, from_node}
+use Rattle.org_splice.proofs.LineWalk.{first_newline}
 
 -- the line behind its stars
 behind : (t : List ℕ) (start level : ℕ) (rest more : List ℕ) → drop start t ≡ heading_line level rest ++ 10 ∷ more → drop (start + level) t ≡ rest ++ 10 ∷ more
@@ -59,7 +60,7 @@ record Stands (t : List ℕ) (i : ℕ) (h : Heading) : Type 0 where
   split : drop h.start t ≡ heading_line h.level (node_at (tree t) i).node.rest ++ 10 ∷ more
   room : h.start + h.level ≤ length t
 
-stands : (t : List ℕ) (i j : ℕ) (hs : List Heading) (d : Heading) → terminated t ≡ t → j ≡ i → hs ≡ headings_of t → i < node_count (tree t) → Stands t i (get_or hs j d)
+stands : (t : List ℕ) (i j : ℕ) (hs : List Heading) (d : Heading) → terminated t ≡ t → j ≡ i → hs ≡ node_headings t → i < node_count (tree t) → Stands t i (get_or hs j d)
 stands t i j hs d c je he lt =
     let h = get_or hs j d in
     let read = heading_read t i j hs d je he lt in
@@ -74,17 +75,17 @@ stands t i j hs d c je he lt =
     let stars : length l ≡ h.level + length n.rest = length-append (replicate h.level 42) n.rest ∙ ap (λ k. k + length n.rest) (length-replicate h.level 42) in
     record { more = below ++ m.0; split = split; room = omega (arith, long, stars, length-drop h.start t) }
 
-pub rest_room : (t u : List ℕ) (i j : ℕ) (hs : List Heading) (d : Heading) → u ≡ t → terminated t ≡ t → j ≡ i → hs ≡ headings_of t → i < node_count (tree t) → (get_or hs j d).start + (get_or hs j d).level ≤ length u
+pub rest_room : (t u : List ℕ) (i j : ℕ) (hs : List Heading) (d : Heading) → u ≡ t → terminated t ≡ t → j ≡ i → hs ≡ node_headings t → i < node_count (tree t) → (get_or hs j d).start + (get_or hs j d).level ≤ length u
 rest_room t u i j hs d ue c je he lt = let s = stands t i j hs d c je he lt in let room = s.room in omega (arith, room, ap length ue)
 
-pub rest_at : (t u s : List ℕ) (i j : ℕ) (hs : List Heading) (d : Heading) → u ≡ t → terminated t ≡ t → j ≡ i → hs ≡ headings_of t → i < node_count (tree t)
+pub rest_at : (t u s : List ℕ) (i j : ℕ) (hs : List Heading) (d : Heading) → u ≡ t → terminated t ≡ t → j ≡ i → hs ≡ node_headings t → i < node_count (tree t)
     → ((rest more : List ℕ) → IsLine rest → drop (get_or hs j d).start u ≡ heading_line (get_or hs j d).level rest ++ 10 ∷ more → s ≡ rest)
     → s ≡ (node_at (tree t) i).node.rest
 rest_at t u s i j hs d ue c je he lt found =
     let st = stands t i j hs d c je he lt in
     found (node_at (tree t) i).node.rest st.more (node-valid t i lt).heading.rest (ap (drop (get_or hs j d).start) ue ∙ st.split)
 
-pub tail_at : (t u s : List ℕ) (i j : ℕ) (hs : List Heading) (d : Heading) → u ≡ t → terminated t ≡ t → j ≡ i → hs ≡ headings_of t → i < node_count (tree t)
+pub tail_at : (t u s : List ℕ) (i j : ℕ) (hs : List Heading) (d : Heading) → u ≡ t → terminated t ≡ t → j ≡ i → hs ≡ node_headings t → i < node_count (tree t)
     → s ≡ drop ((get_or hs j d).start + (get_or hs j d).level) u
     → (more : List ℕ) × (s ≡ (node_at (tree t) i).node.rest ++ 10 ∷ more)
 tail_at t u s i j hs d ue c je he lt se =

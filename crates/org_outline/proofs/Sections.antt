@@ -1,20 +1,19 @@
 -- The section of a node in the text.
-use Rattle.std.proofs.Common.{◌≡◌, ℕ, zero, suc, ◌+◌, ◌-◌, ◌<◌, ◌≤◌, List, [], ◌∷◌, ◌++◌, length, drop, take, get_or, Option, Some, None, refl, sym, ap, subst, ◌∙◌, append_assoc, arith, eq-eqb, add-one}
-use Rattle.std.specs.Prelude.{◌≢◌}
+use Rattle.std.proofs.Common.{◌≡◌, ℕ, suc, ◌+◌, ◌-◌, ◌<◌, ◌≤◌, List, [], ◌∷◌, ◌++◌, length, drop, take, get_or, refl, sym, ap, subst, ◌∙◌, append_assoc, arith, add-one}
 use Rattle.std.specs.List.{AllByRecursion}
-use Rattle.std.proofs.lemmas.Bool.{eqb-true}
-use Rattle.std.proofs.lemmas.List.{length-append, length-drop, take-append-drop, take_rest, take_at, drop_at, drop-drop, get_or_at}
-use Rattle.memchr.specs.Find.{IsFirstByte, is_byte}
+use Rattle.std.proofs.lemmas.List.{length-append, length-drop, take-append-drop, take_at, drop_at, drop-drop}
 use Rattle.org_splice.proofs.Lines.{lines_of-lines, size, size-cons, print_lines-append}
-use Rattle.org_outline.specs.declared.heads.Heading.{Heading}
+use Rattle.org_headings.specs.declared.heads.Heading.{Heading}
 use Rattle.org_splice.specs.Lines.{terminated, print_lines, IsLine, lines_of}
-use Rattle.org_outline.specs.Text.{heading_line}
+use Rattle.org_headings.specs.Text.{heading_line}
 use Rattle.org_outline.specs.Tree.{Forest, Empty, Tree, Document, Placed, lines, own_lines, print_node, IsForest, IsValid, tree, nodes, nodes_from, node_at, node_count, no_node}
-use Rattle.org_outline.specs.Outline.{heading_of, headings_of, next_at, start_or, IsSection}
+use Rattle.org_outline.specs.Outline.{heading_of, IsSection, node_headings}
+use Rattle.org_headings.specs.Headings.{next_at, start_or}
 use Rattle.org_outline.specs.Moves.{IsNode}
-use Rattle.org_outline.proofs.Lines.{AllByRecursion-append}
+use Rattle.org_splice.proofs.AllLines.{AllByRecursion-append}
 use Rattle.org_outline.proofs.Trees.{valid-tree_of_lines, IsLine-heading}
-use Rattle.org_outline.proofs.Nodes.{node_of, own_end, subtree_is, AllByRecursion-at, heading_at}
+use Rattle.org_outline.proofs.Nodes.{node_of, own_end, subtree_is, heading_at}
+use Rattle.org_splice.proofs.AllLines.{AllByRecursion-at}
 
 -- each node of a valid forest is a valid tree
 pub nodes-valid : (at : ℕ) (f : Forest) → IsForest f → AllByRecursion (λ (p : Placed). IsNode p.node) (nodes_from at f)
@@ -33,42 +32,17 @@ valid_node d i valid lt = AllByRecursion-at (λ (p : Placed). IsNode p.node) (no
 pub node-valid : (t : List ℕ) (i : ℕ) → i < node_count (tree t) → IsNode (node_at (tree t) i).node
 node-valid t i lt = valid_node (tree t) i (valid-tree_of_lines (lines_of t) (lines_of-lines t)) lt
 
--- the first newline after a line
-pub first_newline : (l more : List ℕ) (e : ℕ) → IsLine l → ((k : ℕ) → k < e → get_or (l ++ 10 ∷ more) k 0 ≢ 10) → get_or (l ++ 10 ∷ more) e 0 ≡ 10 → e ≡ length l
-first_newline [] more zero p before here = refl
-first_newline [] more (suc e) p before here = absurd (before 0 (omega arith) refl)
-first_newline (b ∷ l) more zero p before here = absurd (p.0 here)
-first_newline (b ∷ l) more (suc e) p before here = ap suc (first_newline l more e p.1 (λ k lt. before (suc k) (omega arith)) here)
-
--- the first newline, where there is one
-pub line_end : (t : List ℕ) (start : ℕ) (r : Option ℕ) (e : ℕ) → IsFirstByte (is_byte 10) (take (length t - start) (drop start t)) r → r ≡ Some e
-    → (l more : List ℕ) → IsLine l → drop start t ≡ l ++ 10 ∷ more → start + e + 1 ≡ start + length l + 1
-line_end t start r e h is l more p split =
-    let P : List ℕ → Type 0 = λ t. IsFirstByte (is_byte 10) t (Some e) in
-    let Q : Option ℕ → Type 0 = λ r. IsFirstByte (is_byte 10) (take (length t - start) (drop start t)) r in
-    let g = subst P (take_rest t start ∙ split) (subst Q is h) in
-    let same : e ≡ length l = first_newline l more e p (λ k lt e1. g.0.before k (omega arith) lt (eq-eqb (get_or (l ++ 10 ∷ more) k 0) 10 e1)) (eqb-true (get_or (l ++ 10 ∷ more) e 0) 10 g.1) in
-    omega (arith, same)
-
-pub line_none : (t : List ℕ) (start : ℕ) (r : Option ℕ) → IsFirstByte (is_byte 10) (take (length t - start) (drop start t)) r → r ≡ None
-    → (l more : List ℕ) → IsLine l → drop start t ≡ l ++ 10 ∷ more → ⊥
-line_none t start r h is l more p split =
-    let P : List ℕ → Type 0 = λ t. IsFirstByte (is_byte 10) t None in
-    let Q : Option ℕ → Type 0 = λ r. IsFirstByte (is_byte 10) (take (length t - start) (drop start t)) r in
-    let g = subst P (take_rest t start ∙ split) (subst Q is h) in
-    g (length l) (omega arith) (omega (arith, length-append l (10 ∷ more))) (eq-eqb (get_or (l ++ 10 ∷ more) (length l) 0) 10 (get_or_at l 10 more 0 (length l) refl))
-
 -- the text from a node on
-pub from_node : (t : List ℕ) (i : ℕ) (h : Heading) → terminated t ≡ t → i < node_count (tree t) → h ≡ get_or (headings_of t) i h → (more : List ℕ) × (drop h.start t ≡ print_node (node_at (tree t) i).node ++ more)
+pub from_node : (t : List ℕ) (i : ℕ) (h : Heading) → terminated t ≡ t → i < node_count (tree t) → h ≡ get_or (node_headings t) i h → (more : List ℕ) × (drop h.start t ≡ print_node (node_at (tree t) i).node ++ more)
 from_node t i h c lt e =
     let s = subtree_is t i h c lt e in
-    let k = next_at h.level (drop (suc i) (headings_of t)) (length t) - h.start in
+    let k = next_at h.level (drop (suc i) (node_headings t)) (length t) - h.start in
     (drop k (drop h.start t), sym (take-append-drop k (drop h.start t)) ∙ ap (λ x. x ++ drop k (drop h.start t)) s.bytes)
 
 -- what the code answers
-pub section_is : (t : List ℕ) (i : ℕ) (h : Heading) (from : ℕ) → terminated t ≡ t → i < node_count (tree t) → h ≡ get_or (headings_of t) i h
+pub section_is : (t : List ℕ) (i : ℕ) (h : Heading) (from : ℕ) → terminated t ≡ t → i < node_count (tree t) → h ≡ get_or (node_headings t) i h
     → ((l more : List ℕ) → IsLine l → drop h.start t ≡ l ++ 10 ∷ more → from ≡ h.start + length l + 1)
-    → IsSection t (node_at (tree t) i) (record { start = from; end = start_or (drop (suc i) (headings_of t)) (length t) })
+    → IsSection t (node_at (tree t) i) (record { start = from; end = start_or (drop (suc i) (node_headings t)) (length t) })
 section_is t i h from c lt e found =
     let p = node_at (tree t) i in
     let n = p.node in
@@ -82,8 +56,8 @@ section_is t i h from c lt e found =
     let line : from ≡ h.start + length l + 1 = found l after (IsLine-heading n.level n.rest v.rest) split in
     let own : size (own_lines n) ≡ length l + 1 + size n.section = size-cons l n.section in
     let start : h.start ≡ p.at = s.start in
-    let end : start_or (drop (suc i) (headings_of t)) (length t) ≡ p.at + size (own_lines n) = own_end t i c lt in
-    let long : start_or (drop (suc i) (headings_of t)) (length t) - from ≡ size n.section = omega (arith, own, start, end, line) in
+    let end : start_or (drop (suc i) (node_headings t)) (length t) ≡ p.at + size (own_lines n) = own_end t i c lt in
+    let long : start_or (drop (suc i) (node_headings t)) (length t) - from ≡ size n.section = omega (arith, own, start, end, line) in
     let there : from ≡ h.start + suc (length l) = omega (arith, line) in
     let rest : drop from t ≡ print_lines n.section ++ (print_lines (lines n.children) ++ m.0) =
     ap (λ k. drop k t) there ∙ sym (drop-drop (suc (length l)) h.start t) ∙ ap (drop (suc (length l))) (split ∙ sym (append_assoc l (10 ∷ []) after))
@@ -96,13 +70,13 @@ section_is t i h from c lt e found =
     }
 
 -- the same as the code says it
-pub section_at : (t u : List ℕ) (i : ℕ) (h : Heading) (later : List Heading) (from end : ℕ) → u ≡ t → terminated t ≡ t → i < node_count (tree t) → h ≡ heading_of (node_at (tree t) i) → later ≡ drop (i + 1) (headings_of t)
+pub section_at : (t u : List ℕ) (i : ℕ) (h : Heading) (later : List Heading) (from end : ℕ) → u ≡ t → terminated t ≡ t → i < node_count (tree t) → h ≡ heading_of (node_at (tree t) i) → later ≡ drop (i + 1) (node_headings t)
     → ((l more : List ℕ) → IsLine l → drop h.start u ≡ l ++ 10 ∷ more → from ≡ h.start + length l + 1)
     → end ≡ start_or later (length u)
     → IsSection t (node_at (tree t) i) (record { start = from; end = end })
 section_at t u i h later from end ue c lt he le found ee =
-    let ends : start_or (drop (suc i) (headings_of t)) (length t) ≡ end =
-    sym (ee ∙ ap (λ xs. start_or xs (length u)) (le ∙ ap (λ k. drop k (headings_of t)) (add-one i)) ∙ ap (λ u. start_or (drop (suc i) (headings_of t)) (length u)) ue) in
+    let ends : start_or (drop (suc i) (node_headings t)) (length t) ≡ end =
+    sym (ee ∙ ap (λ xs. start_or xs (length u)) (le ∙ ap (λ k. drop k (node_headings t)) (add-one i)) ∙ ap (λ u. start_or (drop (suc i) (node_headings t)) (length u)) ue) in
     let line : (l more : List ℕ) → IsLine l → drop h.start t ≡ l ++ 10 ∷ more → from ≡ h.start + length l + 1 = λ l more is split. found l more is (ap (drop h.start) ue ∙ split) in
     let E : ℕ → Type 0 = λ end. IsSection t (node_at (tree t) i) (record { start = from; end = end }) in
     subst E ends (section_is t i h from c lt (heading_at t i h lt he) line)

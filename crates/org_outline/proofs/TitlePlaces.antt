@@ -11,31 +11,13 @@ use Rattle.std.proofs.lemmas.List.{take-append-drop, length-drop}
 use Rattle.std.proofs.lemmas.List.Folds.{length-prefix_len}
 use Rattle.std.proofs.lemmas.Slice.Eq.{bytes_eq-Decides, starts_is}
 use Rattle.org_splice.specs.Blanks.{is_blank, is_trailing, is_solid, front, behind, without_end, end_of, trimmed}
-use Rattle.org_splice.proofs.Ends.{both, kept_end}
+use Rattle.org_splice.proofs.Ends.{behind-none, both, kept_end, take-none}
 use Rattle.org_outline.specs.States.{Keywords, has_word}
 use Rattle.org_outline.specs.Parts.{tags_of, keyword_of, priority_of, after_keyword, after_priority, without_blanks}
-use Rattle.org_outline.specs.Beginnings.{first_place, second_place, beginning_of, may_begin, may_begin_date, beginnings_of, may_have, sought_of}
+use Rattle.org_headings.specs.Beginnings.{first_place, second_place, beginning_of, may_begin, may_begin_date, beginnings_of, may_have, sought_of}
 use Rattle.org_outline.specs.Paths.{title_of, can_begin}
 
 -- ---- the bytes behind those that pass
-
-behind-none : (p : ℕ → Bool) (l : List ℕ) → prefix_len p (behind p l) ≡ 0
-behind-none p [] = refl
-behind-none p (b ∷ l) =
-    let next : 1 + prefix_len p l ≡ suc (prefix_len p l) = omega arith in
-    elim (cases_Bool (p b)) [
-      | inl e ↦ rw (e, next) (behind-none p l)
-      | inr e ↦ rw (e, e) refl
-    ]
-
-take-none : (p : ℕ → Bool) (n : ℕ) (l : List ℕ) → prefix_len p l ≡ 0 → prefix_len p (take n l) ≡ 0
-take-none p zero l none = refl
-take-none p (suc n) [] none = refl
-take-none p (suc n) (b ∷ l) none =
-    elim (cases_Bool (p b)) [
-      | inl e ↦ absurd (omega (arith, rw e at none))
-      | inr e ↦ rw e refl
-    ]
 
 -- a byte that doesn't pass ends them
 pub behind-stop : (p : ℕ → Bool) (l : List ℕ) (b : ℕ) (z : List ℕ) → p b ≡ false → behind p (l ++ b ∷ z) ≡ behind p l ++ b ∷ z

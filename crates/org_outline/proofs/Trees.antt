@@ -7,10 +7,11 @@ use Rattle.std.proofs.lemmas.Bool.Decides.{nat_tests}
 use Rattle.std.proofs.lemmas.List.{append-nil}
 use Rattle.org_splice.specs.Lines.{print_lines, IsLine, lines_of, terminated}
 use Rattle.org_splice.proofs.Lines.{lines_of-lines, lines_of-print_lines, lines_of-terminated, print_lines-lines_of}
-use Rattle.org_outline.specs.Text.{level_of, heading_line}
+use Rattle.org_headings.specs.Text.{level_of, heading_line}
 use Rattle.org_outline.specs.Tree.{Forest, Empty, Tree, Document, lines, AllRoots, IsPlain, IsForest, IsValid, IsTreeOf, deeper, others, with_line, tree_of_lines, tree}
 use Rattle.org_outline.specs.Moves.{joined}
-use Rattle.org_outline.proofs.Lines.{AllByRecursion-append, AllByRecursion-drop, AllByRecursion-replicate, level_of-some, level_of-heading, drop-heading}
+use Rattle.org_headings.proofs.Lines.{level_of-some, level_of-heading, drop-heading}
+use Rattle.org_splice.proofs.AllLines.{AllByRecursion-append, AllByRecursion-drop, AllByRecursion-replicate}
 
 -- ---- the first deeper trees, and the others
 

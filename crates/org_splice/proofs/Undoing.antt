@@ -29,6 +29,10 @@ AreUndos-last room (one ∷ undos) undo text are =
     let rest = AreUndos-last room undos undo text are.0 in
     (rest.0, (rest.1, subst (IsUndo room one) (undone_all-push undos undo text) are.1))
 
+-- the same as the code says it: `undo` was taken off the list `items`
+pub AreUndos-popped : (room : ℕ) (items undos : List Undo) (undo : Undo) (text : EditedText) → items ≡ undos ++ undo ∷ [] → AreUndos room items text → IsUndo room undo text × AreUndos room undos (undone undo text)
+AreUndos-popped room items undos undo text is are = AreUndos-last room undos undo text (subst (λ (l : List Undo). AreUndos room l text) is are)
+
 pub AreUndos-wider : (room wider : ℕ) (undos : List Undo) (text : EditedText) → room ≤ wider → AreUndos room undos text → AreUndos wider undos text
 AreUndos-wider room wider [] text more are = tt
 AreUndos-wider room wider (one ∷ undos) text more are = (

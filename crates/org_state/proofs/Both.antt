@@ -9,7 +9,7 @@ use Rattle.org_splice.specs.declared.edit.Edit.{Edit}
 use Rattle.org_splice.specs.Edits.{AreEdits}
 use Rattle.org_splice.proofs.Places.{AreEdits-join}
 use Rattle.org_stamp.specs.Calendar.{Moment}
-use Rattle.org_outline.specs.Text.{heading_line}
+use Rattle.org_headings.specs.Text.{heading_line}
 use Rattle.org_outline.specs.Tree.{Forest, Empty, Tree, Document, print, tree, lines, total, node_at, node_count}
 use Rattle.org_outline.specs.Moves.{from_node, with_own, with_own_lines}
 use Rattle.org_outline.specs.Numbers.{OwnParts}

@@ -7,7 +7,7 @@ use Rattle.std.proofs.lemmas.List.Quantifiers.{position-Some}
 use Rattle.std.proofs.lemmas.List.Sums.{sum_by-cons}
 use Rattle.org_splice.specs.Lines.{IsLine}
 use Rattle.org_stamp.specs.Calendar.{Moment, IsDay}
-use Rattle.org_outline.specs.Text.{level_of}
+use Rattle.org_headings.specs.Text.{level_of}
 use Rattle.org_outline.specs.Tree.{Document, IsPlain, IsValid, Node, node_at, node_count, nodes, no_node, print, tree}
 use Rattle.org_outline.specs.Moves.{IsNode}
 use Rattle.org_outline.specs.Numbers.{weigh_node}

@@ -14,9 +14,10 @@ use Rattle.org_splice.specs.Searched.{IsFrontWithout, IsBackWithout, StandsInLin
 use Rattle.org_splice.proofs.Searches.{front_of, lines_of-both}
 use Rattle.org_splice.proofs.Lines.{size, size-cons, print_lines-lines_of, lines_of-lines, lines_of-print_lines, print_lines-append, terminated-print_lines}
 use Rattle.org_stamp.specs.Parts.{◌>>=◌}
-use Rattle.org_outline.specs.Text.{level_of}
+use Rattle.org_headings.specs.Text.{level_of}
 use Rattle.org_outline.specs.Tree.{Document, Placed, nodes, node_at, node_count, no_node, tree, tree_of_lines, with_line}
-use Rattle.org_outline.proofs.Nodes.{AllByRecursion-at, nodes_at, nodes_at-start, nodes-with_line, with_node}
+use Rattle.org_outline.proofs.Nodes.{nodes_at, nodes_at-start, nodes-with_line, with_node}
+use Rattle.org_splice.proofs.AllLines.{AllByRecursion-at}
 use Rattle.org_meta.specs.Clocks.{is_open, open_line, line_span}
 use Rattle.org_state.specs.declared.run.Running.{Running}
 use Rattle.org_state.specs.Clock.{has_clock, runs_at, running_heading, running_at, running_in, span_from}

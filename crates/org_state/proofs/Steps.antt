@@ -9,7 +9,7 @@ use Rattle.org_splice.specs.Edits.{edited, applied, AreEdits}
 use Rattle.org_splice.specs.declared.edit.Edit.{Edit}
 use Rattle.org_splice.proofs.Lines.{print_lines-append, lines_of-print_lines}
 use Rattle.org_splice.proofs.Places.{edits_in_place, AreEdits-join}
-use Rattle.org_outline.specs.Text.{heading_line}
+use Rattle.org_headings.specs.Text.{heading_line}
 use Rattle.org_outline.specs.Tree.{Document, Node, print, tree, node_at, node_count}
 use Rattle.org_outline.specs.Moves.{with_own_lines}
 use Rattle.org_outline.proofs.Changes.{own_lines_local}

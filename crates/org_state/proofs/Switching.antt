@@ -15,7 +15,7 @@ use Rattle.org_splice.proofs.Lines.{print_lines-append, lines_of-append, termina
 use Rattle.org_splice.proofs.Places.{edits_in_place}
 use Rattle.org_stamp.specs.Calendar.{Moment}
 use Rattle.org_stamp.proofs.Found.{bind_ok}
-use Rattle.org_outline.specs.Text.{heading_line}
+use Rattle.org_headings.specs.Text.{heading_line}
 use Rattle.org_outline.specs.Tree.{Document, Node, print, tree, nodes, node_at, node_count, no_node}
 use Rattle.org_outline.proofs.Changes.{own_lines_local}
 use Rattle.org_outline.proofs.Rewriting.{same-rewritten}

@@ -14,7 +14,7 @@ use Rattle.org_outline.specs.declared.paths.PathFault.{PathFault}
 use Rattle.org_outline.specs.Parts.{content_of, keyword_of}
 use Rattle.org_outline.specs.Paths.{find_path}
 use Rattle.org_outline.specs.States.{Keywords, all_distinct, are_states, is_state_byte, is_state_word}
-use Rattle.org_outline.specs.Text.{begins_with_space}
+use Rattle.org_headings.specs.Text.{begins_with_space}
 use Rattle.org_outline.specs.Tree.{Document, IsPlain, IsValid, node_at, node_count, print, tree}
 use Rattle.org_outline.specs.Moves.{IsNode}
 use Rattle.org_outline.proofs.Changes.{own_lines_valid}
@@ -27,7 +27,7 @@ use Rattle.org_fault.specs.declared.refusal.Refusal.{Refusal}
 use Rattle.org_meta.specs.Moments.{moment_text}
 use Rattle.org_meta.specs.Planning.{PlanningLine, clear_closed, has_repeater, planning_of, repeated_entries, set_closed}
 use Rattle.org_meta.specs.Sections.{SectionParts, joined, property_line, split}
-use Rattle.org_meta.proofs.AllLines.{AllByRecursion-take, AllByRecursion-drop}
+use Rattle.org_splice.proofs.AllLines.{AllByRecursion-take, AllByRecursion-drop}
 use Rattle.org_meta.proofs.ClosedClocks.{moment_line}
 use Rattle.org_meta.proofs.Flat.{Flat, both_lines, empty_line, tested, with_first_byte}
 use Rattle.org_meta.proofs.Keeping.{All-drawer, AllParts, all_joined, all_split}

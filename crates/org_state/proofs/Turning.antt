@@ -28,7 +28,7 @@ use Rattle.org_meta.specs.Planning.{PlanningLine, planning_of, has_repeater, Are
 use Rattle.org_meta.specs.Replans.{RewritesOk, HasNoRepeater, RewritesRepeated, RewritesRepeatedIn, IsRefusedRepeat, repeated_line}
 use Rattle.org_meta.specs.Sections.{SectionParts, split, joined, parts_of, put, planning_size}
 use Rattle.org_meta.proofs.Puts.{joined_split}
-use Rattle.org_meta.proofs.AllLines.{AllByRecursion-take}
+use Rattle.org_splice.proofs.AllLines.{AllByRecursion-take}
 use Rattle.org_meta.proofs.Resplit.{split_planning, split_front}
 use Rattle.org_state.specs.Keyword.{is_state, keyword_in, with_keyword}
 use Rattle.org_state.specs.Edits.{section_start, moved, EditsRest}

@@ -4,7 +4,7 @@ use Rattle.org_splice.specs.Lines.{print_lines}
 use Rattle.org_meta.specs.Edits.{Rewrites}
 use Rattle.org_splice.specs.declared.edit.Edit.{Edit}
 use Rattle.org_splice.specs.Edits.{applied}
-use Rattle.org_outline.specs.Text.{heading_line}
+use Rattle.org_headings.specs.Text.{heading_line}
 use Rattle.org_outline.specs.Tree.{Document, node_at}
 
 -- where the rest of heading i begins in the print, behind its stars

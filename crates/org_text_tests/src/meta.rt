@@ -5,8 +5,9 @@ ghost use Rattle.org_splice.specs.Lines.{terminated};
 
 use crate::shared::{becomes, now, states, titles};
 use org_fault::{Fault, Refusal};
+use org_headings::is_terminated;
 use org_meta::{add_note, property, put_property, repeat_planning, sections, set_closed};
-use org_outline::{Outline, is_terminated};
+use org_outline::Outline;
 use org_splice::Edit;
 use org_stamp::Moment;
 use org_state::clock_in;

@@ -3,7 +3,8 @@
 ghost use Rattle.std.specs.Prelude.{[], ◌∷◌};
 ghost use Rattle.org_splice.specs.Edits.{AreEdits};
 
-use org_outline::{Path, States, Step, is_terminated};
+use org_headings::is_terminated;
+use org_outline::{Path, States, Step};
 use org_splice::{Bytes, Edit, Editing, Patch};
 use org_stamp::Moment;
 use std::alloc::Global;

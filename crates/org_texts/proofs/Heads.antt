@@ -7,8 +7,8 @@ use Rattle.std.specs.Prelude.{IfSome}
 use Rattle.org_splice.specs.Edits.{IsReplaced}
 use Rattle.org_splice.specs.Texts.{EditedText, terminated_text}
 use Rattle.org_splice.proofs.Terminated.{spliced-end}
-use Rattle.org_outline.specs.declared.heads.Heading.{Heading}
-use Rattle.org_outline.specs.Outline.{IsEdit}
+use Rattle.org_headings.specs.declared.heads.Heading.{Heading}
+use Rattle.org_headings.specs.Headings.{IsEdit}
 use Rattle.org_texts.specs.Held.{AreHeadsOf}
 
 pub is_terminated-terminated : (t : List ℕ) → terminated t ≡ t → is_terminated t ≡ true

@@ -2,8 +2,8 @@
 use Rattle.std.specs.Prelude.{◌≡◌, Bool, Option, Some, None, List, ℕ}
 use Rattle.org_splice.specs.Lines.{terminated}
 use Rattle.org_splice.specs.Texts.{EditedText}
-use Rattle.org_outline.specs.Outline.{headings_of}
-use Rattle.org_outline.specs.declared.heads.Heading.{Heading}
+use Rattle.org_headings.specs.Headings.{headings_of}
+use Rattle.org_headings.specs.declared.heads.Heading.{Heading}
 
 -- A text as it is, and as it was before the command that runs; and whether its headings are held:
 -- the text is terminated then.

@@ -5,12 +5,12 @@
 ghost use Rattle.std.specs.Prelude.{◌≡◌, ◌+◌, ◌≤◌, ◌∷◌, false, true, is_some, length, IfOk, IfSome, IsFalse, IsTrue, OnOk};
 ghost use Rattle.org_splice.specs.Lines.{terminated};
 ghost use Rattle.org_splice.specs.Texts.{terminated_text, settled, spliced, spliced_each};
-ghost use Rattle.org_outline.specs.Outline.{headings_of, IsEdit};
+ghost use Rattle.org_headings.specs.Headings.{headings_of, IsEdit};
 ghost use Rattle.org_texts.specs.Held.{AreHeadsOf};
 ghost use Rattle.org_texts.specs.Plan.{LieIn};
 
 use crate::plan::Edits;
-use org_outline::Heads;
+use org_headings::Heads;
 use org_splice::{Edit, Editing, Replaced};
 use std::alloc::{AllocError, Global};
 use std::marker::Model;

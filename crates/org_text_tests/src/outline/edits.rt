@@ -1,10 +1,11 @@
 //! Headings that are kept follow an edit of their text.
 ghost use Rattle.std.specs.Prelude.{◌≡◌, ◌+◌, ◌++◌, ◌≤◌, length, take, drop};
 ghost use Rattle.org_splice.specs.Lines.{terminated};
-ghost use Rattle.org_outline.specs.Outline.{IsEdit, headings_of};
+ghost use Rattle.org_headings.specs.Headings.{IsEdit, headings_of};
 
 use crate::shared::states;
-use org_outline::{Heads, Outline, States, is_terminated};
+use org_headings::{Heads, is_terminated};
+use org_outline::{Outline, States};
 use std::alloc::Global;
 use std::process::Abort;
 

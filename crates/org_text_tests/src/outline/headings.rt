@@ -6,9 +6,8 @@ ghost use Rattle.org_splice.specs.Lines.{terminated};
 ghost use Rattle.org_outline.specs.Tree.{node_count, tree};
 
 use crate::shared::{states, titles};
-use org_outline::{
-    HeadParts, Heads, Node, Outline, PathFault, States, heading_level, is_terminated,
-};
+use org_headings::{Heads, heading_level, is_terminated};
+use org_outline::{HeadParts, Node, Outline, PathFault, States};
 use org_splice::Span;
 use std::alloc::Global;
 use std::process::Abort;

@@ -1,7 +1,7 @@
 use Rattle.std.proofs.Common.{◌≡◌, ◌∙◌, ◌++◌, ◌∷◌, [], ℕ, ◌+◌, List, ap, append_assoc, arith}
 use Rattle.std.specs.Prelude.{replicate}
 use Rattle.std.proofs.lemmas.List.{replicate_more}
-use Rattle.org_outline.specs.Text.{heading_line}
+use Rattle.org_headings.specs.Text.{heading_line}
 use Rattle.org_capture.specs.Capture.{rest_of}
 use Rattle.org_capture.proofs.inserting.push_heading.Goals as goal
 

@@ -1,6 +1,6 @@
 use Rattle.std.proofs.Common.{◌≡◌, ◌∙◌, Some, sym, ap}
 use Rattle.std.proofs.lemmas.Option.{cond_some}
-use Rattle.org_outline.specs.Text.{level_of}
+use Rattle.org_headings.specs.Text.{level_of}
 use Rattle.org_outline.proofs.Shifting.{shift_to_own}
 use Rattle.org_capture.proofs.inserting.shifted.Goals as goal
 

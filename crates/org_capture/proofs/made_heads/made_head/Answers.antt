@@ -1,6 +1,6 @@
 use Rattle.std.proofs.Common.{◌≡◌, ◌∙◌, ◌++◌, ◌∷◌, [], ℕ, List, length, refl, sym, ap}
 use Rattle.org_splice.specs.declared.edit.Edit.{Edit}
-use Rattle.org_outline.specs.Text.{heading_line}
+use Rattle.org_headings.specs.Text.{heading_line}
 use Rattle.org_outline.specs.Tree.{print_node}
 use Rattle.org_outline.specs.Moves.{shift_node}
 use Rattle.org_capture.specs.Capture.{rest_of}

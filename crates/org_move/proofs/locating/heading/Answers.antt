@@ -3,7 +3,7 @@ use Rattle.std.specs.Prelude.{if◌then◌else◌}
 use Rattle.std.specs.Option.{option_and_then}
 use Rattle.org_outline.specs.declared.parts.HeadParts.{HeadParts}
 use Rattle.org_outline.specs.States.{Keywords}
-use Rattle.org_outline.specs.Text.{level_of}
+use Rattle.org_headings.specs.Text.{level_of}
 use Rattle.org_outline.specs.Parts.{AreParts, Parts, parts_of}
 use Rattle.org_move.specs.Location.{Heading, heading_made, heading_of, is_title_alone, titled_line}
 use Rattle.org_move.proofs.locating.heading.Goals as goal

@@ -1,6 +1,6 @@
 use Rattle.std.proofs.Common.{◌≡◌, ◌∙◌, ◌++◌, ◌∷◌, [], ℕ, List, ap, append_assoc}
 use Rattle.std.specs.Prelude.{replicate}
-use Rattle.org_outline.specs.Text.{heading_line}
+use Rattle.org_headings.specs.Text.{heading_line}
 use Rattle.org_move.proofs.subtree.with_heading.Goals as goal
 
 whole : (stars blank titled line made said title below : List ℕ) (n level : ℕ) → n ≡ level → said ≡ title → stars ≡ replicate n 42 → blank ≡ stars ++ 32 ∷ [] → titled ≡ blank ++ said → line ≡ titled ++ 10 ∷ []

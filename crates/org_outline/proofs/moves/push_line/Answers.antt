@@ -8,17 +8,8 @@ moved_level-requires c =
     let within = level_within c.args.line.now _ _ c.heading_level.ensures c.in-Some.is in
     omega (arith, within, c.requires)
 
-pub slice_bounds-extend_from_slice-count : goal.slice_bounds-extend_from_slice-count
-slice_bounds-extend_from_slice-count c =
-    elim c.match-heading_level.branch [
-      | in-Some w ↦
-          let within = level_within c.args.line.now _ _ c.heading_level.ensures w.in-Some.is in
-          omega (arith, within, ap (λ (own : ℕ × ℕ). own.0) w.own-is)
-      | in-None w ↦ omega (arith, ap (λ (own : ℕ × ℕ). own.0) w.own-is)
-    ]
-
-pub slice_bounds-extend_from_slice-start : goal.slice_bounds-extend_from_slice-start
-slice_bounds-extend_from_slice-start c =
+pub split_at-requires : goal.split_at-requires
+split_at-requires c =
     elim c.match-heading_level.branch [
       | in-Some w ↦
           let within = level_within c.args.line.now _ _ c.heading_level.ensures w.in-Some.is in

@@ -4,25 +4,17 @@ use Rattle.org_splice.specs.Texts.{EditedText}
 use Rattle.org_splice.specs.declared.undo.Undo.{Undo}
 use Rattle.org_splice.specs.Versions.{AreUndos, undone, undone_all}
 use Rattle.org_splice.proofs.Edited.{length-spliced}
-use Rattle.org_splice.proofs.Undoing.{AreUndos-last, AreUndos-wider, undone_all-push}
+use Rattle.org_splice.proofs.Undoing.{AreUndos-popped, AreUndos-wider, undone_all-push}
 use Rattle.org_splice.proofs.undo.undo_all.Goals as goal
 
 pub replace-requires : goal.replace-requires
 replace-requires c =
-    let undo = c.in-Some.undo in
-    let rest = c.pop.new.self.items in
-    let text : EditedText = record { bytes = c.loop-undo.bytes.items; changed = c.loop-undo.changed.items } in
-    let last : c.loop-undo.undos.items ≡ rest ++ undo ∷ [] = c.in-Some.ensures.items in
-    let is = (AreUndos-last (vec_capacity c.loop-undo.bytes) rest undo text (subst (λ (l : List Undo). AreUndos (vec_capacity c.loop-undo.bytes) l text) last c.loop-undo.invariant.can)).0 in
+    let is = (AreUndos-popped _ _ _ _ _ c.in-Some.ensures.items c.loop-undo.invariant.can).0 in
     omega (arith, is.within, c.loop-undo.bytes.ok.0)
 
 pub unreachable-requires : goal.unreachable-requires
 unreachable-requires c =
-    let undo = c.in-Some.undo in
-    let rest = c.pop.new.self.items in
-    let text : EditedText = record { bytes = c.loop-undo.bytes.items; changed = c.loop-undo.changed.items } in
-    let last : c.loop-undo.undos.items ≡ rest ++ undo ∷ [] = c.in-Some.ensures.items in
-    let is = (AreUndos-last (vec_capacity c.loop-undo.bytes) rest undo text (subst (λ (l : List Undo). AreUndos (vec_capacity c.loop-undo.bytes) l text) last c.loop-undo.invariant.can)).0 in
+    let is = (AreUndos-popped _ _ _ _ _ c.in-Some.ensures.items c.loop-undo.invariant.can).0 in
     let made = c.replace.ensures.room (omega (arith, is.fits, c.loop-undo.bytes.ok.0, ap length c.as_slice.ensures)) in
     search (rules, made)
 
@@ -32,7 +24,7 @@ loop-undo-preserved c =
     let rest = c.pop.new.self.items in
     let text : EditedText = record { bytes = c.loop-undo.bytes.items; changed = c.loop-undo.changed.items } in
     let last : c.loop-undo.undos.items ≡ rest ++ undo ∷ [] = c.in-Some.ensures.items in
-    let both = AreUndos-last (vec_capacity c.loop-undo.bytes) rest undo text (subst (λ (l : List Undo). AreUndos (vec_capacity c.loop-undo.bytes) l text) last c.loop-undo.invariant.can) in
+    let both = AreUndos-popped _ _ rest undo text last c.loop-undo.invariant.can in
     let put : c.replace.new.text.items ≡ take undo.at text.bytes ++ c.as_slice.result.now ++ drop (undo.at + undo.added) text.bytes = search rules in
     let back : c.replace.new.text.items ≡ (undone undo text).bytes = put ∙ ap (λ (b : List ℕ). take undo.at text.bytes ++ b ++ drop (undo.at + undo.added) text.bytes) c.as_slice.ensures in
     let made_text : EditedText = record { bytes = c.replace.new.text.items; changed = undo.changed.items } in

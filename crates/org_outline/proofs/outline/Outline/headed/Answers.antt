@@ -1,6 +1,5 @@
 use Rattle.std.proofs.Common.{◌≡◌, ◌∙◌, ◌<◌, ℕ, List, sym, ap, subst, refl, arith}
-use Rattle.std.proofs.lemmas.Result.{err_from_is_err_and}
-use Rattle.org_outline.specs.Outline.{headings_of}
+use Rattle.org_outline.specs.Outline.{node_headings}
 use Rattle.org_outline.specs.Paths.{find_headed, the_one, titled_nodes, to_some}
 use Rattle.org_outline.specs.Tree.{node_count, nodes_of, tree}
 use Rattle.org_outline.proofs.Found.{Holds, all_headed_in, headed_in}
@@ -36,5 +35,5 @@ returns-in-Some-clause-within c =
 
 pub returns-clause-within : goal.returns-clause-within
 returns-clause-within c =
-    let known = headed_end _ c.args.self.now.text _ _ _ (headings_of c.args.self.now.text) _ (omega (arith, c.loop-index-test.false, c.count-count.ensures, headings_many c.args.self.now.text)) refl c.loop-index.invariant in
+    let known = headed_end _ c.args.self.now.text _ _ _ (node_headings c.args.self.now.text) _ (omega (arith, c.loop-index-test.false, c.count-count.ensures, headings_many c.args.self.now.text)) refl c.loop-index.invariant in
     subst (Holds (λ node. node < node_count (tree c.args.self.now.text))) (sym (c.end.ensures ∙ known)) (all_headed_in c.args.self.now.states (tree c.args.self.now.text) c.args.step.now)

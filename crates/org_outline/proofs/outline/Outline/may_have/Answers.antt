@@ -1,6 +1,6 @@
 use Rattle.std.proofs.Common.{ap, sym, ◌∙◌}
-use Rattle.org_outline.specs.declared.beginnings.Sought.{Sought}
-use Rattle.org_outline.specs.Beginnings.{may_have, sought_of}
+use Rattle.org_headings.specs.declared.beginnings.Sought.{Sought}
+use Rattle.org_headings.specs.Beginnings.{may_have, sought_of}
 use Rattle.org_outline.specs.Tree.{tree, node_at}
 use Rattle.org_outline.proofs.TitlePlaces.{cannot_have}
 use Rattle.org_outline.proofs.outline.Outline.may_have.Goals as goal

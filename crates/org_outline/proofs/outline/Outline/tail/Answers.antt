@@ -1,6 +1,6 @@
 use Rattle.std.proofs.Common.{◌+◌, ◌≤◌, [], length, get_or, arith}
-use Rattle.org_outline.specs.Beginnings.{beginnings_of}
-use Rattle.org_outline.specs.declared.heads.Heading.{Heading}
+use Rattle.org_headings.specs.Beginnings.{beginnings_of}
+use Rattle.org_headings.specs.declared.heads.Heading.{Heading}
 use Rattle.org_outline.proofs.Rests.{rest_room, tail_at}
 use Rattle.org_outline.proofs.Nodes.{node_in}
 use Rattle.org_outline.proofs.outline.Outline.tail.Goals as goal

@@ -1,5 +1,5 @@
 use Rattle.std.proofs.Common.{◌≡◌, ◌∙◌, ◌+◌, ◌++◌, ◌<◌, ◌≤◌, ◌^◌, length, take, drop, arith, refl}
-use Rattle.org_outline.proofs.Edits.{spliced_edit}
+use Rattle.org_headings.proofs.Edits.{spliced_edit}
 use Rattle.org_text_tests.proofs.outline.edits.follows.Goals as goal
 
 pub assert_follow-requires-clause-edit : goal.assert_follow-requires-clause-edit

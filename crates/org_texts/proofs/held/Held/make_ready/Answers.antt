@@ -1,7 +1,7 @@
 use Rattle.std.proofs.Common.{rules, ◌≡◌, ◌∙◌, Bool, true, is_some, sym, ap, subst}
 use Rattle.org_splice.specs.Lines.{terminated}
 use Rattle.org_splice.specs.Texts.{EditedText, terminated_text}
-use Rattle.org_outline.specs.Outline.{headings_of}
+use Rattle.org_headings.specs.Headings.{headings_of}
 use Rattle.org_splice.proofs.Lines.{terminated_twice}
 use Rattle.org_texts.specs.Held.{HeldText}
 use Rattle.org_texts.proofs.Heads.{terminated_text-ready}

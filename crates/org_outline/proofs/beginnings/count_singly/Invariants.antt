@@ -1,8 +1,0 @@
-use Rattle.std.proofs.Common.{◌≡◌, ◌+◌, drop, not}
-use Rattle.std.specs.List.{prefix_len}
-use Rattle.org_outline.specs.declared.beginnings.Beginnings.{Beginnings}
-use Rattle.org_outline.specs.Beginnings.{may_have}
-use Rattle.org_outline.proofs.beginnings.count_singly.Given as goal
-
-abbrev pub invariant-loop-count : goal.invariant-loop-count
-invariant-loop-count l = l.count + prefix_len (λ (line : Beginnings). not (may_have l.title line)) (drop l.count l.lines) ≡ prefix_len (λ (line : Beginnings). not (may_have l.title line)) l.lines

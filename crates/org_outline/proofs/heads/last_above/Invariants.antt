@@ -1,6 +1,0 @@
-use Rattle.std.proofs.Common.{◌≡◌, None, take}
-use Rattle.org_outline.specs.Outline.{last_above}
-use Rattle.org_outline.proofs.heads.last_above.Given as goal
-
-abbrev pub invariant-loop-index : goal.invariant-loop-index
-invariant-loop-index l = last_above l.level 0 None (take l.index l.headings) ≡ last_above l.level 0 None l.headings

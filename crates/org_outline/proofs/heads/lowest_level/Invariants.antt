@@ -1,6 +1,0 @@
-use Rattle.std.proofs.Common.{◌≡◌, drop}
-use Rattle.org_outline.specs.Outline.{lowest_level}
-use Rattle.org_outline.proofs.heads.lowest_level.Given as goal
-
-abbrev pub invariant-loop-heading : goal.invariant-loop-heading
-invariant-loop-heading l = lowest_level l.lowest (drop l.heading-index l.headings) ≡ lowest_level l.level l.headings
