@@ -32,7 +32,7 @@ use Rattle.org_meta.proofs.Trims.{behind_front, trim_behind}
 
 -- ---- what each step of reading says
 
-same_some : {X : Type 0} (x y : X) → Some x ≡ Some y → x ≡ y
+pub same_some : {X : Type 0} (x y : X) → Some x ≡ Some y → x ≡ y
 same_some x y e = cc
 
 open_clock : (o : Option Clock) (r : Running) → running_of o ≡ Some r → o ≡ Some (Open r)
@@ -57,7 +57,7 @@ closed_from start head b text = rw (eqb-suc-zero (length text)) (by_minutes (clo
     by_minutes None = refl
     by_minutes (Some n) = refl
 
-marked : (mark text after : List ℕ) → behind_mark mark text ≡ Some after → text ≡ mark ++ after
+pub marked : (mark text after : List ℕ) → behind_mark mark text ≡ Some after → text ≡ mark ++ after
 marked mark text after e =
     elim (cases_Bool (starts_with nat_eq text mark)) [
       | inl holds ↦ starts_front text mark holds ∙ ap (λ (t : List ℕ). mark ++ t) (same_some (drop (length mark) text) after (rw holds at e))
@@ -65,16 +65,16 @@ marked mark text after e =
     ]
 
 -- at least one byte passes
-record Gone (test : ℕ → Bool) (text more : List ℕ) : Type 0 where
-  first : ℕ
-  others : List ℕ
-  is : text ≡ (first ∷ others) ++ more
-  pass : list_all test (first ∷ others) ≡ true
+pub record Gone (test : ℕ → Bool) (text more : List ℕ) : Type 0 where
+  pub first : ℕ
+  pub others : List ℕ
+  pub is : text ≡ (first ∷ others) ++ more
+  pub pass : list_all test (first ∷ others) ≡ true
 
-some_pass : (test : ℕ → Bool) (b : ℕ) (bs : List ℕ) → test b ≡ true → behind_some test (b ∷ bs) ≡ Some (behind test (b ∷ bs))
+pub some_pass : (test : ℕ → Bool) (b : ℕ) (bs : List ℕ) → test b ≡ true → behind_some test (b ∷ bs) ≡ Some (behind test (b ∷ bs))
 some_pass test b bs holds = rw holds refl
 
-gone : (test : ℕ → Bool) (text more : List ℕ) → behind_some test text ≡ Some more → Gone test text more
+pub gone : (test : ℕ → Bool) (text more : List ℕ) → behind_some test text ≡ Some more → Gone test text more
 gone test [] more e = absurd cc
 gone test (b ∷ bs) more e =
     elim (cases_Bool (test b)) [
@@ -91,17 +91,17 @@ gone test (b ∷ bs) more e =
       | inr fails ↦ let none : None ≡ Some more = rw fails at e in absurd cc
     ]
 
-record Stamped (text : List ℕ) (start : Moment) (size : ℕ) : Type 0 where
-  value : StampValue
-  clock : is_clock_stamp value ≡ true
-  start_is : start_of value ≡ start
-  is_text : IsStampText (take size text) value
-  within : size ≤ length text
+pub record Stamped (text : List ℕ) (start : Moment) (size : ℕ) : Type 0 where
+  pub value : StampValue
+  pub clock : is_clock_stamp value ≡ true
+  pub start_is : start_of value ≡ start
+  pub is_text : IsStampText (take size text) value
+  pub within : size ≤ length text
 
 pair_is : (x y : Moment × ℕ) → Some x ≡ Some y → (x.0 ≡ y.0) × (x.1 ≡ y.1)
 pair_is x y e = let same : x ≡ y = cc in (ap (λ (p : Moment × ℕ). p.0) same, ap (λ (p : Moment × ℕ). p.1) same)
 
-stamped : (text : List ℕ) (start : Moment) (size : ℕ) → clock_stamp_at text ≡ Some (start, size) → Stamped text start size
+pub stamped : (text : List ℕ) (start : Moment) (size : ℕ) → clock_stamp_at text ≡ Some (start, size) → Stamped text start size
 stamped text start size e =
     let read = bind_ok (stamp_at text) (λ r. if is_clock_stamp r.0 then Some (start_of r.0, r.1) else None) (start, size) e in
     elim (cases_Bool (is_clock_stamp read.0.0)) [
@@ -116,7 +116,7 @@ stamped text start size e =
 -- ---- what an open clock line is made of
 
 -- the line up to its timestamp's end: blanks, `CLOCK:`, blanks and the timestamp
-abbrev clock_front : List ℕ → List ℕ → List ℕ → List ℕ
+abbrev pub clock_front : List ℕ → List ℕ → List ℕ → List ℕ
 clock_front indentation gap stamp = indentation ++ (codes "CLOCK:" ++ (gap ++ stamp))
 
 record OpenLine (line : List ℕ) (r : Running) : Type 0 where
@@ -178,16 +178,16 @@ opening_solid : (active : Bool) → is_blank (opening active) ≡ false
 opening_solid true = refl
 opening_solid false = refl
 
-clock_stamp_again : (stamp more : List ℕ) (s : StampValue) → IsStampText stamp s → is_clock_stamp s ≡ true → clock_stamp_at (stamp ++ more) ≡ Some (start_of s, length stamp)
+pub clock_stamp_again : (stamp more : List ℕ) (s : StampValue) → IsStampText stamp s → is_clock_stamp s ≡ true → clock_stamp_at (stamp ++ more) ≡ Some (start_of s, length stamp)
 clock_stamp_again stamp more s is_text clock =
     ap (λ (o : Option (StampValue × ℕ)). o >>= λ r. if is_clock_stamp r.0 then Some (start_of r.0, r.1) else None) (stamp_complete stamp more s is_text) ∙ rw clock refl
 
 -- a timestamp begins with no blank
-stamp_first : (stamp more : List ℕ) (s : StampValue) → IsStampText stamp s → prefix_len is_blank (stamp ++ more) ≡ 0
+pub stamp_first : (stamp more : List ℕ) (s : StampValue) → IsStampText stamp s → prefix_len is_blank (stamp ++ more) ≡ 0
 stamp_first stamp more s is_text =
     ap (λ (t : List ℕ). prefix_len is_blank (t ++ more)) is_text.split ∙ rw (opening_solid s.active) refl
 
-clock_again : (indentation : List ℕ) (first : ℕ) (others stamp more : List ℕ) (s : StampValue)
+pub clock_again : (indentation : List ℕ) (first : ℕ) (others stamp more : List ℕ) (s : StampValue)
     → list_all is_blank indentation ≡ true → list_all is_blank (first ∷ others) ≡ true → IsStampText stamp s → is_clock_stamp s ≡ true
     → trimmed_end (clock_front indentation (first ∷ others) stamp ++ more) ≡ clock_front indentation (first ∷ others) stamp ++ more
     → clock_of (clock_front indentation (first ∷ others) stamp ++ more) ≡ clock_from (start_of s) (length (clock_front indentation (first ∷ others) stamp)) more
@@ -401,7 +401,7 @@ minutes_closed line minutes e = rw e refl
 minutes_open : (line : List ℕ) (r : Running) → clock_of line ≡ Some (Open r) → minutes_in line ≡ 0
 minutes_open line r e = rw e refl
 
-from_minutes : (start : Moment) (head b : ℕ) (text : List ℕ) (minutes : ℕ) → closed_minutes start (b ∷ text) ≡ Some minutes → clock_from start head (b ∷ text) ≡ Some (Closed minutes)
+pub from_minutes : (start : Moment) (head b : ℕ) (text : List ℕ) (minutes : ℕ) → closed_minutes start (b ∷ text) ≡ Some minutes → clock_from start head (b ∷ text) ≡ Some (Closed minutes)
 from_minutes start head b text minutes e = rw (eqb-suc-zero (length text)) (ap (λ (o : Option ℕ). o >>= λ minutes. Some (Closed minutes)) e)
 
 -- a line that was closed says the minutes from its start to the moment

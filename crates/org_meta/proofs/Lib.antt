@@ -21,3 +21,5 @@ pub mod Reading
 pub mod Replanned
 pub mod Computed
 pub mod PlannedLines
+pub mod ClockForms
+pub mod PlanningForms

@@ -8,3 +8,4 @@ pub mod Notes
 pub mod Clocks
 pub mod Clocking
 pub mod Resplits
+pub mod WellFormed

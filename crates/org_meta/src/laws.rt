@@ -9,7 +9,9 @@ ghost use Rattle.org_meta.specs.Planning.{PlanningEntry, PlanningLine, planning_
 ghost use Rattle.org_fault.specs.declared.refusal.Refusal.{Refusal};
 ghost use Rattle.org_meta.specs.Replans.{repeated_line};
 ghost use Rattle.org_meta.specs.Notes.{note_line, with_note};
-ghost use Rattle.org_meta.specs.Clocks.{is_open, minutes_in};
+ghost use Rattle.org_meta.specs.WellFormed.{IsClockLine, IsPlanning};
+ghost use Rattle.org_meta.specs.declared.clock.Clock.{Clock};
+ghost use Rattle.org_meta.specs.Clocks.{clock_of, is_open, minutes_in};
 ghost use Rattle.org_meta.specs.Clocking.{clock_line, closed_line, minutes_run, opened};
 ghost use Rattle.org_meta.specs.Lines.{AllPass};
 
@@ -95,4 +97,24 @@ pub fn clocks_open_and_close()
     ensures minutes { (now : Moment) (line new : List ℕ) (minutes : ℕ) → IsDay now.day
         → now.minute < 1440 → minutes_run now line ≡ Some minutes → closed_line now line ≡ Ok new
         → minutes_in new ≡ minutes }
+{}
+
+/// A line is read as a planning line with these entries exactly where it is one: blanks, entries of
+/// a word, blanks and a timestamp, each word at most once, and blanks at the end (Org Syntax,
+/// "Planning").
+pub fn planning_lines_are_exact()
+    ensures read { (line : List ℕ) (p : PlanningLine) → planning_of line ≡ Some p
+        → IsPlanning line p }
+    ensures only { (line : List ℕ) (p : PlanningLine) → IsPlanning line p
+        → planning_of line ≡ Some p }
+{}
+
+/// A line is read as an open clock or as a closed one of so many minutes exactly where it is one:
+/// `CLOCK:` and a timestamp, and of a closed one `--`, another that isn't earlier, `=>` and a
+/// duration (Org Syntax, "Clocks"). The minutes are those between the two timestamps.
+pub fn clock_lines_are_exact()
+    ensures read { (line : List ℕ) (clock : Clock) → clock_of line ≡ Some clock
+        → IsClockLine line clock }
+    ensures only { (line : List ℕ) (clock : Clock) → IsClockLine line clock
+        → clock_of line ≡ Some clock }
 {}

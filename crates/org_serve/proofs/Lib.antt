@@ -13,6 +13,8 @@ pub mod Breaking
 pub mod Escapes
 pub mod Steps
 pub mod Paths
+pub mod Spelled
+pub mod Spellable
 pub mod Honest
 pub mod Crashes
 pub mod History

@@ -40,7 +40,7 @@ mark-behind at (b ∷ bytes) tail =
 
 -- ---- the number
 
-all_digits_are : (ds : List ℕ) → all_ascii_digits ds ≡ list_all is_ascii_digit ds
+pub all_digits_are : (ds : List ℕ) → all_ascii_digits ds ≡ list_all is_ascii_digit ds
 all_digits_are [] = refl
 all_digits_are (c ∷ cs) = ap (λ b. is_ascii_digit c && b) (all_digits_are cs)
 
@@ -50,7 +50,7 @@ folds_digits = record {
   more = λ n c cs k. let same : 10 * n + (c - 48) ≡ n * 10 + (c - 48) = omega arith in ap (λ m. fold (λ n b. 10 * n + (b - 48)) m cs) same;
 }
 
-numerals : IsNumeralModel (λ ds. all_ascii_digits ds ≡ true) (λ ds. fold (λ n b. 10 * n + (b - 48)) 0 ds)
+pub numerals : IsNumeralModel (λ ds. all_ascii_digits ds ≡ true) (λ ds. fold (λ n b. 10 * n + (b - 48)) 0 ds)
 numerals = numerals_by_fold (λ ds. all_ascii_digits ds ≡ true) tells_all_ascii_digits (λ n ds. fold (λ n b. 10 * n + (b - 48)) n ds) folds_digits
 
 pub number-written : (n : ℕ) → 1 ≤ n → n < 10 ^ 9 → number_of (decimal n) ≡ Some n

@@ -8,3 +8,4 @@ pub mod History
 pub mod Syncing
 pub mod Whole
 pub mod Promises
+pub mod Spelling

@@ -34,7 +34,8 @@ ghost use Rattle.org_serve.specs.Pipes.{Exchange};
 ghost use Rattle.org_serve.specs.Promises.{IsAfterPrefix};
 ghost use Rattle.org_serve.specs.Whole.{IsIntermediate, ServesOver};
 ghost use Rattle.org_serve.specs.declared.whole.Setup.{Setup};
-ghost use Rattle.org_serve.specs.Grammar.{IsWritten, escaped, unescaped, path_of, path_field};
+ghost use Rattle.org_serve.specs.Spelling.{line_of, IsSpellable};
+ghost use Rattle.org_serve.specs.Grammar.{command_of, IsWritten, escaped, unescaped, path_of, path_field};
 ghost use Rattle.org_serve.specs.Lines.{cut, joined, HasNoNewline};
 ghost use Rattle.org_serve.specs.Replies.{answer_text, safe_line, reported_safe};
 
@@ -63,6 +64,16 @@ pub fn written_path_reads_back()
     ensures headings { (states : Keywords) (d : Document) (i : ℕ) → i < node_count d
         → node_count d < 10 ^ 9
         → path_of (path_field (heading_path states d i)) ≡ Some (heading_path states d i) }
+{}
+
+/// Each command whose parts can be spelled has a line, which is read as the command, and no two
+/// have the same one. No line is read as any other command.
+pub fn spelled_command_reads_back()
+    ensures read { (command : Command) → IsSpellable command
+        → command_of (line_of command) ≡ Some command }
+    ensures one { (a b : Command) → IsSpellable a → IsSpellable b → line_of a ≡ line_of b → a ≡ b }
+    ensures only { (line : List ℕ) (command : Command) → command_of line ≡ Some command
+        → IsSpellable command }
 {}
 
 /// A reply that says `safe a` ends with that line, and a commands are acknowledged as it is

@@ -1,0 +1,274 @@
+-- A line that spells a command is cut into the fields that it was made of, and read as the command.
+use Rattle.std.proofs.Common.{◌≡◌, ℕ, ◌+◌, ◌-◌, ◌*◌, ◌/◌, ◌%◌, ◌^◌, ◌<◌, ◌≤◌, ◌==◌, true, false, List, [], ◌∷◌, ◌++◌, length, get_or, codes, Option, None, Some, refl, sym, ap, ◌∙◌, arith, inl, inr}
+use Rattle.std.specs.Prelude.{decimal, nat_le, nat_lt, pos, ℤ}
+use Rattle.std.specs.Char.{is_ascii_digit}
+use Rattle.std.specs.List.{All, AllByRecursion, list_all, slice_split, join_with_byte}
+use Rattle.std.specs.Option.{option_and_then}
+use Rattle.jiff_core.specs.Calendar.{days_in_month}
+use Rattle.jiff_core.proofs.CalendarLemmas.{days_in_month_bounds}
+use Rattle.std.specs.Str.{all_ascii_digits}
+use Rattle.std.proofs.lemmas.Bool.{cases_Bool, ne_eqb}
+use Rattle.std.proofs.lemmas.Bool.Decides.{eqb_tells, nat_tests}
+use Rattle.std.proofs.lemmas.Fmt.{decimal_digit, decimal_nonempty, digits_decimal, digits_value-decimal, first_decimal, length-decimal-le}
+use Rattle.std.proofs.lemmas.List.Elements.{All-nil, All-cons, All-append}
+use Rattle.std.proofs.lemmas.List.Splits.{slice_split_none, slice_split_at}
+use Rattle.org_outline.specs.declared.moves.Place.{Place}
+use Rattle.org_outline.specs.declared.moves.Place.TheVariants.{First, Last}
+use Rattle.org_outline.specs.declared.steps.Step.{Step}
+use Rattle.org_capture.specs.declared.target.Target.{Target}
+use Rattle.org_capture.specs.declared.target.Target.TheVariants.{Top, Head, Path, Date}
+use Rattle.org_stamp.specs.Calendar.{CivilDay, Moment, IsDay}
+use Rattle.org_stamp.specs.Stamp.{two_digits, clock_text, date_text}
+use Rattle.org_commands.specs.declared.command.Command.{Command}
+use Rattle.org_commands.specs.declared.command.Command.TheVariants.{Capture, Refile, Todo, ClockIn, ClockOut, Edit, Time, Archive, Show, Settle}
+use Rattle.org_serve.specs.Grammar.{IsWritten, escaped, file_of, number_field, step_field, path_of, path_field, target_of, place_of, leads_with_zero, position_of, pair_of, year_of, date_of, time_of, moment_at, moment_of, show_of, capture_of, refile_of, todo_of, edit_of, archive_of, clock_in_of, clock_out_of, clocked_of, command_of, command_of_fields}
+use Rattle.org_serve.specs.Spelling.{place_field, moment_field, target_field, line_of, IsFile, AreSteps, IsPath, IsMoment, IsPosition, IsTarget, IsSpellable}
+use Rattle.org_serve.proofs.Escapes.{unescaped-escaped}
+use Rattle.org_serve.proofs.Paths.{path-written}
+use Rattle.org_serve.proofs.Steps.{all_digits_are, numerals, step-written}
+
+-- ---- no field has a tab
+
+abbrev HasNoTab : List ℕ → Type 0
+HasNoTab l = All (λ b. (b == 9) ≡ false) l
+
+no_tab-nil : HasNoTab []
+no_tab-nil = All-nil (λ b. (b == 9) ≡ false)
+
+no_tab-cons : (b : ℕ) (l : List ℕ) → (b == 9) ≡ false → HasNoTab l → HasNoTab (b ∷ l)
+no_tab-cons = All-cons (λ b. (b == 9) ≡ false)
+
+no_tab-append : (a b : List ℕ) → HasNoTab a → HasNoTab b → HasNoTab (a ++ b)
+no_tab-append = All-append (λ b. (b == 9) ≡ false)
+
+no_tab-escaped : (text : List ℕ) → HasNoTab (escaped text)
+no_tab-escaped [] = no_tab-nil
+no_tab-escaped (b ∷ bytes) =
+    let later : HasNoTab (escaped bytes) = no_tab-escaped bytes in
+    let behind_backslash = λ (c : ℕ) (e : (c == 9) ≡ false). no_tab-cons 92 (c ∷ escaped bytes) refl (no_tab-cons c (escaped bytes) e later) in
+    elim (eqb_tells b 10) [
+      | inl newline ↦ rw newline.0 (behind_backslash 110 refl)
+      | inr p ↦ (elim (eqb_tells b 9) [
+        | inl tab ↦ rw (p.0, tab.0) (behind_backslash 116 refl)
+        | inr q ↦ (elim (eqb_tells b 92) [
+          | inl backslash ↦ rw (p.0, q.0, backslash.0) (behind_backslash 92 refl)
+          | inr r ↦ (elim (eqb_tells b 47) [
+            | inl slash ↦ rw (p.0, q.0, r.0, slash.0) (behind_backslash 115 refl)
+            | inr s ↦ rw (p.0, q.0, r.0, s.0) (no_tab-cons b (escaped bytes) q.0 later)
+          ])
+        ])
+      ])
+    ]
+
+digits_no_tab : (ds : List ℕ) → all_ascii_digits ds ≡ true → HasNoTab ds
+digits_no_tab [] all = no_tab-nil
+digits_no_tab (c ∷ cs) all =
+    elim (eqb_tells c 9) [
+      | inl tab ↦ absurd (let no_digit = rw tab.1 at all in cc)
+      | inr p ↦ elim (cases_Bool (is_ascii_digit c)) [
+        | inl e ↦ no_tab-cons c cs p.0 (digits_no_tab cs (rw e at all))
+        | inr e ↦ absurd (let no_digit = rw e at all in cc)
+      ]
+    ]
+
+no_tab-decimal : (n : ℕ) → n < 2 ^ 64 → HasNoTab (decimal n)
+no_tab-decimal n small = digits_no_tab (decimal n) (digits_decimal numerals n small)
+
+no_tab-number : (number : Option ℕ) → IsWritten number → HasNoTab (number_field number)
+no_tab-number None written = no_tab-nil
+no_tab-number (Some n) written =
+    let high = written.1 in
+    no_tab-cons 92 (35 ∷ decimal n) refl (no_tab-cons 35 (decimal n) refl (no_tab-decimal n (omega (arith, high))))
+
+no_tab-step : (step : Step) → IsWritten step.number → HasNoTab (step_field step)
+no_tab-step step written = no_tab-append (escaped step.title) (number_field step.number) (no_tab-escaped step.title) (no_tab-number step.number written)
+
+no_tab-path : (path : List Step) → AreSteps path → HasNoTab (path_field path)
+no_tab-path [] all = no_tab-nil
+no_tab-path (step ∷ []) all = no_tab-step step all.0
+no_tab-path (step ∷ next ∷ path) all =
+    no_tab-append (step_field step) (47 ∷ path_field (next ∷ path)) (no_tab-step step all.0) (no_tab-cons 47 (path_field (next ∷ path)) refl (no_tab-path (next ∷ path) all.1))
+
+no_tab-digit : (n : ℕ) → (48 + n % 10 == 9) ≡ false
+no_tab-digit n = ne_eqb (48 + n % 10) 9 (λ is. omega (arith, is))
+
+no_tab-two : (n : ℕ) → HasNoTab (two_digits n)
+no_tab-two n = no_tab-cons (48 + n / 10 % 10) ((48 + n % 10) ∷ []) (no_tab-digit (n / 10)) (no_tab-cons (48 + n % 10) [] (no_tab-digit n) no_tab-nil)
+
+no_tab-moment : (m : Moment) → HasNoTab (moment_field m)
+no_tab-moment m =
+    let d = m.day in
+    let year = two_digits (d.year / 100) ++ two_digits d.year in
+    let date = no_tab-append year (45 ∷ two_digits d.month ++ 45 ∷ two_digits d.day)
+    (no_tab-append (two_digits (d.year / 100)) (two_digits d.year) (no_tab-two (d.year / 100)) (no_tab-two d.year))
+    (no_tab-append (45 ∷ two_digits d.month) (45 ∷ two_digits d.day) (no_tab-cons 45 (two_digits d.month) refl (no_tab-two d.month)) (no_tab-cons 45 (two_digits d.day) refl (no_tab-two d.day))) in
+    let clock = no_tab-append (two_digits (m.minute / 60)) (58 ∷ two_digits (m.minute % 60)) (no_tab-two (m.minute / 60)) (no_tab-cons 58 (two_digits (m.minute % 60)) refl (no_tab-two (m.minute % 60))) in
+    no_tab-append (date_text d) (32 ∷ clock_text m.minute) date (no_tab-cons 32 (clock_text m.minute) refl clock)
+
+word_no_tab : (w : List ℕ) → list_all (λ b. nat_le 10 b) w ≡ true → HasNoTab w
+word_no_tab [] all = no_tab-nil
+word_no_tab (b ∷ w) all =
+    elim (cases_Bool (nat_le 10 b)) [
+      | inl e ↦ no_tab-cons b w (grind (arith, nat_tests, e)) (word_no_tab w (rw e at all))
+      | inr e ↦ absurd (let no = rw e at all in cc)
+    ]
+
+no_tab-target : (target : Target) → IsTarget target → HasNoTab (target_field target)
+no_tab-target Top is = word_no_tab (codes "top") refl
+no_tab-target (Head step) is = no_tab-append (codes "head:") (step_field step) (word_no_tab (codes "head:") refl) (no_tab-step step is)
+no_tab-target (Path path) is = no_tab-append (codes "path:") (path_field path) (word_no_tab (codes "path:") refl) (no_tab-path path is.steps)
+no_tab-target (Date []) is = word_no_tab (codes "date") refl
+no_tab-target (Date (step ∷ path)) is = no_tab-append (codes "date:") (path_field (step ∷ path)) (word_no_tab (codes "date:") refl) (no_tab-path (step ∷ path) is)
+
+no_tab-place : (place : Place) → HasNoTab (place_field place)
+no_tab-place First = word_no_tab (codes "first") refl
+no_tab-place Last = word_no_tab (codes "last") refl
+
+-- ---- each field is read back
+
+file_read : (name : List ℕ) → IsFile name → file_of (escaped name) ≡ Some name
+unfolding file_of
+file_read name is = let utf8 = is.utf8 in let fits = is.allowed in rw (unescaped-escaped name, utf8, fits) refl
+
+path_read : (path : List Step) → IsPath path → path_of (path_field path) ≡ Some path
+path_read [] is = absurd (let some = is.some in omega arith)
+path_read (step ∷ path) is = path-written step path is.steps
+
+place_read : (place : Place) → place_of (place_field place) ≡ Some place
+unfolding place_of
+place_read First = refl
+place_read Last = refl
+
+target_read : (target : Target) → IsTarget target → target_of (target_field target) ≡ Some target
+unfolding target_of
+target_read Top is = refl
+target_read (Head step) is = rw (step-written step is) refl
+target_read (Path path) is = rw (path_read path is) refl
+target_read (Date []) is = refl
+target_read (Date (step ∷ path)) is = rw (path-written step path is) refl
+
+leads : (ds : List ℕ) → 48 < get_or ds 0 0 → leads_with_zero ds ≡ false
+leads [] first = absurd (omega arith)
+leads (a ∷ []) first = refl
+leads (a ∷ b ∷ more) first = ne_eqb a 48 (λ is. omega arith)
+
+no_lead : (n : ℕ) → n < 2 ^ 64 → leads_with_zero (decimal n) ≡ false
+no_lead n small =
+    elim (eqb_tells n 0) [
+      | inl none ↦ (let zero = none.1 in ap leads_with_zero (decimal_digit n (omega (arith, zero))))
+      | inr some ↦ (let other = some.1 in leads (decimal n) (first_decimal n (omega arith) small))
+    ]
+
+position_read : (n : ℕ) → IsPosition n → position_of (decimal n) ≡ Some n
+unfolding position_of
+position_read n high =
+    let small : n < 2 ^ 64 = omega (arith, high) in
+    let some : 0 < length (decimal n) = decimal_nonempty n small in
+    let few : length (decimal n) ≤ 8 = length-decimal-le 8 n (omega arith) high small in
+    let one : nat_le 1 (length (decimal n)) ≡ true = grind (arith, nat_tests, some) in
+    let eight : nat_le (length (decimal n)) 8 ≡ true = grind (arith, nat_tests, few) in
+    let digits : list_all is_ascii_digit (decimal n) ≡ true = sym (all_digits_are (decimal n)) ∙ digits_decimal numerals n small in
+    rw (no_lead n small, one, eight, digits) (ap Some (digits_value-decimal numerals n small))
+
+pair_read : (n : ℕ) → pair_of (48 + n / 10 % 10) (48 + n % 10) ≡ Some (n % 100)
+pair_read n =
+    let low : nat_le 48 (48 + n / 10 % 10) ≡ true = grind (arith, nat_tests) in
+    let high : nat_le (48 + n / 10 % 10) 57 ≡ true = grind (arith, nat_tests) in
+    let low2 : nat_le 48 (48 + n % 10) ≡ true = grind (arith, nat_tests) in
+    let high2 : nat_le (48 + n % 10) 57 ≡ true = grind (arith, nat_tests) in
+    let value : 10 * (48 + n / 10 % 10 - 48) + (48 + n % 10 - 48) ≡ n % 100 = omega arith in
+    rw (low, high, low2, high2) (ap Some value)
+
+year_read : (y : ℕ) → y ≤ 9999 → year_of (48 + y / 100 / 10 % 10) (48 + y / 100 % 10) (48 + y / 10 % 10) (48 + y % 10) ≡ Some y
+year_read y high =
+    let value : 100 * (y / 100 % 100) + y % 100 ≡ y = omega arith in
+    rw (pair_read (y / 100), pair_read y) (ap Some value)
+
+pair_is : (n : ℕ) → n < 100 → pair_of (48 + n / 10 % 10) (48 + n % 10) ≡ Some n
+pair_is n low = let value : n % 100 ≡ n = omega arith in pair_read n ∙ ap Some value
+
+passes : (a b : ℕ) → a ≤ b → nat_le a b ≡ true
+passes a b le = grind (arith, nat_tests)
+
+short_month : (y : ℤ) (m : ℕ) → days_in_month y m ≤ 31
+short_month y m = (days_in_month_bounds y m).0
+
+date_read : (d : CivilDay) → IsDay d → date_of (date_text d) ≡ Some (d.year, d.month, d.day)
+date_read d is =
+    let low = is.0.1 in
+    let month : d.month < 100 = omega (arith, is.1.1) in
+    let day : d.day < 100 = omega (arith, is.2.1, short_month (pos d.year) d.month) in
+    rw (year_read d.year low, pair_is d.month month, pair_is d.day day) refl
+
+clock_read : (n : ℕ) → n < 1440 → time_of (32 ∷ clock_text n) ≡ Some (n / 60, n % 60)
+clock_read n low =
+    let hour : n / 60 < 100 = omega arith in
+    let minute : n % 60 < 100 = omega arith in
+    rw (pair_is (n / 60) hour, pair_is (n % 60) minute) refl
+
+moment_made : (m : Moment) → IsMoment m → moment_at (m.day.year, m.day.month, m.day.day) (m.minute / 60, m.minute % 60) ≡ Some m
+moment_made m is =
+    let d = m.day in
+    let day = is.day in
+    let minute = is.minute in
+    let hours : nat_lt (m.minute / 60) 24 ≡ true = grind (arith, nat_tests, minute) in
+    let minutes : nat_lt (m.minute % 60) 60 ≡ true = grind (arith, nat_tests) in
+    let same : m.minute / 60 * 60 + m.minute % 60 ≡ m.minute = omega arith in
+    rw (passes 1 d.year day.0.0, passes d.year 9999 day.0.1, passes 1 d.month day.1.0, passes d.month 12 day.1.1, passes 1 d.day day.2.0, passes d.day (days_in_month (pos d.year) d.month) day.2.1, hours, minutes)
+    (ap (λ n. Some (let at : Moment = record { day = d; minute = n } in at)) same)
+
+moment_read : (m : Moment) → IsMoment m → moment_of (moment_field m) ≡ Some m
+unfolding moment_of
+moment_read m is =
+    let d = m.day in
+    let time : Option (ℕ × ℕ) = time_of (32 ∷ clock_text m.minute) in
+    ap (λ (date : Option (ℕ × ℕ × ℕ)). option_and_then (λ date. option_and_then (λ t. moment_at date t) time) date) (date_read d is.day)
+    ∙ ap (λ (t : Option (ℕ × ℕ)). option_and_then (λ t. moment_at (d.year, d.month, d.day) t) t) (clock_read m.minute is.minute)
+    ∙ moment_made m is
+
+-- ---- the line
+
+split_joined : (field : List ℕ) (fields : List (List ℕ)) → AllByRecursion HasNoTab (field ∷ fields) → slice_split (λ b. b == 9) (join_with_byte 9 (field ∷ fields)) ≡ field ∷ fields
+split_joined field [] all = slice_split_none (λ b. b == 9) field all.0
+split_joined field (next ∷ fields) all =
+    slice_split_at (λ b. b == 9) field 9 (join_with_byte 9 (next ∷ fields)) all.0 refl ∙ ap (λ later. field ∷ later) (split_joined next fields all.1)
+
+fields_read : (word : List ℕ) (fields : List (List ℕ)) → list_all (λ b. nat_le 10 b) word ≡ true → AllByRecursion HasNoTab fields → command_of (join_with_byte 9 (word ∷ fields)) ≡ command_of_fields (word ∷ fields)
+fields_read word fields plain all = ap command_of_fields (split_joined word fields (word_no_tab word plain, all))
+
+pub command_read : (command : Command) → IsSpellable command → command_of (line_of command) ≡ Some command
+unfolding show_of capture_of refile_of todo_of edit_of archive_of clock_in_of clock_out_of clocked_of
+command_read (Show file) is = fields_read (codes "show") (escaped file ∷ []) refl (no_tab-escaped file, tt) ∙ rw (file_read file is) refl
+command_read (Capture c) is =
+    fields_read (codes "capture") (escaped c.file ∷ target_field c.target ∷ place_field c.place ∷ moment_field c.moment ∷ escaped c.template ∷ escaped c.initial ∷ []) refl
+    (no_tab-escaped c.file, (no_tab-target c.target is.1, (no_tab-place c.place, (no_tab-moment c.moment, (no_tab-escaped c.template, (no_tab-escaped c.initial, tt))))))
+    ∙ rw (file_read c.file is.0, target_read c.target is.1, place_read c.place, moment_read c.moment is.2, unescaped-escaped c.template, unescaped-escaped c.initial) refl
+command_read (Refile c) is =
+    fields_read (codes "refile") (escaped c.file ∷ path_field c.path ∷ escaped c.to_file ∷ path_field c.to_path ∷ place_field c.place ∷ []) refl
+    (no_tab-escaped c.file, (no_tab-path c.path is.1.steps, (no_tab-escaped c.to_file, (no_tab-path c.to_path is.3.steps, (no_tab-place c.place, tt)))))
+    ∙ rw (file_read c.file is.0, path_read c.path is.1, file_read c.to_file is.2, path_read c.to_path is.3, place_read c.place) refl
+command_read (Todo c) is =
+    fields_read (codes "todo") (escaped c.file ∷ path_field c.path ∷ escaped c.state ∷ moment_field c.moment ∷ []) refl
+    (no_tab-escaped c.file, (no_tab-path c.path is.1.steps, (no_tab-escaped c.state, (no_tab-moment c.moment, tt))))
+    ∙ rw (file_read c.file is.0, path_read c.path is.1, unescaped-escaped c.state, moment_read c.moment is.2) refl
+command_read (Edit c) is =
+    let high = is.1 in
+    fields_read (codes "edit") (escaped c.file ∷ decimal c.at ∷ escaped c.old ∷ escaped c.new ∷ []) refl
+    (no_tab-escaped c.file, (no_tab-decimal c.at (omega (arith, high)), (no_tab-escaped c.old, (no_tab-escaped c.new, tt))))
+    ∙ rw (file_read c.file is.0, position_read c.at is.1, unescaped-escaped c.old, unescaped-escaped c.new) refl
+command_read (Archive c) is =
+    fields_read (codes "archive") (escaped c.file ∷ path_field c.path ∷ moment_field c.moment ∷ []) refl (no_tab-escaped c.file, (no_tab-path c.path is.1.steps, (no_tab-moment c.moment, tt)))
+    ∙ rw (file_read c.file is.0, path_read c.path is.1, moment_read c.moment is.2) refl
+command_read (ClockIn c) is =
+    fields_read (codes "clock-in") (escaped c.file ∷ path_field c.path ∷ moment_field c.moment ∷ []) refl (no_tab-escaped c.file, (no_tab-path c.path is.1.steps, (no_tab-moment c.moment, tt)))
+    ∙ rw (file_read c.file is.0, path_read c.path is.1, moment_read c.moment is.2) refl
+command_read (ClockOut m) is = fields_read (codes "clock-out") (moment_field m ∷ []) refl (no_tab-moment m, tt) ∙ rw (moment_read m is) refl
+command_read (Time file path) is =
+    fields_read (codes "time") (escaped file ∷ path_field path ∷ []) refl (no_tab-escaped file, (no_tab-path path is.1.steps, tt)) ∙ rw (file_read file is.0, path_read path is.1) refl
+command_read Settle is = fields_read (codes "settle") [] refl tt
+
+-- no line spells two
+pub one_command : (a b : Command) → IsSpellable a → IsSpellable b → line_of a ≡ line_of b → a ≡ b
+one_command a b left right same =
+    let both : Some a ≡ Some b = sym (command_read a left) ∙ ap command_of same ∙ command_read b right in
+    cc
