@@ -12,14 +12,14 @@ use Rattle.org_fileset.specs.Opening.{fault_of}
 use Rattle.org_fileset.specs.declared.open.OpenFault.{OpenFault}
 use Rattle.org_fileset.specs.declared.open.OpenFault.TheVariants.{Device}
 
--- a fault that no call of the disk made, which a `?` told
+-- a fault that no call of the disk made, which a `?` passed on
 pub accounts_other : {D : Type 0} {U E : Type 0} {e fault : E} {answer : Result U E} {g : Ghosts D} {old new : D}
     → IsErrAnd answer (λ y. y ≡ e) → (e ≡ fault → ⊥) → CountsFailures g old new ⊥ → CountsFailures g old new (IsErrOf answer fault)
 accounts_other {answer = answer} is apart call =
     let p = err_from_is_err_and answer is in
     accounts_quiet (λ f. apart (cc (f, p.1, p.2))) call
 
--- the fault of a search for the journal, as an opening tells it
+-- the fault of a search for the journal, as an opening reports it
 pub accounts_opened : {D : Type 0} {T U : Type 0} {answer : Result U OpenFault} {g : Ghosts D} {old new : D} (found : FindFault)
     → IsErrAnd answer (λ y. y ≡ fault_of found) → CountsFailures g old new (IsErrOf {T = T} (Err found) find.Device)
     → CountsFailures g old new (IsErrOf answer Device)

@@ -1,21 +1,23 @@
 -- What a set's commit needs of its changes, from what is asked of them.
-use Rattle.std.proofs.Common.{◌≡◌, ◌≢◌, inl, inr, ◌≤◌, ℕ, zero, suc, List, [], ◌∷◌, length, drop, map, true, Some, refl, ◌∙◌, subst, arith}
+use Rattle.std.proofs.Common.{◌≡◌, ◌≢◌, inl, inr, ◌≤◌, ℕ, zero, suc, List, [], ◌∷◌, length, drop, map, true, false, Some, refl, ◌∙◌, subst, arith}
 use Rattle.org_disk.specs.declared.disk.Disk.{Ghosts}
 use Rattle.std.specs.List.{All, AllByRecursion, Contains, IsDistinct}
 use Rattle.std.specs.Map.{keys_of}
 use Rattle.std.specs.Set.{is_member}
 use Rattle.std.specs.Str.{bytes_eq}
-use Rattle.std.specs.Prelude.{Result, OnOk}
+use Rattle.std.specs.Prelude.{Result, OnOk, IsErrAnd}
 use Rattle.std.proofs.lemmas.Cmp.{nat_list_eq_equiv}
 use Rattle.std.proofs.lemmas.List.{length-map}
 use Rattle.std.proofs.lemmas.List.Elements.{All-from_recursion, recursion_from_All}
 use Rattle.std.proofs.lemmas.Map.Entries.{length-keys_of}
 use Rattle.std.proofs.lemmas.Map.Made.{length-le_from_is_member, is_member-Decides}
-use Rattle.std.proofs.lemmas.Result.{on_ok_weaker}
+use Rattle.std.proofs.lemmas.Result.{err_from_is_err_and, on_ok_weaker}
 use Rattle.std.proofs.lemmas.Slice.Eq.{bytes_eq-Decides}
-use Rattle.org_disk.specs.Disk.{FileState, AreImages, LeavesOnly}
+use Rattle.org_disk.specs.Disk.{AreImages, LeavesOnly}
+use Rattle.org_disk.proofs.Accounting.{accounts_none}
 use Rattle.org_disk.proofs.Moments.{passes_none, passes_as, leaves_only}
 use Rattle.org_disk.specs.Names.{journal_name}
+use Rattle.org_disk.specs.declared.disk.DiskFault.{DiskFault}
 use Rattle.org_splice.specs.Texts.{EditedText, IsEditOf}
 use Rattle.org_journal.specs.declared.record.Entry.{Entry}
 use Rattle.org_splice.specs.declared.patch.Patch.{Patch}
@@ -24,8 +26,13 @@ use Rattle.org_journal.specs.Record.{IsEntry, IsWellFormed, greatest_length, mos
 use Rattle.org_journal.specs.Recovered.{Image, contents, replayed}
 use Rattle.org_journal.specs.Reading.{journal_at}
 use Rattle.org_fileset.specs.Entries.{AreEntriesOf, HasRecordOf, changed}
-use Rattle.org_fileset.specs.Replay.{IsAtRest, IsBeforeOrAfter, IsCommitted, CommitsOver}
+use Rattle.org_fileset.specs.Replay.{IsBeforeOrAfter, IsCommitted, CommitsEntriesOver, CommitsOver}
+use Rattle.org_fileset.specs.Set.{CommitsSet, Opened}
 use Rattle.org_fileset.specs.Writes.{IsOther, IsUnwritten}
+use Rattle.org_fileset.specs.declared.fault.SetFault.{SetFault}
+use Rattle.org_fileset.specs.declared.fault.SetFault.TheVariants.{OutOfMemory}
+use Rattle.org_fileset.proofs.Accounted.{accounts_other}
+use Rattle.org_fileset.proofs.Sets.{keeps_whole, memory_apart, passed_never}
 use Rattle.org_fileset.proofs.Commits.{at_rest_recovers}
 use Rattle.org_fileset.proofs.Writes.{alone_none, alone_fewer, others_unwritten}
 use Rattle.org_fileset.proofs.Recovers.{recovers_as}
@@ -114,12 +121,6 @@ pub with_or_without : (changes : List Change) (entries : List Entry) (files : Im
 with_or_without changes entries files are edits image (inl before) = inl before
 with_or_without changes entries files are edits image (inr after) = inr (recovers_as (replayed entries files) (changed changes files) image (λ name not. changes_made changes entries files name are edits) after)
 
--- no call of the disk
-pub only_before : (changes : List Change) (files : List ℕ → FileState) (m : ℕ) (since : ℕ → Image → Type 0) → IsAtRest files → ((image : Image) → since m image → AreImages files image)
-    → LeavesOnly m m since since (IsBeforeOrAfter (contents files) (changed changes (contents files)))
-only_before changes files m since rest now =
-    leaves_only (passes_none m since (IsBeforeOrAfter (contents files) (changed changes (contents files)))) (λ image left. inl (at_rest_recovers files rest image (now image left)))
-
 -- the calls of the commit
 pub changes_left : (changes : List Change) (entries : List Entry) (files : Image) (m n : ℕ) (past since : ℕ → Image → Type 0) → AreEntriesOf changes entries
     → AllByRecursion (λ (change : Change). IsEditOf (files change.0) change.1) changes → LeavesOnly m n past since (IsBeforeOrAfter files (replayed entries files)) → LeavesOnly m n past since (IsBeforeOrAfter files (changed changes files))
@@ -153,7 +154,31 @@ commits_changes g changes entries old new r s some are edits commits done = reco
   alone = alone_fewer g (IsOther (keys_of changes)) (IsUnwritten entries) old new commits.alone (λ name other. others_unwritten changes entries name are some other);
 }
 
+-- .. as it was written
+pub commits_record : {D : Type 0} (g : Ghosts D) (changes : List Change) (entries record_entries : List Entry) (old new : D) (r : Result (Unit {0}) DiskFault) (s : Result (Unit {0}) SetFault) → (changes ≡ [] → ⊥) → AreEntriesOf changes entries
+    → record_entries ≡ entries → All (λ (change : Change). IsEditOf (contents (g.files old) change.0) change.1) changes → CommitsEntriesOver g record_entries old new r
+    → (CommitsOver g (replayed entries (contents (g.files old))) (IsUnwritten entries) old new r → OnOk s (IsCommitted (replayed entries (contents (g.files old))) (g.files old) (g.files new)))
+    → CommitsOver g (changed changes (contents (g.files old))) (IsOther (keys_of changes)) old new s
+commits_record g changes entries record_entries old new r s some are same edits commits done =
+    let files = contents (g.files old) in
+    let made : CommitsOver g (replayed entries files) (IsUnwritten entries) old new r =
+    subst (λ (l : List Entry). CommitsOver {A = Unit {0}} {E = DiskFault} g (replayed l files) (IsUnwritten l) old new r) same commits.commits in
+    commits_changes g changes entries old new r s some are (all_edits files changes edits) made (done made)
+
 -- what a commit leaves in the journal
 pub has_record : (changes : List Change) (entries : List Entry) (journal : List ℕ) → AreEntriesOf changes entries → journal_at (drop 1 journal) ≡ Some entries → HasRecordOf changes journal
 has_record [] entries journal are found = tt
 has_record (change ∷ changes) entries journal are found = (entries, are, found)
+
+-- a fault of memory that a `?` passed on, before any call of the disk
+pub commits_refused : {D : Type 0} (g : Ghosts D) (set : Opened D) (changes : List Change) (r : Result (Unit {0}) SetFault) → set.broken ≡ false
+    → ((image : Image) → g.honest set.disk → g.left_since set.disk (g.instant set.disk) image → AreImages (g.files set.disk) image) → IsErrAnd r (λ e. e ≡ OutOfMemory) → CommitsSet g set changes r set
+commits_refused g set changes r whole only_now is =
+    let p = err_from_is_err_and r is in
+    record {
+      commits = λ honest. commits_none g (changed changes (contents (g.files set.disk))) (IsOther (keys_of changes)) set.disk r (λ image left. only_now image honest left) (passed_never _ _ r is);
+      record_stands = λ honest. passed_never _ _ r is;
+      memory = λ e. refl;
+      set = keeps_whole set set refl whole whole r (λ e. cc (e, p.1, p.2)) (λ e. cc (e, p.1, p.2));
+      accounts = accounts_other is memory_apart (accounts_none g set.disk);
+    }

@@ -1,5 +1,5 @@
 -- The elements of a list, from its front.
-use Rattle.std.proofs.Common.{◌≡◌, ◌⊎◌, inl, inr, ⊎_elim, List, [], ◌∷◌, refl, arith}
+use Rattle.std.proofs.Common.{◌≡◌, ◌⊎◌, inl, inr, ⊎_elim, List, [], ◌∷◌, arith}
 use Rattle.std.specs.List.{Contains}
 use Rattle.std.proofs.lemmas.List.Elements.{Contains-append_left, Contains-append_right, Contains-append_cases, Contains-push, Contains-push_cases}
 
@@ -17,7 +17,3 @@ cons_here x xs = Contains-append_left (x ∷ []) xs x (Contains-push [] x)
 
 pub cons_later : {X : Type 0} (x : X) (xs : List X) (y : X) → Contains xs y → Contains (x ∷ xs) y
 cons_later x xs y there = Contains-append_right (x ∷ []) xs y there
-
-pub none_there : {X : Type 0} (xs : List X) → ((x : X) → Contains xs x → ⊥) → xs ≡ []
-none_there [] none = refl
-none_there (x ∷ xs) none = absurd (none x (cons_here x xs))

@@ -21,7 +21,7 @@ use Rattle.org_journal.specs.Recovered.{Image, SameFiles, RecoversTo, all_fit, r
 use Rattle.org_fileset.specs.Entries.{changed}
 use Rattle.org_fileset.specs.Replay.{EachPatchedTo, TakesTo, AreApplicable, EachTakes, IsOpenOver}
 use Rattle.org_fileset.specs.Replay.{IsBeforeOrAfter}
-use Rattle.org_fileset.specs.Laws.{IsArmedFor, KeepsTexts, IsEachOldOrNew}
+use Rattle.org_fileset.specs.Laws.{IsOpenFor, KeepsTexts, IsEachOldOrNew}
 use Rattle.org_fileset.proofs.Patching.{may_leave, takes_write, takes_cut}
 use Rattle.org_fileset.proofs.Takes.{entry-TakesTo, named_apart, applicable_at}
 use Rattle.org_fileset.proofs.Replaying.{not_journal, entry_takes}
@@ -40,7 +40,7 @@ patched_partly patches final text part formed fit partly = PatchedTo-partly patc
 
 -- One call
 
-module _ (entries : List Entry) (texts : Image) (files : List ℕ → FileState) (is : IsArmedFor entries texts files) (own : AreImages files (contents files))
+module _ (entries : List Entry) (texts : Image) (files : List ℕ → FileState) (is : IsOpenFor entries texts files) (own : AreImages files (contents files))
     (entry : Entry) (member : Contains entries entry) where
   at : slice_get entries member.0 ≡ Some entry
   at = slice_get_read entries (length entries) member.0 entry refl member.1 (sym member.2)
@@ -86,7 +86,7 @@ module _ (entries : List Entry) (texts : Image) (files : List ℕ → FileState)
           | inr other ↦ takes.each name not (image name) (left.others name other.0)
         ])
 
-    open_after : (new : List ℕ → FileState) (result : Result (Unit {0}) DiskFault) → Changes effect entry.name files new result → IsArmedFor entries texts new
+    open_after : (new : List ℕ → FileState) (result : Result (Unit {0}) DiskFault) → Changes effect entry.name files new result → IsOpenFor entries texts new
     open_after new result changes =
         let same : new journal_name ≡ files journal_name = changes.others journal_name (λ name. apart (sym name)) in
         record {
@@ -108,7 +108,7 @@ module _ (entries : List Entry) (texts : Image) (files : List ℕ → FileState)
     pub keeps : KeepsTexts effect entry.name entries texts files
     keeps = record { any_moment = left_recovers; after = open_after }
 
-pub keeps_write : (entries : List Entry) (texts : Image) (files : List ℕ → FileState) (entry : Entry) (patch : Patch) → IsArmedFor entries texts files → AreImages files (contents files)
+pub keeps_write : (entries : List Entry) (texts : Image) (files : List ℕ → FileState) (entry : Entry) (patch : Patch) → IsOpenFor entries texts files → AreImages files (contents files)
     → Contains entries entry → Contains entry.patches patch → patch.from ≤ length (contents files entry.name) → KeepsTexts (write patch.from patch.bytes) entry.name entries texts files
 keeps_write entries texts files entry patch is own member among within =
     let pair : Patch → ℕ × List ℕ = λ p. (p.from, p.bytes) in
@@ -117,13 +117,13 @@ keeps_write entries texts files entry patch is own member among within =
     keeps entries texts files is own entry member (write patch.from patch.bytes)
     (takes_write (files entry.name) among.0 patch.from patch.bytes (formed_here entries texts files is own entry member) found within (own entry.name) (here entries texts files is own entry member))
 
-pub keeps_cut : (entries : List Entry) (texts : Image) (files : List ℕ → FileState) (entry : Entry) → IsArmedFor entries texts files → AreImages files (contents files)
+pub keeps_cut : (entries : List Entry) (texts : Image) (files : List ℕ → FileState) (entry : Entry) → IsOpenFor entries texts files → AreImages files (contents files)
     → Contains entries entry → entry.length ≤ length (contents files entry.name) → KeepsTexts (cut entry.length) entry.name entries texts files
 keeps_cut entries texts files entry is own member within =
     keeps entries texts files is own entry member (cut entry.length)
     (takes_cut (files entry.name) (formed_here entries texts files is own entry member) within (own entry.name) (here entries texts files is own entry member))
 
-pub keeps_sync : (entries : List Entry) (texts : Image) (files : List ℕ → FileState) (entry : Entry) → IsArmedFor entries texts files → AreImages files (contents files)
+pub keeps_sync : (entries : List Entry) (texts : Image) (files : List ℕ → FileState) (entry : Entry) → IsOpenFor entries texts files → AreImages files (contents files)
     → Contains entries entry → KeepsTexts sync entry.name entries texts files
 keeps_sync entries texts files entry is own member =
     let now = here entries texts files is own entry member in

@@ -9,6 +9,7 @@ mod Steps
 mod Takes
 pub mod Writes
 mod Replaying
+mod Going
 pub mod Recovers
 mod OpenGate
 pub mod Commits

@@ -1,9 +1,7 @@
--- The files with changed texts in place of their own, by the look-up of a name.
-use Rattle.std.proofs.Common.{◌≡◌, inl, inr, ℕ, List, [], ◌∷◌, Some, None, map, true, false, refl, sym, ◌∙◌, subst, ap}
+-- The files with changed texts in place of their own.
+use Rattle.std.proofs.Common.{◌≡◌, inl, inr, ℕ, List, [], ◌∷◌, map, true, false, refl, sym, subst, ap}
 use Rattle.std.specs.Prelude.{if◌then◌else◌}
 use Rattle.std.specs.List.{list_any}
-use Rattle.std.specs.Map.{lookup}
-use Rattle.std.specs.Option.{option_map_or}
 use Rattle.std.specs.Str.{bytes_eq}
 use Rattle.org_disk.proofs.Names.{name_cases, same_name}
 use Rattle.org_splice.specs.Texts.{EditedText}
@@ -19,27 +17,6 @@ other_back x y other = elim (name_cases y x) [
   | inl same ↦ absurd (other (sym same.0))
   | inr apart ↦ apart.1
 ]
-
--- a file has its changed text where there is one, and its own where there is none
-pub changed-lookup : (changes : List (List ℕ × EditedText)) (files : Image) (name : List ℕ)
-    → changed changes files name ≡ option_map_or (λ (text : EditedText). text.bytes) (lookup (bytes_eq name) changes) (files name)
-changed-lookup [] files name = refl
-changed-lookup (change ∷ changes) files name = elim (name_cases change.0 name) [
-  | inl same ↦
-      let e : bytes_eq change.0 name ≡ true = same.1 in
-      let f : bytes_eq name change.0 ≡ true = same_back change.0 name same.0 in
-      rw (e, f) refl
-  | inr other ↦
-      let e : bytes_eq change.0 name ≡ false = other.1 in
-      let f : bytes_eq name change.0 ≡ false = other_back change.0 name other.0 in
-      rw (e, f) (changed-lookup changes files name)
-]
-
-pub changed-some : (changes : List (List ℕ × EditedText)) (files : Image) (name : List ℕ) (text : EditedText) → lookup (bytes_eq name) changes ≡ Some text → changed changes files name ≡ text.bytes
-changed-some changes files name text is = changed-lookup changes files name ∙ ap (λ o. option_map_or (λ (t : EditedText). t.bytes) o (files name)) is
-
-pub changed-none : (changes : List (List ℕ × EditedText)) (files : Image) (name : List ℕ) → lookup (bytes_eq name) changes ≡ None → changed changes files name ≡ files name
-changed-none changes files name none = changed-lookup changes files name ∙ ap (λ o. option_map_or (λ (t : EditedText). t.bytes) o (files name)) none
 
 -- where each of some names has a text, the files of these names have the texts, and the others stay
 pub changed-names : (text : List ℕ → EditedText) (names : List (List ℕ)) (files : Image) (name : List ℕ)

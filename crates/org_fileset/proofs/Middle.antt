@@ -43,7 +43,7 @@ commits_apart g old mid new half after counts own rest made from_old from_new be
     ⊎_elim (differ half (contents (g.files mid)) (contents (g.files old)) made.made from_old) (differ half (contents (g.files mid)) after made.made from_new)
     (middle_of_commit g old mid new after counts own (made.rest rest) between leaves)
 
--- what two commits tell, one behind the other
+-- what two commits leave, one after the other
 pub between_commits : {D : Type 0} (g : Ghosts D) (old mid new : D) {P Q : Image → Type 0}
     → LeavesOver g old mid P → LeavesOver g mid new Q → IsBetween g old mid new
 between_commits g old mid new first second =

@@ -1,5 +1,5 @@
 -- How the calls on one file go on while patches are applied to it.
-use Rattle.std.proofs.Common.{◌≡◌, ⊎_elim, ℕ, ◌≤◌, List, length, Result, Ok, Err, Some, refl, ◌∙◌, ap, subst}
+use Rattle.std.proofs.Common.{◌≡◌, ⊎_elim, ℕ, ◌≤◌, List, length, Result, Ok, Err, Some, refl, sym, ◌∙◌, ap, subst}
 use Rattle.std.specs.Prelude.{slice_get}
 use Rattle.org_disk.specs.Disk.{FileState, IsImage, MayLeave, AreLeftBy, Changes, AreImages, Passes, write, cut}
 use Rattle.org_disk.specs.declared.disk.DiskFault.{DiskFault}
@@ -63,3 +63,21 @@ module _ {patches : List (ℕ × List ℕ)} {final : ℕ} {name to : List ℕ} w
     takes = λ text image. sofar.takes text (subst (λ (f : List ℕ → FileState). IsImage (f name) text) same image);
     others = λ other apart. ap (λ (f : List ℕ → FileState). f other) same ∙ sofar.others other apart;
   }
+
+  -- a write of one of the patches
+  pub applies_write : {m n k : ℕ} {s u v : ℕ → Image → Type 0} {old mid new : List ℕ → FileState} (i : ℕ) {from : ℕ} {bytes : List ℕ} (r : Result (Unit {0}) DiskFault)
+      → AreWellFormed patches final → slice_get patches i ≡ Some (from, bytes) → from ≤ length (mid name).content → IsImage (mid name) (mid name).content
+      → AppliesPatches patches final name to m n s u old mid → Changes (write from bytes) name mid new r → Passes n k u v (AreLeftBy (write from bytes) name mid)
+      → AppliesPatches patches final name to m k s v old new
+  applies_write {mid = mid} i {from} {bytes} r formed is le own sofar changes time =
+      applies_call (write from bytes) r sofar (takes_write (mid name) i from bytes formed is le own sofar.takes) changes time
+
+  -- a look, and a cut to the final length
+  pub applies_cut : {m n j k : ℕ} {s u v t : ℕ → Image → Type 0} {old mid seen new : List ℕ → FileState} (r : Result (Unit {0}) DiskFault)
+      → AreWellFormed patches final → final ≤ length (mid name).content → IsImage (seen name) (seen name).content
+      → AppliesPatches patches final name to m n s u old mid → seen ≡ mid → Passes n j u v (AreImages mid) → Changes (cut final) name seen new r → Passes j k v t (AreLeftBy (cut final) name seen)
+      → AppliesPatches patches final name to m k s t old new
+  applies_cut {seen = seen} r formed long own sofar same looked changes time =
+      let enough = subst (λ (f : List ℕ → FileState). final ≤ length (f name).content) (sym same) long in
+      let read = applies_read sofar same looked in
+      applies_call (cut final) r read (takes_cut (seen name) formed enough own read.takes) changes time

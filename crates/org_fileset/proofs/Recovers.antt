@@ -1,4 +1,4 @@
--- What an image recovers to, told by what the record makes of each file.
+-- What an image recovers to, by what the record makes of each file.
 use Rattle.std.proofs.Common.{◌≡◌, ◌≢◌, inl, inr, ℕ, suc, List, [], ◌∷◌, length, drop, max, Bool, true, false, Some, refl, sym, ◌∙◌, ap, subst}
 use Rattle.std.specs.Prelude.{nat_le, if◌then◌else◌, IsSomeAnd, Option, None}
 use Rattle.std.specs.Str.{bytes_eq}
@@ -17,7 +17,7 @@ use Rattle.org_fileset.proofs.Takes.{TakesTo-entry, TakesTo-other}
 use Rattle.org_fileset.proofs.Replaying.{not_journal}
 use Rattle.std.specs.Prelude.{slice_get}
 
--- the test of fitting, and what it tells
+-- the test of fitting, and what it says
 begins-true : (size place : ℕ) (patches : List (ℕ × List ℕ)) → BeginWithin size place patches → begins_within size place patches ≡ true
 begins-true size place [] begin = refl
 begins-true size place (patch ∷ patches) begin =

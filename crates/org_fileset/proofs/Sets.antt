@@ -34,7 +34,7 @@ keeps_refused old before = record {
   untouched = λ b. refl;
 }
 
--- answers that are told apart
+-- answers that differ
 pub ok_apart : {A E : Type 0} {x : A} {e : E} → ◌≡◌ {A = Result A E} (Ok x) (Err e) → ⊥
 ok_apart is = cc is
 

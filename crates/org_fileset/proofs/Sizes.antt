@@ -1,4 +1,4 @@
--- What an opening tells of the journal and of the sizes of its files.
+-- What an opening says of the journal and of the sizes of its files.
 use Rattle.std.proofs.Common.{◌≡◌, ℕ, List, None, Ok, Err, Result, refl, sym, ◌∙◌, ap, subst}
 use Rattle.std.specs.Prelude.{IsErrOf, IsErrAnd}
 use Rattle.std.proofs.lemmas.Result.{err_from_is_err_and}
@@ -17,7 +17,7 @@ passed answer is =
     let p = err_from_is_err_and answer is in
     p.1 ∙ ap (λ y. Err y) p.2
 
--- a `?` told the disk's fault, or that memory ran out: no other
+-- a `?` passed on the disk's fault, or that memory ran out: no other
 pub device_else : {U : Type 0} {answer : Result U OpenFault} → IsErrAnd answer (λ y. y ≡ Device) → (IsErrOf answer TooManyFiles → ⊥) × (IsErrOf answer BadJournal → ⊥)
 device_else {answer = answer} is =
     let p = passed answer is in
@@ -38,7 +38,7 @@ sizes_device files names answer is = subst (HaveSizes files names) (sym (passed 
 pub sizes_memory : (files : Image) (names : List (List ℕ)) (answer : Result (Unit {0}) OpenFault) → IsErrAnd answer (λ y. y ≡ OutOfMemory) → HaveSizes files names answer
 sizes_memory files names answer is = subst (HaveSizes files names) (sym (passed answer is)) tt
 
--- a search for the journal tells no number of names
+-- a search for the journal says no number of names
 pub found_few : {U : Type 0} {answer : Result U OpenFault} (found : FindFault) → IsErrAnd answer (λ y. y ≡ fault_of found) → IsErrOf answer TooManyFiles → ⊥
 found_few {answer = answer} found is e = apart found (cc (e, passed answer is))
   where
@@ -47,7 +47,7 @@ found_few {answer = answer} found is e = apart found (cc (e, passed answer is))
     apart find.Device is = cc is
     apart find.OutOfMemory is = cc is
 
--- its fault, as an opening tells it
+-- its fault, as an opening reports it
 pub answer_found : {T : Type 0} (before now : Image) (names : List (List ℕ)) (answer : Result (Unit {0}) OpenFault) (found : FindFault) → IsErrAnd answer (λ y. y ≡ fault_of found)
     → (IsErrOf {T = T} (Err found) find.BadJournal → (recovered before ≡ None) × (now ≡ before)) → IsAnswer before now names answer
 answer_found {T} before now names answer found is bad = subst (IsAnswer before now names) (sym (passed answer is)) (told found bad)

@@ -1,5 +1,5 @@
 -- The patches of an entry, one after the other.
-use Rattle.std.proofs.Common.{◌≡◌, ℕ, zero, suc, ◌+◌, ◌<◌, ◌≤◌, ◌++◌, max, List, [], ◌∷◌, length, get_or, take, map, Option, Some, refl, sym, ◌∙◌, ap, arith, length-take}
+use Rattle.std.proofs.Common.{◌≡◌, ℕ, zero, suc, ◌+◌, ◌<◌, ◌≤◌, ◌++◌, max, List, [], ◌∷◌, length, get_or, take, map, Option, Some, refl, sym, ◌∙◌, ap, arith}
 use Rattle.std.specs.Prelude.{slice_get}
 use Rattle.std.specs.Option.{option_map}
 use Rattle.std.proofs.lemmas.List.{take_more, take_all, length-map}
@@ -7,7 +7,7 @@ use Rattle.std.proofs.lemmas.Option.{slice_get_read, slice_get-map, get_or_from_
 use Rattle.org_splice.specs.Overwritten.{overwritten}
 use Rattle.org_splice.specs.Texts.{pairs_of}
 use Rattle.org_splice.specs.Patches.{patched_each, patched, end_of, last_end, Rise, BeginWithin, Fit, AreWellFormed}
-use Rattle.org_splice.proofs.Patching.{length-patched_each, last_end-place, length-patched}
+use Rattle.org_splice.proofs.Patching.{length-patched_each, last_end-place}
 use Rattle.org_splice.specs.declared.patch.Patch.{Patch}
 
 -- the pair of an item
@@ -74,10 +74,3 @@ all_applied items patches k final text now same done applied =
     let long : length (map pair patches) ≡ length patches = length-map patches pair in
     let enough : length (pairs_of patches) ≤ k = omega (arith, done, long, ap length same) in
     ap (λ (l : List ℕ). take final l) (applied ∙ ap (λ (l : List (ℕ × List ℕ)). patched_each l text) (take_all k (pairs_of patches) enough))
-
--- as long as it is to be, or longer
-pub long_enough : (items patches : List Patch) (k final : ℕ) (text now : List ℕ) → AreWellFormed (pairs_of patches) final → Fit (pairs_of patches) final (length text)
-    → items ≡ patches → length items ≤ k → now ≡ patched_each (take k (pairs_of patches)) text → final ≤ length now
-long_enough items patches k final text now formed fit same done applied =
-    let cut_is = all_applied items patches k final text now same done applied in
-    omega (arith, ap length cut_is, length-take final now, length-patched (pairs_of patches) final text formed.rise fit)

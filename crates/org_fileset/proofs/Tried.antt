@@ -8,7 +8,7 @@ use Rattle.org_disk.specs.declared.disk.DiskFault.{DiskFault}
 use Rattle.org_disk.specs.CountsFailures.{LooksOver, PassesOver}
 use Rattle.org_disk.specs.Names.{journal_name}
 use Rattle.org_disk.specs.Disk.{FileState, IsImage, IsOutside, IsStable, AreImages, AreLeftBy, Changes, MayLeave, write}
-use Rattle.org_disk.proofs.Accounting.{looks_none, looks_then}
+use Rattle.org_disk.proofs.Accounting.{looks_then}
 use Rattle.org_disk.proofs.Images.{only_image}
 use Rattle.org_disk.proofs.Moments.{Image, leaves_only, passes_as, passes_then}
 use Rattle.org_disk.proofs.Names.{name_cases}
@@ -137,15 +137,6 @@ module _ {D : Type 0} (g : Ghosts D) (entries : List Entry) (name : List ℕ) (o
 -- Tries, one after another
 
 module _ {D : Type 0} (g : Ghosts D) (entries : List Entry) where
-  -- none yet
-  pub tries_none : (disk : D) (done : Unit {0}) → TriesOver g entries disk disk (Ok done)
-  tries_none disk done = record {
-    ok = looks_none g.files g.instant g.left_since disk;
-    time = (looks_none g.files g.instant g.left_since disk).time;
-    images = λ n bytes image. image;
-    others = λ n is. refl;
-  }
-
   -- those before the last went well
   pub tries_then : (old mid new : D) (done : Unit {0}) (result : Result (Unit {0}) DiskFault) → TriesOver g entries old mid (Ok done)
       → TriesOver g entries mid new result → TriesOver g entries old new result

@@ -56,6 +56,19 @@ module _ {D : Type 0} (g : Ghosts D) where
       → PassesOver g old new (AreLeftBy effect name (g.files old)) → LeavesAlone g (λ other. other ≢ name) old new
   alone_call effect name old new result changes time = alone_but name (AreLeftBy effect name (g.files old)) old new changes.others time (λ image left. left.others)
 
+-- .. of this disk
+pub alone_called : {D : Type 0} {g : Ghosts D} {effect : FileState → FileState} {name : List ℕ} {old new : D} {result : Result (Unit {0}) DiskFault} → Changes effect name (g.files old) (g.files new) result
+    → PassesOver g old new (AreLeftBy effect name (g.files old)) → LeavesAlone g (λ other. other ≢ name) old new
+alone_called {g = g} {effect} {name} {old} {new} {result} changes time = alone_call g effect name old new result changes time
+
+-- calls on the file of one name, another that looks, and one more on the file
+pub alone_looked : {D : Type 0} {g : Ghosts D} {These : List ℕ → Type 0} {old mid new : D} → LeavesAlone g These old mid → LooksOver g mid new → LeavesAlone g These old new
+alone_looked {g = g} {These} {old} {mid} {new} sofar looks = alone_then g These old mid new sofar (alone_looks g These mid new looks)
+
+pub alone_more : {D : Type 0} {g : Ghosts D} {effect : FileState → FileState} {name : List ℕ} {old mid new : D} {result : Result (Unit {0}) DiskFault} → LeavesAlone g (λ other. other ≢ name) old mid
+    → Changes effect name (g.files mid) (g.files new) result → PassesOver g mid new (AreLeftBy effect name (g.files mid)) → LeavesAlone g (λ other. other ≢ name) old new
+alone_more {g = g} {effect} {name} {old} {mid} {new} {result} sofar changes time = alone_then g (λ other. other ≢ name) old mid new sofar (alone_call g effect name mid new result changes time)
+
 -- calls on the file of one entry of a record
 pub alone_entry : {D : Type 0} (g : Ghosts D) (entries : List Entry) (i : ℕ) (entry : Entry) (old mid new : D) → slice_get entries i ≡ Some entry
     → LeavesAlone g (λ name. IsFalse (is_named name entries)) old mid → LeavesAlone g (λ other. other ≢ entry.name) mid new

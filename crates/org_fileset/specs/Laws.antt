@@ -15,7 +15,7 @@ use Rattle.org_fileset.specs.Replay.{IsAtRest}
 
 -- The journal stands open on the disk with this record, and whatever a crash leaves recovers to
 -- these texts.
-pub record IsArmedFor (entries : List Entry) (texts : Image) (files : List ℕ → FileState)
+pub record IsOpenFor (entries : List Entry) (texts : Image) (files : List ℕ → FileState)
     : Type 0 where
   pub over_record : IsOpenOverRecord files
   pub same_entries : over_record.entries ≡ entries
@@ -29,7 +29,7 @@ pub record KeepsTexts (effect : FileState → FileState) (name : List ℕ) (entr
     (texts : Image) (files : List ℕ → FileState) : Type 0 where
   pub any_moment : (image : Image) → AreLeftBy effect name files image → RecoversTo texts image
   pub after : (new : List ℕ → FileState) (result : Result (Unit {0}) DiskFault)
-      → Changes effect name files new result → IsArmedFor entries texts new
+      → Changes effect name files new result → IsOpenFor entries texts new
 
 -- each of the files by itself is as it was, or as the changes make it
 abbrev pub IsEachOldOrNew : List (List ℕ × EditedText) → Image → Image → Type 0

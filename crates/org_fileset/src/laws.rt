@@ -13,7 +13,7 @@ ghost use Rattle.org_journal.specs.Recovered.{Image, RecoversTo, SameFiles, reco
 ghost use Rattle.org_fileset.specs.Entries.{changed};
 ghost use Rattle.org_fileset.specs.Recovery.{IsReopened, RecoversAsBefore};
 ghost use Rattle.org_fileset.specs.Replay.{IsAtRest, IsBeforeOrAfter, IsCommitted, RestsOn, files_on};
-ghost use Rattle.org_fileset.specs.Laws.{AllStable, AreAtRest, AreOtherFiles, IsArmedFor, IsBetween, IsFound, KeepsTexts, IsEachOldOrNew};
+ghost use Rattle.org_fileset.specs.Laws.{AllStable, AreAtRest, AreOtherFiles, IsOpenFor, IsBetween, IsFound, KeepsTexts, IsEachOldOrNew};
 
 use org_disk::Disk;
 
@@ -36,19 +36,19 @@ pub fn applied_twice_as_once()
 pub fn calls_keep_texts()
     // a write of one of the entry's patches
     ensures write { (entries : List Entry) (texts : Image) (files : List ℕ → FileState)
-        (entry : Entry) (patch : Patch) → IsArmedFor entries texts files
+        (entry : Entry) (patch : Patch) → IsOpenFor entries texts files
         → AreImages files (contents files)
         → Contains entries entry → Contains entry.patches patch
         → patch.from ≤ length (contents files entry.name)
         → KeepsTexts (write patch.from patch.bytes) entry.name entries texts files }
     // a cut of the entry's file to the entry's length
     ensures cut { (entries : List Entry) (texts : Image) (files : List ℕ → FileState)
-        (entry : Entry) → IsArmedFor entries texts files → AreImages files (contents files)
+        (entry : Entry) → IsOpenFor entries texts files → AreImages files (contents files)
         → Contains entries entry → entry.length ≤ length (contents files entry.name)
         → KeepsTexts (cut entry.length) entry.name entries texts files }
     // a sync of the entry's file
     ensures sync { (entries : List Entry) (texts : Image) (files : List ℕ → FileState)
-        (entry : Entry) → IsArmedFor entries texts files → AreImages files (contents files)
+        (entry : Entry) → IsOpenFor entries texts files → AreImages files (contents files)
         → Contains entries entry → KeepsTexts sync entry.name entries texts files }
 {}
 
@@ -105,7 +105,7 @@ pub fn middle_of_a_commit_counts<D: Disk>()
         → IsBetween D.Disk old mid new
         → LeavesOver D.Disk old new (IsBeforeOrAfter (files_on D.Disk old) after)
         → ⊥ }
-    // So it is of two commits, one behind the other, of which the first is done.
+    // So it is of two commits, one after the other, of which the first is done.
     ensures two { (old mid new : D) (half last after : Image) → D.honest mid
         → RestsOn D.Disk old → IsCommitted half (D.files old) (D.files mid)
         → LeavesOver D.Disk old mid (IsBeforeOrAfter (files_on D.Disk old) half)

@@ -1,6 +1,6 @@
 //! The journal and the files of a record, tried: before anything is written, and once it is done.
 //!
-//! A try is a write of no bytes: it changes nothing, and it fails where the disk can tell that a
+//! A try is a write of no bytes: it changes nothing, and it fails where the disk can see that a
 //! write would fail, or would go astray.
 ghost use Rattle.std.specs.Prelude.{◌≡◌, IsErr};
 ghost use Rattle.org_disk.specs.CountsFailures.{CountsFailures};

@@ -12,21 +12,6 @@ nothing : (xs : List (List ℕ)) → xs ≡ xs ++ []
 nothing [] = refl
 nothing (x ∷ xs) = ap (λ l. x ∷ l) (nothing xs)
 
-pub no_looks : (old : List Event) → LooksAt [] [] old old
-no_looks old = record { names_looked = nothing (looked old); files_kept = nothing (kept old); same_before = refl }
-
-pub look_there : (name : List ℕ) (device number : ℕ) (old new : List Event) → new ≡ There name device number true ∷ old → LooksAt (name ∷ []) (name ∷ []) old new
-look_there name device number old new is = rw is (record { names_looked = refl; files_kept = refl; same_before = refl })
-
-pub look_other : (name : List ℕ) (device number : ℕ) (old new : List Event) → new ≡ There name device number false ∷ old → LooksAt (name ∷ []) [] old new
-look_other name device number old new is = rw is (record { names_looked = refl; files_kept = nothing (kept old); same_before = refl })
-
-pub look_absent : (name : List ℕ) (old new : List Event) → new ≡ Absent name ∷ old → LooksAt (name ∷ []) (name ∷ []) old new
-look_absent name old new is = rw is (record { names_looked = refl; files_kept = refl; same_before = refl })
-
-pub look_unseen : (name : List ℕ) (old new : List Event) → new ≡ Unseen name ∷ old → LooksAt (name ∷ []) (name ∷ []) old new
-look_unseen name old new is = rw is (record { names_looked = refl; files_kept = refl; same_before = refl })
-
 pub looks_at_more : (names files more kept_more : List (List ℕ)) (old mid new : List Event) → LooksAt names files old mid → LooksAt more kept_more mid new
     → LooksAt (names ++ more) (files ++ kept_more) old new
 looks_at_more names files more kept_more old mid new first second = record {

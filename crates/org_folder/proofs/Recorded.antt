@@ -62,24 +62,6 @@ looks_length world called old mid new (Ok n) before recorded kept right = (
 )
 looks_length world called old mid new (Err fault) before recorded kept right = (right_same world old mid new right before kept, looks_same world old new (kept ∙ before))
 
--- a call that leaves the files as they were
-pub looks_event : (world : World) (event : Event) (old new : List Event) → new ≡ event ∷ old → files world (event ∷ old) ≡ files world old → AreRight world new → AreRight world old × Looks world old new
-looks_event world event old new is same right = (right_before world event old old new right refl is, looks_recorded world event old new is same)
-
--- looks, and what came after them
-pub looks_then : (world : World) (old mid new : List Event) → Looks world old mid → Looks world mid new → Looks world old new
-looks_then world old mid new first second = record {
-  same = second.same ∙ first.same;
-  time = passes_then first.time second.time (λ image now. subst (λ (fs : List ℕ → FileState). AreImages fs image) first.same now);
-}
-
-pub right_then : (world : World) (old mid new : List Event) → (AreRight world mid → AreRight world old × Looks world old mid) → (AreRight world new → AreRight world mid × Looks world mid new)
-    → AreRight world new → AreRight world old × Looks world old new
-right_then world old mid new first second right =
-    let later = second right in
-    let before = first later.0 in
-    (before.0, looks_then world old mid new before.1 later.1)
-
 -- What looks answer, of a file that was opened under the name
 
 pub length_is : (world : World) (called name : List ℕ) (n : ℕ) (old new : List Event) → AreRight world new → called ≡ name → new ≡ Length called n ∷ old
@@ -164,14 +146,6 @@ does_cut world called name to old mid new result right same before is = (
       (subst (λ calls. Does world (cut to) called mid calls result) (sym is) (cut_recorded world called to mid result (subst (AreRight world) is right)))),
 )
 
-pub does_sync : (world : World) (called name : List ℕ) (old mid new : List Event) (result : Answer) → AreRight world new → called ≡ name → mid ≡ old
-    → new ≡ Sync called (is_ok result) ∷ mid → AreRight world old × Does world sync name old new result
-does_sync world called name old mid new result right same before is = (
-  right_before world (Sync called (is_ok result)) old mid new right before is,
-  subst (λ n. Does world sync n old new result) same (subst (λ calls. Does world sync called calls new result) before
-      (subst (λ calls. Does world sync called mid calls result) (sym is) (sync_recorded world called mid result (subst (AreRight world) is right)))),
-)
-
 -- Calls that didn't come to it
 
 looks_left : (world : World) (effect : FileState → FileState) (name : List ℕ) (old new : List Event) → Looks world old new
@@ -228,9 +202,3 @@ pub does_called : (world : World) (effect : FileState → FileState) (called nam
     → (AreRight world new → AreRight world mid × Does world effect called mid new result) → AreRight world new → AreRight world old × Does world effect name old new result
 does_called world effect called name old mid new result same before does right =
     subst (λ n. AreRight world old × Does world effect n old new result) same (subst (λ calls. AreRight world calls × Does world effect called calls new result) before (does right))
-
--- a first sync, once the entry is on the device
-pub does_sync_entered : (world : World) (called : List ℕ) (old mid new : List Event) (result : Answer) → mid ≡ Entered called true ∷ old → new ≡ Sync called (is_ok result) ∷ mid
-    → AreRight world new → AreRight world old × Does world sync called old new result
-does_sync_entered world called old mid new result entered is = does_right_after world sync called old mid new result
-    (looks_event world (Entered called true) old mid entered refl) (λ right. does_sync world called called mid mid new result right refl refl is)

@@ -155,40 +155,17 @@ AreAbsent world calls names =
 -- no write, cut or sync among these calls is on the file of this name
 abbrev pub IsLeftAlone : List ℕ → List Event → Type 0
 IsLeftAlone name [] = ⊤
-IsLeftAlone name (Filled path ∷ earlier) = IsLeftAlone name earlier
-IsLeftAlone name (Locked path ∷ earlier) = IsLeftAlone name earlier
-IsLeftAlone name (Entry other ∷ earlier) = IsLeftAlone name earlier
-IsLeftAlone name (Listed ∷ earlier) = IsLeftAlone name earlier
-IsLeftAlone name (There other device number plain ∷ earlier) = IsLeftAlone name earlier
-IsLeftAlone name (Unseen other ∷ earlier) = IsLeftAlone name earlier
-IsLeftAlone name (Made other ok ∷ earlier) = IsLeftAlone name earlier
-IsLeftAlone name (Entered other ok ∷ earlier) = IsLeftAlone name earlier
-IsLeftAlone name (Absent other ∷ earlier) = IsLeftAlone name earlier
-IsLeftAlone name (Length other n ∷ earlier) = IsLeftAlone name earlier
-IsLeftAlone name (Read other from bytes ∷ earlier) = IsLeftAlone name earlier
 IsLeftAlone name (Write other from bytes ok ∷ earlier) =
     (other ≢ name) × IsLeftAlone name earlier
 IsLeftAlone name (Cut other n ok ∷ earlier) = (other ≢ name) × IsLeftAlone name earlier
 IsLeftAlone name (Sync other ok ∷ earlier) = (other ≢ name) × IsLeftAlone name earlier
+IsLeftAlone name (_ ∷ earlier) = IsLeftAlone name earlier
 
 -- whether the entry of the file of this name was put on the device
 abbrev pub has_entered : List ℕ → List Event → Bool
 has_entered name [] = false
-has_entered name (Filled path ∷ earlier) = has_entered name earlier
-has_entered name (Locked path ∷ earlier) = has_entered name earlier
-has_entered name (Entry other ∷ earlier) = has_entered name earlier
-has_entered name (Listed ∷ earlier) = has_entered name earlier
-has_entered name (There other device number plain ∷ earlier) = has_entered name earlier
-has_entered name (Unseen other ∷ earlier) = has_entered name earlier
-has_entered name (Made other ok ∷ earlier) = has_entered name earlier
 has_entered name (Entered other true ∷ earlier) = bytes_eq other name || has_entered name earlier
-has_entered name (Entered other false ∷ earlier) = has_entered name earlier
-has_entered name (Absent other ∷ earlier) = has_entered name earlier
-has_entered name (Length other n ∷ earlier) = has_entered name earlier
-has_entered name (Read other from bytes ∷ earlier) = has_entered name earlier
-has_entered name (Write other from bytes ok ∷ earlier) = has_entered name earlier
-has_entered name (Cut other n ok ∷ earlier) = has_entered name earlier
-has_entered name (Sync other ok ∷ earlier) = has_entered name earlier
+has_entered name (_ ∷ earlier) = has_entered name earlier
 
 abbrev pub HasEntered : List ℕ → List Event → Type 0
 HasEntered name calls = IsTrue (has_entered name calls)

@@ -1,4 +1,5 @@
--- What a record tells of a listing: the entries, and the looks at those that are named as Org files.
+-- What a record shows of a listing: the entries, and the looks at those that are named as Org
+-- files.
 use Rattle.std.specs.Prelude.{◌≡◌, ℕ, true, false, List, [], ◌∷◌, ◌++◌, Option, Some, None, filter}
 use Rattle.org_folder.specs.Calls.{Event, with_entries}
 use Rattle.org_folder.specs.Calls.Event.{Listed, There, Unseen, Absent}

@@ -1,18 +1,18 @@
 //! That each two of a store's names lead to two files.
 //!
 //! Two names of one file (links) would be written as two. It looks and changes nothing.
-ghost use Rattle.std.specs.Prelude.{◌≡◌, ◌⊎◌, ◌<◌, ℕ, [], length, IfOk, IfErr, IfSome, IfNone, IsTrue, IsFalse};
+ghost use Rattle.std.specs.Prelude.{◌≡◌, ◌⊎◌, ◌<◌, ℕ, length, IfOk, IfErr, IfSome, IfNone, IsTrue, IsFalse};
 ghost use Rattle.std.specs.List.{list_any};
 ghost use Rattle.org_folder.specs.Aliases.{is_again, is_same, MayReport};
 ghost use Rattle.org_folder.specs.Right.{HaveNoFiles};
 ghost use Rattle.org_folder.specs.Calls.{IsHeld, OnlyLooks};
-ghost use Rattle.org_folder.specs.declared.aliases.AliasFault.TheVariants.{Device, OutOfMemory};
+ghost use Rattle.org_folder.specs.declared.aliases.AliasFault.TheVariants.{Device, OutOfMemory, SameFile};
 
 use crate::list::ListFault;
 use crate::system::System;
 use indexmap::IndexSet;
 use org_disk::FileName;
-use std::alloc::{AllocError, AllocFailed, Global};
+use std::alloc::{AllocError, Global};
 use thiserror::Error;
 
 /// Why names can't be those of a store.
@@ -33,14 +33,6 @@ impl From<AllocError> for AliasFault {
     ghost from_gives = { λ _ fault. fault ≡ OutOfMemory };
 
     fn from(_: AllocError) -> AliasFault {
-        AliasFault::OutOfMemory
-    }
-}
-
-impl<T: Drop> From<AllocFailed<T>> for AliasFault {
-    ghost from_gives = { λ _ fault. fault ≡ OutOfMemory };
-
-    fn from(_: AllocFailed<T>) -> AliasFault {
         AliasFault::OutOfMemory
     }
 }
@@ -105,9 +97,18 @@ pub fn check_aliases<S: System>(
     let mut absent = IndexSet::new(alloc);
     let nodes = nodes_of(alloc, system, names, &mut absent)?;
     match first_again(nodes.as_slice()) {
-        Some(at) => Err(AliasFault::SameFile(names[at].clone()?)),
+        Some(at) => {
+            let fault = same_file(&names[at])?;
+            Err(fault)
+        }
         None => Ok(absent),
     }
+}
+
+fn same_file(name: &FileName) -> Result<AliasFault, ListFault>
+    ensures { IfOk result (λ fault. fault ≡ SameFile name.now) }
+{
+    Ok(AliasFault::SameFile(name.clone()?))
 }
 
 // The files that these names lead to, one by one. Those that lead nowhere are put with the others
@@ -117,18 +118,17 @@ fn nodes_of<S: System>(
     system: &mut S,
     names: &[FileName],
     absent: &mut IndexSet<FileName>,
-) -> Result<Vec<Option<Node>>, AliasFault>
+) -> Result<Vec<Option<Node>>, ListFault>
     requires { HaveNoFiles S.System system.old absent.old.keys }
     ensures absent { HaveNoFiles S.System system.new absent.new.keys }
     ensures looks { OnlyLooks (S.history system.old) (S.history system.new) }
     ensures size { IfOk result (λ nodes. length nodes.items ≡ length names.now) }
-    ensures fault { IfErr result (MayReport []) }
 {
     let mut nodes = Vec::new(alloc);
     for name in names {
         let node = node_of(system, name, absent)?;
         if nodes.push(node).is_err() {
-            return Err(AliasFault::OutOfMemory);
+            return Err(ListFault::OutOfMemory);
         }
     }
     Ok(nodes)
@@ -138,11 +138,10 @@ fn node_of<S: System>(
     system: &mut S,
     name: &FileName,
     absent: &mut IndexSet<FileName>,
-) -> Result<Option<Node>, AliasFault>
+) -> Result<Option<Node>, ListFault>
     requires { HaveNoFiles S.System system.old absent.old.keys }
     ensures absent { HaveNoFiles S.System system.new absent.new.keys }
     ensures looks { OnlyLooks (S.history system.old) (S.history system.new) }
-    ensures fault { IfErr result (MayReport []) }
 {
     match system.look(name)? {
         Some(found) => Ok(Some(found.node)),

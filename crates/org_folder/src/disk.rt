@@ -34,8 +34,8 @@ pub struct CallsDisk<S: System> {
 /// it, which the first sync of one of them makes, until a file is made.
 ///
 /// Permissions of files that are there stay, but that a journal which others may use is narrowed. A
-/// journal is made for its owner, and for its group where that may write the folder; an archive file
-/// for those whom its Org file is for.
+/// journal is made for its owner, and for its group where that may write the folder; an archive
+/// file for those whom its Org file is for.
 ///
 /// That each answer in its record was right is a premise: no contract says what a real file gives.
 /// The record stands in proofs alone and takes no memory. `S` says what the files held at first,

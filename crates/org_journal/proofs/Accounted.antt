@@ -7,7 +7,7 @@ use Rattle.org_disk.specs.CountsFailures.{CountsFailures}
 use Rattle.org_disk.specs.declared.disk.Disk.{Ghosts}
 use Rattle.org_disk.proofs.Accounting.{accounts_fine, accounts_then}
 
--- failure told in other words
+-- failure said in other words
 accounts_as : {D : Type 0} {g : Ghosts D} {old new : D} {F G : Type 0} → (F → G) → (G → F)
     → CountsFailures g old new F → CountsFailures g old new G
 accounts_as forth back call = record {
@@ -18,7 +18,7 @@ accounts_as forth back call = record {
   equal = λ fine. call.equal (λ failed. fine (forth failed));
 }
 
--- nothing failed, and no failure is told
+-- nothing failed, and no failure is reported
 pub accounts_quiet : {D : Type 0} {g : Ghosts D} {old new : D} {Failed : Type 0} → (Failed → ⊥)
     → CountsFailures g old new ⊥ → CountsFailures g old new Failed
 accounts_quiet fine call = accounts_as (λ none. absurd none) fine call
@@ -42,7 +42,7 @@ accounts_passed {answer = answer} is call =
     let p = err_from_is_err_and answer is in
     accounts_as (λ f. cc (f, p.1, p.2)) (λ f. cc (f, p.1, p.2)) call
 
--- a call that failed, and that is told
+-- a call that failed, and that is reported
 pub accounts_failed : {D : Type 0} {g : Ghosts D} {old new : D} {Failed : Type 0} → Failed
     → CountsFailures g old new (true ≡ true) → CountsFailures g old new Failed
 accounts_failed failed call = accounts_as (λ f. failed) (λ f. refl) call

@@ -1,4 +1,4 @@
--- Whether patches fit a file, found patch by patch; and what a journal's front tells of its record.
+-- Whether patches fit a file, found patch by patch; and what a journal's front says of its record.
 use Rattle.std.proofs.Common.{◌≡◌, ℕ, suc, ◌+◌, ◌<◌, ◌≤◌, Bool, true, false, cond, ltb, leb, List, [], ◌∷◌, ◌++◌, length, take, drop, get_or, Option, Some, None, refl, sym, ap, subst, ◌∙◌, arith, add-one, drop-cons}
 use Rattle.std.specs.Prelude.{◌&&◌, ◌==◌, nat_eq, nat_le, max, slice_index, codes, is_some, Ok, Err}
 use Rattle.std.specs.List.{AllByRecursion, starts_with}
@@ -181,13 +181,13 @@ size_passes journal short =
 no_record : (image : Image) → is_open (image journal_name) ≡ true → journal_at (drop 1 (image journal_name)) ≡ None → recovered image ≡ None
 no_record image opened none = rw (opened, none) refl
 
--- the header tells
+-- what the header says
 pub bad_size : (image : Image) (e : FindFault) → FindsSize (image journal_name) (Err e) → Finds image (Err e)
 bad_size image BadJournal found = (found.0, no_record image found.0 (size_passes (image journal_name) found.1))
 bad_size image Device found = tt
 bad_size image OutOfMemory found = absurd found
 
--- what the header told of an open journal holds of it later, the files being the same
+-- what the header said of an open journal holds of it later, the files being the same
 module _ (files mid : List ℕ → FileState) (journal : List ℕ) (size : ℕ) (sized : FindsSize (files journal).content (Ok (Some size))) (still : mid ≡ files) where
   pub record_held : HoldsRecordOfSize (mid journal).content size
   record_held = subst (λ (f : List ℕ → FileState). HoldsRecordOfSize (f journal).content size) (sym still) (record { size_is = sized.1; within = sized.2 })

@@ -14,8 +14,9 @@ use Rattle.org_journal.specs.declared.record.Entry.{Entry}
 use Rattle.org_splice.specs.declared.patch.Patch.{Patch}
 use Rattle.org_journal.specs.declared.record.Version.{Version}
 use Rattle.org_journal.specs.declared.record.Version.TheVariants.{One, Two}
-use Rattle.org_journal.specs.declared.fault.RecordFault.{RecordFault}
-use Rattle.org_journal.specs.declared.fault.RecordFault.TheVariants.{Malformed, OutOfMemory}
+use Rattle.org_fault.specs.declared.fault.Fault.{Fault}
+use Rattle.org_fault.specs.declared.fault.Fault.TheVariants.{Refused, OutOfMemory}
+use Rattle.org_journal.specs.declared.fault.Malformed.{Malformed}
 use Rattle.org_journal.specs.Decoding.{DecodesAs}
 use Rattle.org_journal.specs.Record.{name_bytes, counted_bytes, patch_bytes, old_patch_bytes, entry_bytes, record_bytes, version_number, header_bytes, journal_bytes, IsEntry, IsWellFormed, BeginsWith}
 use Rattle.org_journal.specs.Reading.{◌>>=◌, counted_at, record_at, version_at, header_at, journal_at}
@@ -187,14 +188,14 @@ tells_record bytes answer fits is = (
   (λ given. is ∙ ap is_some (journal_again bytes given.0 given.1)),
 )
 
-pub found_begins : (bytes : List ℕ) (answer : Result (List Entry) RecordFault) → IsBytes bytes → DecodesAs (λ entries. entries) answer (journal_at bytes) → IfOk answer (λ entries. BeginsWith bytes entries)
+pub found_begins : (bytes : List ℕ) (answer : Result (List Entry) (Fault Malformed)) → IsBytes bytes → DecodesAs (λ entries. entries) answer (journal_at bytes) → IfOk answer (λ entries. BeginsWith bytes entries)
 found_begins bytes (Ok entries) fits given = journal_takes bytes entries fits given
 found_begins bytes (Err e) fits given = tt
 
-pub begins_found : (bytes : List ℕ) (answer : Result (List Entry) RecordFault) → DecodesAs (λ entries. entries) answer (journal_at bytes)
+pub begins_found : (bytes : List ℕ) (answer : Result (List Entry) (Fault Malformed)) → DecodesAs (λ entries. entries) answer (journal_at bytes)
     → (entries : List Entry) → BeginsWith bytes entries → (answer ≡ Ok entries) ⊎ (answer ≡ Err OutOfMemory)
 begins_found bytes (Ok other) given entries begins = inl (ap (λ (x : List Entry). Ok x) (same_Some other entries (sym given ∙ journal_again bytes entries begins)))
-begins_found bytes (Err Malformed) given entries begins = absurd (none-some entries (sym given ∙ journal_again bytes entries begins))
+begins_found bytes (Err (Refused _)) given entries begins = absurd (none-some entries (sym given ∙ journal_again bytes entries begins))
 begins_found bytes (Err OutOfMemory) given entries begins = inr refl
 
 -- ---- writing
@@ -264,6 +265,6 @@ pub begins_writable : (bytes : List ℕ) (entries : List Entry) → BeginsWith b
 begins_writable bytes entries is =
     record { some = is.well_formed.some; few = is.well_formed.few; each = entries_writable is.version entries is.well_formed.each; apart = is.well_formed.apart }
 
-pub found_writable : (bytes : List ℕ) (answer : Result (List Entry) RecordFault) → IfOk answer (λ entries. BeginsWith bytes entries) → IfOk answer (λ entries. IsWellFormed Two entries)
+pub found_writable : (bytes : List ℕ) (answer : Result (List Entry) (Fault Malformed)) → IfOk answer (λ entries. BeginsWith bytes entries) → IfOk answer (λ entries. IsWellFormed Two entries)
 found_writable bytes (Ok entries) found = begins_writable bytes entries found
 found_writable bytes (Err e) found = tt

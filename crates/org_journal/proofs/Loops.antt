@@ -5,8 +5,9 @@ use Rattle.std.proofs.lemmas.Option.{none-some, some_pair_parts}
 use Rattle.org_journal.specs.declared.record.Entry.{Entry}
 use Rattle.org_splice.specs.declared.patch.Patch.{Patch}
 use Rattle.org_journal.specs.declared.record.Version.{Version}
-use Rattle.org_journal.specs.declared.fault.RecordFault.{RecordFault}
-use Rattle.org_journal.specs.declared.fault.RecordFault.TheVariants.{Malformed, OutOfMemory}
+use Rattle.org_fault.specs.declared.fault.Fault.{Fault}
+use Rattle.org_fault.specs.declared.fault.Fault.TheVariants.{Refused, OutOfMemory}
+use Rattle.org_journal.specs.declared.fault.Malformed.{Malformed}
 use Rattle.org_journal.specs.Decoding.{Fails}
 use Rattle.org_journal.specs.Reading.{◌>>=◌, behind, name_behind, patch_at, patches_at, entry_at, entries_at}
 
@@ -89,7 +90,7 @@ pub patches_behind_end : (place final : ℕ) (alone : Bool) (count i : ℕ) (byt
     → behind (patches_at place final alone (count - i) bytes) ≡ total → total ≡ Some bytes
 patches_behind_end place final alone count i bytes total le so_far = sym so_far ∙ ap behind (patches_end place final alone count i bytes le)
 
--- what was read of an entry tells whether it was read
+-- what was read of an entry shows whether it was read
 pub entry_of_name : (read : Option (Entry × List ℕ)) (name after : List ℕ) → name_behind read ≡ Some (name, after) → (entry : Entry) × (read ≡ Some (entry, after)) × (entry.name ≡ name)
 entry_of_name (Some found) name after e =
     let parts = some_pair_parts found.0.name name found.1 after e in
@@ -127,6 +128,6 @@ pub front_next : {A : Type 0} (front : List A) (first : A) (read others total : 
 front_next front first read others total next so_far = sym (ap (with_front front) next ∙ regroup front first others) ∙ so_far
 
 -- a fault that came while a part was read
-pub fault_of_part : {Y W : Type 0} (e : RecordFault) (part : Option Y) (total : Option W) → (part ≡ None → total ≡ None) → Fails e part → Fails e total
-fault_of_part Malformed part total stops given = stops given
+pub fault_of_part : {Y W : Type 0} (e : Fault Malformed) (part : Option Y) (total : Option W) → (part ≡ None → total ≡ None) → Fails e part → Fails e total
+fault_of_part (Refused _) part total stops given = stops given
 fault_of_part OutOfMemory part total stops given = tt

@@ -1,4 +1,4 @@
--- What the header in front of a record tells of its journal.
+-- What the header in front of a record says of its journal.
 use Rattle.std.proofs.Common.{◌≡◌, ℕ, ◌+◌, ◌-◌, ◌<◌, ◌≤◌, true, false, List, length, get_or, take, drop, refl, sym, ap, ◌∙◌, arith, eqb}
 use Rattle.std.proofs.lemmas.Bool.{false_from_ne_true, eqb-true, le-leb}
 use Rattle.std.proofs.lemmas.List.{drop-take, get_or-take}

@@ -39,7 +39,7 @@ old_read = refl
 image_of : List ℕ → List ℕ → Image
 image_of journal text name = if bytes_eq name journal_name then journal else if bytes_eq name (codes "inbox.org") then text else []
 
--- what the image recovers to, told of inbox.org
+-- what the image recovers to, of inbox.org
 recovered_told : List ℕ → List ℕ → Option (List ℕ)
 recovered_told journal text = elim (recovered (image_of journal text)) [ Some files ↦ Some (files (codes "inbox.org")) | None ↦ None ]
 

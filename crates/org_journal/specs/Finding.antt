@@ -57,7 +57,7 @@ FindsSize journal (Err BadJournal) =
 FindsSize journal (Err Device) = Unit {0}
 FindsSize journal (Err OutOfMemory) = ⊥
 
--- what the bytes behind an open gate tell, where the whole record lies within them
+-- what the bytes behind an open gate say, where the whole record lies within them
 abbrev pub FindsRecord : List ℕ → Result (List Entry) FindFault → Type 0
 FindsRecord journal (Ok entries) = journal_at (drop 1 journal) ≡ Some entries
 FindsRecord journal (Err BadJournal) = journal_at (drop 1 journal) ≡ None

@@ -5,16 +5,17 @@
 ghost use Rattle.std.specs.Prelude.{◌≡◌, ◌==◌, ◌⊎◌, List, Some, Ok, Err, IfOk, IsErrOf, IsFalse, IsTrue, is_some};
 ghost use Rattle.org_journal.specs.Reading.{patches_at, entry_at, entries_at, journal_at};
 ghost use Rattle.org_disk.specs.Names.{is_file_name};
-ghost use Rattle.org_journal.specs.Decoding.{DecodesAs};
+ghost use Rattle.org_journal.specs.Decoding.{DecodesAs, malformed};
 ghost use Rattle.org_journal.specs.Record.{BeginsWith, IsWellFormed};
 ghost use Rattle.org_journal.specs.declared.record.Version.TheVariants.{One, Two};
 ghost use Rattle.org_journal.specs.declared.record.Entry.{Entry};
 
-use crate::fault::RecordFault;
+use crate::fault::Malformed;
 use crate::fields::{head_at, old_entry_at, patch_at};
 use crate::reading::{count_at, header_at, well_formed};
 use crate::record::{Entry, Patches, Record, Version};
 use org_disk::{FileName, NameFault};
+use org_fault::Fault;
 use org_splice::{Bytes, Patch};
 use std::alloc::Global;
 
@@ -24,7 +25,7 @@ fn patches_of(
     length: u64,
     count: u32,
     bytes: &[u8],
-) -> Result<(Vec<Patch>, &[u8]), RecordFault>
+) -> Result<(Vec<Patch>, &[u8]), Fault<Malformed>>
     ensures { DecodesAs (λ x. (x.0.items, x.1.now)) result
         (patches_at 0 length (count == 1) count bytes.now) }
 {
@@ -33,7 +34,7 @@ fn patches_of(
     let mut rest = bytes;
     for _ in 0..count {
         let Some((patch, after)) = patch_at(place, length, count == 1, rest) else {
-            return Err(RecordFault::Malformed);
+            return Err(Fault::Refused(Malformed));
         };
         place = patch.from + patch.bytes.len() as u64;
         let bytes = Bytes::new(Vec::from_slice(alloc, patch.bytes)?);
@@ -47,22 +48,27 @@ fn patches_of(
 }
 
 // The name of a file.
-fn name_of(alloc: Global, text: &str) -> Result<FileName, RecordFault>
+fn name_of(alloc: Global, text: &str) -> Result<FileName, Fault<Malformed>>
     ensures name { IfOk result (λ name. name ≡ text.now) }
-    ensures malformed { IsErrOf result RecordFault.Malformed → IsFalse (is_file_name text.now) }
+    ensures malformed { IsErrOf result malformed → IsFalse (is_file_name text.now) }
 {
     match FileName::new(alloc, text) {
         Ok(name) => Ok(name),
-        Err(NameFault::BadName) => Err(RecordFault::Malformed),
-        Err(NameFault::OutOfMemory) => Err(RecordFault::OutOfMemory),
+        Err(NameFault::BadName) => Err(Fault::Refused(Malformed)),
+        Err(NameFault::OutOfMemory) => Err(Fault::OutOfMemory),
     }
 }
 
 // The entry of a file of this name.
-fn named(alloc: Global, name: &str, length: u64, patches: Vec<Patch>) -> Result<Entry, RecordFault>
+fn named(
+    alloc: Global,
+    name: &str,
+    length: u64,
+    patches: Vec<Patch>,
+) -> Result<Entry, Fault<Malformed>>
     ensures entry { IfOk result (λ entry. entry
         ≡ record { name = name.now; length = length; patches = patches.items }) }
-    ensures malformed { IsErrOf result RecordFault.Malformed → IsFalse (is_file_name name.now) }
+    ensures malformed { IsErrOf result malformed → IsFalse (is_file_name name.now) }
 {
     let name = name_of(alloc, name)?;
     let patches = Patches::new(patches);
@@ -75,11 +81,11 @@ fn named(alloc: Global, name: &str, length: u64, patches: Vec<Patch>) -> Result<
 
 // An entry of version 1, and the bytes behind it.
 #[tactic(auto, unfolding(crate::specs::Reading::entry_at))]
-fn old_entry_of(alloc: Global, bytes: &[u8]) -> Result<(Entry, &[u8]), RecordFault>
+fn old_entry_of(alloc: Global, bytes: &[u8]) -> Result<(Entry, &[u8]), Fault<Malformed>>
     ensures { DecodesAs (λ x. (x.0, x.1.now)) result (entry_at One bytes.now) }
 {
     let Some((entry, rest)) = old_entry_at(bytes) else {
-        return Err(RecordFault::Malformed);
+        return Err(Fault::Refused(Malformed));
     };
     let bytes = Bytes::new(Vec::from_slice(alloc, entry.patch.bytes)?);
     let mut patches = Vec::new(alloc);
@@ -93,11 +99,11 @@ fn old_entry_of(alloc: Global, bytes: &[u8]) -> Result<(Entry, &[u8]), RecordFau
 
 // An entry of version 2, and the bytes behind it.
 #[tactic(auto, unfolding(crate::specs::Reading::entry_at))]
-fn new_entry_of(alloc: Global, bytes: &[u8]) -> Result<(Entry, &[u8]), RecordFault>
+fn new_entry_of(alloc: Global, bytes: &[u8]) -> Result<(Entry, &[u8]), Fault<Malformed>>
     ensures { DecodesAs (λ x. (x.0, x.1.now)) result (entry_at Two bytes.now) }
 {
     let Some((head, rest)) = head_at(bytes) else {
-        return Err(RecordFault::Malformed);
+        return Err(Fault::Refused(Malformed));
     };
     let (patches, rest) = patches_of(alloc, head.length, head.count, rest)?;
     let entry = named(alloc, head.name, head.length, patches)?;
@@ -105,7 +111,11 @@ fn new_entry_of(alloc: Global, bytes: &[u8]) -> Result<(Entry, &[u8]), RecordFau
 }
 
 // An entry, and the bytes behind it.
-fn entry_of(alloc: Global, version: Version, bytes: &[u8]) -> Result<(Entry, &[u8]), RecordFault>
+fn entry_of(
+    alloc: Global,
+    version: Version,
+    bytes: &[u8],
+) -> Result<(Entry, &[u8]), Fault<Malformed>>
     ensures { DecodesAs (λ x. (x.0, x.1.now)) result (entry_at version bytes.now) }
 {
     match version {
@@ -120,7 +130,7 @@ fn entries_of(
     version: Version,
     count: u32,
     bytes: &[u8],
-) -> Result<(Vec<Entry>, &[u8]), RecordFault>
+) -> Result<(Vec<Entry>, &[u8]), Fault<Malformed>>
     ensures { DecodesAs (λ x. (x.0.items, x.1.now)) result (entries_at version count bytes.now) }
 {
     let mut entries = Vec::new(alloc);
@@ -135,15 +145,15 @@ fn entries_of(
 
 // The record of bytes that were looked at.
 #[tactic(auto, unfolding(crate::specs::Reading::journal_at, crate::specs::Reading::record_at))]
-fn record_of(alloc: Global, bytes: &[u8]) -> Result<Record, RecordFault>
+fn record_of(alloc: Global, bytes: &[u8]) -> Result<Record, Fault<Malformed>>
     requires { IsTrue (is_some (journal_at bytes.now)) }
     ensures { DecodesAs (λ entries. entries) result (journal_at bytes.now) }
 {
     let Some((version, record)) = header_at(bytes) else {
-        return Err(RecordFault::Malformed);
+        return Err(Fault::Refused(Malformed));
     };
     let Some((count, rest)) = count_at(record) else {
-        return Err(RecordFault::Malformed);
+        return Err(Fault::Refused(Malformed));
     };
     let (entries, _) = entries_of(alloc, version, count, rest)?;
     Ok(Record::new(entries))
@@ -156,18 +166,18 @@ fn record_of(alloc: Global, bytes: &[u8]) -> Result<Record, RecordFault>
 /// - `Malformed`: exactly where they don't begin with a well-formed record's bytes, in either
 ///   version.
 /// - `OutOfMemory`: only where they do.
-pub fn decode(alloc: Global, bytes: &[u8]) -> Result<Record, RecordFault>
+pub fn decode(alloc: Global, bytes: &[u8]) -> Result<Record, Fault<Malformed>>
     ensures found { IfOk result (λ entries. BeginsWith bytes.now entries) }
     ensures only { (entries : List Entry) → BeginsWith bytes.now entries
-        → (result ≡ Ok entries) ⊎ (result ≡ Err RecordFault.OutOfMemory) }
+        → (result ≡ Ok entries) ⊎ (result ≡ Err Fault.OutOfMemory) }
     // What was read, in either version, can be written in version 2.
     ensures writable { IfOk result (λ entries. IsWellFormed Two entries) }
-    ensures memory { IsErrOf result RecordFault.OutOfMemory
+    ensures memory { IsErrOf result Fault.OutOfMemory
         → (entries : List Entry) × BeginsWith bytes.now entries }
     ensures exact { DecodesAs (λ entries. entries) result (journal_at bytes.now) }
 {
     if !well_formed(bytes) {
-        return Err(RecordFault::Malformed);
+        return Err(Fault::Refused(Malformed));
     }
     record_of(alloc, bytes)
 }

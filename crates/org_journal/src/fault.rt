@@ -4,39 +4,13 @@
 ghost use Rattle.std.specs.Prelude.{◌≡◌};
 
 use org_disk::DiskFault;
-use std::alloc::{AllocError, AllocFailed};
+use std::alloc::AllocError;
 use thiserror::Error;
 
-/// Why bytes gave no record.
-#[derive(Clone, Copy, Debug, Error)]
-pub enum RecordFault {
-    /// The bytes don't begin with those of a well-formed record.
-    #[error("malformed record")]
-    Malformed,
-    /// The allocator had no memory.
-    #[error("out of memory")]
-    OutOfMemory,
-}
-
-impl From<AllocError> for RecordFault {
-    ghost use Rattle.org_journal.specs.declared.fault.RecordFault.TheVariants.{OutOfMemory};
-
-    ghost from_gives = { λ _ e. e ≡ OutOfMemory };
-
-    fn from(_e: AllocError) -> RecordFault {
-        RecordFault::OutOfMemory
-    }
-}
-
-impl<T: Drop> From<AllocFailed<T>> for RecordFault {
-    ghost use Rattle.org_journal.specs.declared.fault.RecordFault.TheVariants.{OutOfMemory};
-
-    ghost from_gives = { λ _ e. e ≡ OutOfMemory };
-
-    fn from(_e: AllocFailed<T>) -> RecordFault {
-        RecordFault::OutOfMemory
-    }
-}
+/// The bytes don't begin with those of a well-formed record.
+#[derive(Clone, Copy, Debug, PartialEq, Eq, Error)]
+#[error("malformed record")]
+pub struct Malformed;
 
 /// Why nothing can be said of a journal on a disk.
 #[derive(Clone, Copy, Debug, Error)]

@@ -14,11 +14,12 @@ ghost use Rattle.org_journal.specs.Finding.{Finds, IsWritable, FindsSize, FindsR
 ghost use Rattle.org_journal.specs.Gate.{front_size};
 
 use crate::decoding::decode;
-use crate::fault::{FindFault, RecordFault};
+use crate::fault::{FindFault, Malformed};
 use crate::gate::OPEN;
 use crate::record::{Entry, Record};
 use byteorder::{BigEndian, ByteOrder};
 use org_disk::{Disk, DiskFault, FileName};
+use org_fault::Fault;
 use org_splice::Patch;
 use std::alloc::Global;
 
@@ -113,8 +114,8 @@ fn record_of<D: Disk>(
     let body = body_of(alloc, disk, journal, size)?;
     match decode(alloc, &body) {
         Ok(record) => Ok(record),
-        Err(RecordFault::Malformed) => Err(FindFault::BadJournal),
-        Err(RecordFault::OutOfMemory) => Err(FindFault::OutOfMemory),
+        Err(Fault::Refused(Malformed)) => Err(FindFault::BadJournal),
+        Err(Fault::OutOfMemory) => Err(FindFault::OutOfMemory),
     }
 }
 

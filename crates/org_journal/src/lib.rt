@@ -16,7 +16,7 @@ mod reading;
 mod record;
 
 pub use decoding::decode;
-pub use fault::{FindFault, RecordFault};
+pub use fault::{FindFault, Malformed};
 pub use fields::GREATEST_LENGTH;
 pub use finding::{FRONT, Found, find};
 pub use gate::{arm, close_gate, open_gate, prepare};

@@ -33,7 +33,7 @@ of_all some all first Locked is = is
 of_all some all first (SameFile name) is = is
 of_all some all first (Ended end) is = is
 
--- why the names, the states or the folder of a store can't be had, told in their order
+-- why the names, the states or the folder of a store can't be had, in their order
 module _ (arguments : Arguments) where
   pub of_names : (fault : Fault) → IsCauseOfNames (names_in arguments) fault → IsCause arguments fault
   of_names (BadName name) is = is

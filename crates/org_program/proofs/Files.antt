@@ -9,14 +9,14 @@ use Rattle.org_program.specs.Causes.{sharing, IsCause, MayShare, NameAStore}
 use Rattle.org_program.specs.Lists.{names_in, AreListed}
 use Rattle.org_program.specs.declared.arguments.Arguments.{Arguments}
 
--- a store's name that shares a file is told behind the words
+-- a store's name that shares a file is reported after the words
 pub shared : (arguments : Arguments) (listed : List (List ℕ)) (fault : AliasFault) → NameAStore arguments → AreListed arguments listed
     → MayShare (names_in arguments ++ listed) fault → IsCause arguments (sharing fault)
 shared arguments listed (alias.SameFile name) good are may = (good, (listed, are, may))
 shared arguments listed alias.Device good are may = good
 shared arguments listed alias.OutOfMemory good are may = tt
 
--- a name that is told of the files is one of the store's
+-- a name that is reported of the files is one of the store's
 pub may_share : {T : Type 0} (names files : List (List ℕ)) → AreFew names → AreSorted (journal_name ∷ with_archives names) files → (result : Result T AliasFault) → IfErr result (MayReport files)
     → IfErr result (MayShare names)
 may_share names files few sorted (Ok absent) may = tt

@@ -28,7 +28,7 @@ module _ (words : List (List ℕ)) (m : ArgMatches) (rows : rows_of (found_of m)
   pub all_given : (id : List ℕ) → option_map raw_values (matched_of (found_of m) id) ≡ all_of id (given words)
   all_given id = raw_values-rows (found_of m) id ∙ ap (all_of id) rows
 
-  -- a fault of all words that give these rows, told of these words
+  -- a fault of all words that give these rows, said of these words
   pub of_words : {A : Type 0} (result : Result A Error)
       → IfErr result (λ error. (kind_of error ≡ OutOfMemory) ⊎ ((each : List (List ℕ)) → rows_of (found_of m) ≡ given each → AreTaken each → ⊥))
       → IfErr result (λ error. (kind_of error ≡ OutOfMemory) ⊎ (AreTaken words → ⊥))
@@ -45,7 +45,7 @@ module _ (words : List (List ℕ)) (app : App) (is : app ≡ command_line) where
   pub none_refused : (is_simple_and_free app ≡ true → fault_of app words ≡ []) → fault_of command_line words ≡ []
   none_refused none = ap (λ a. fault_of a words) (sym is) ∙ none (ap is_simple_and_free is ∙ is_free_line)
 
-  -- clap's error tells of no memory, or the words aren't taken
+  -- clap's error is of no memory, or the words aren't taken
   pub refused : (error : Error) → (is_simple_and_free app ≡ true → HasKind (fault_of app words) error) → (kind_of error ≡ OutOfMemory) ⊎ (AreTaken words → ⊥)
   refused error kinds = elim (kinds (ap is_simple_and_free is ∙ is_free_line)) [
     | inl memory ↦ inl memory

@@ -30,8 +30,8 @@ pub record ListsNames (arguments : Arguments) (listed : List (List ℕ)) (old ne
   pub all : arguments.only.items ≡ [] → Lists listed old new
   pub only : arguments.only.items ≢ [] → new ≡ old
 
--- A store is set up as the arguments say: its names are those given and, where `--only` isn't, those
--- that were listed of the folder, once it was locked. Since then calls only looked.
+-- A store is set up as the arguments say: its names are those given and, where `--only` isn't,
+-- those that were listed of the folder, once it was locked. Since then calls only looked.
 pub record IsSetUp (arguments : Arguments) (setup : Setup) (old new : List Event) : Type 0 where
   pub listed : List (List ℕ)
   pub listing : List Event
@@ -47,8 +47,8 @@ pub record IsSetUp (arguments : Arguments) (setup : Setup) (old new : List Event
 abbrev pub LocksFirst : List ℕ → List Event → List Event → Type 0
 LocksFirst path old new = OnlyLooks (Locked path ∷ old) new
 
--- Lines were served over the folder of these calls, by a store that was set up as the arguments say.
--- Before that the folder that the arguments name was locked, and then the calls only looked.
+-- Lines were served over the folder of these calls, by a store that was set up as the arguments
+-- say. Before that the folder that the arguments name was locked, and then the calls only looked.
 pub record ServesFolder {C F : Type 0} (g : Ghosts C F) (found : C)
     (arguments : Arguments) (now : CallsDisk C F g)
     (end : Result ServeEnd OpenFault) (io : Exchange) : Type 0 where

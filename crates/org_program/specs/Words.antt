@@ -1,4 +1,4 @@
--- What the words of the command line tell the program to do, and why they aren't taken.
+-- What the words of the command line ask the program to do, and why they aren't taken.
 use Rattle.std.specs.Prelude.{◌≡◌, ℕ, Bool, true, false, List, [], ◌∷◌, Option, None, Some, map, string_bytes, codes, unwrap_or}
 use Rattle.std.specs.Str.{bytes_eq}
 use Rattle.std.specs.Str.Parse.{IsNumeral, digits_value}
@@ -13,8 +13,8 @@ use Rattle.org_program.specs.declared.fault.Fault.{Fault}
 use Rattle.org_program.specs.declared.fault.Fault.TheVariants.{Usage, Open}
 
 -- The command line, as clap has it: a folder, which has to be there; any number of `--new NAME` and
--- of `--only NAME`; and, at most once each, `--todo LIST` and `--done LIST`, which are TODO and DONE
--- where they aren't there, `--group K` and `--whole`.
+-- of `--only NAME`; and, at most once each, `--todo LIST` and `--done LIST`, which are TODO and
+-- DONE where they aren't there, `--group K` and `--whole`.
 
 abbrev pub folder_argument : Rule
 folder_argument = record (new_rule (codes "DIR")) { required = true }
@@ -96,7 +96,7 @@ abbrev pub AreTaken : List (List ℕ) → Type 0
 AreTaken words =
     (fault_of command_line words ≡ []) × IsGroupGiven (whole_in words) (group_in words)
 
--- words that are taken, and what they tell the program to do
+-- words that are taken, and what they ask the program to do
 pub record Say (words : List (List ℕ)) (arguments : Arguments) : Type 0 where
   pub taken : AreTaken words
   pub folder : string_bytes arguments.folder ≡ folder_in words

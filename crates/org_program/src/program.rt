@@ -59,8 +59,8 @@ pub struct Unserved<S> {
 ///
 /// The store is set up as the arguments say (`IsSetUp`), and over the folder's files it is run as
 /// `serve_synced` does: what a user is promised of that is one record (`Promises`), and all that is
-/// known another (`RunsSynced`), with what is answered, what is written, what a crash leaves at each
-/// moment, and why the run ended. The input is read at most 4,294,967,295 times.
+/// known another (`RunsSynced`), with what is answered, what is written, what a crash leaves at
+/// each moment, and why the run ended. The input is read at most 4,294,967,295 times.
 ///
 /// # Errors
 ///

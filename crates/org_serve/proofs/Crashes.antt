@@ -13,7 +13,8 @@ use Rattle.org_store.proofs.Runs.{Course, course_none, course_run, course_settle
 use Rattle.org_serve.specs.Pipes.{Adds, AddsSome, AppendsSome, Exchange, Output, output_of}
 use Rattle.org_serve.specs.declared.end.ServeEnd.{ServeEnd}
 use Rattle.org_serve.specs.declared.end.ServeEnd.TheVariants.{End, Unsettled, Device, Read, Write}
-use Rattle.org_serve.specs.declared.fault.LineFault.{LineFault}
+use Rattle.org_fault.specs.declared.fault.Fault.{Fault}
+use Rattle.org_serve.specs.declared.fault.BadLine.{BadLine}
 use Rattle.org_serve.specs.declared.pending.Pending.{Pending}
 use Rattle.org_serve.specs.declared.serving.Next.{Next}
 use Rattle.org_serve.specs.declared.serving.Next.TheVariants.{Line, Stop}
@@ -103,7 +104,7 @@ runs_stop {m = m} {old = old} {new = new} end io unwritten stop =
 -- One machine for another, of which each call is one.
 module _ {S T : Type 0} (m : Machine S) (n : Machine T) (view : S → T) (same : (s : S) → n.session (view s) ≡ m.session s)
     (calls : (old : S) (call : Call) (new : S) → m.makes old call new → n.makes (view old) call (view new)) where
-  read_by : (old : S) (read : Result Command LineFault) (out : List ℕ) (new : S) → AnswersRead m old read out new → AnswersRead n (view old) read out (view new)
+  read_by : (old : S) (read : Result Command (Fault BadLine)) (out : List ℕ) (new : S) → AnswersRead m old read out new → AnswersRead n (view old) read out (view new)
   read_by old (Err fault) out new ran = (ran.0, ap view ran.1)
   read_by old (Ok command) out new ran = (ran.0, calls old (Ran command ran.0) new ran.1, rw (same old, same new) ran.2)
 
@@ -111,7 +112,7 @@ module _ {S T : Type 0} (m : Machine S) (n : Machine T) (view : S → T) (same :
   line_by old line out new a = (a.0, a.1, read_by old a.0 out new a.2)
 
   -- .. and what comes behind it
-  leads_by : (group : Group) (next : Next) (old : S) (read : Result Command LineFault) (out : List ℕ) (new : S) → ReadLeadsTo group next m old read out new → ReadLeadsTo group next n (view old) read out (view new)
+  leads_by : (group : Group) (next : Next) (old : S) (read : Result Command (Fault BadLine)) (out : List ℕ) (new : S) → ReadLeadsTo group next m old read out new → ReadLeadsTo group next n (view old) read out (view new)
   leads_by (Of size) Line old read out new ran = read_by old read out new ran
   leads_by (Of size) Stop old read out new ran = absurd ran
   leads_by Whole Line old (Err fault) out new ran = absurd ran
@@ -246,7 +247,7 @@ module _ {D : Type 0} (g : Ghosts D) where
   abbrev Goes : StoreView D → StoreView D → Type 0
   Goes old new = Course g old new (λ s. Unit {0})
 
-  course_read : (old mid new : StoreView D) (read : Result Command LineFault) (out : List ℕ) → AnswersRead (sound_stores g) old read out mid → Goes mid new → Goes old new
+  course_read : (old mid new : StoreView D) (read : Result Command (Fault BadLine)) (out : List ℕ) → AnswersRead (sound_stores g) old read out mid → Goes mid new → Goes old new
   course_read old mid new (Err fault) out ran course = subst (λ k. Goes k new) ran.1 course
   course_read old mid new (Ok command) out ran course =
       course_run g old mid new command ran.0 (λ s. Unit {0}) (λ s. Unit {0}) ran.1.0 course tt (λ fine s later. tt) tt (λ texts failed accepted full. tt)

@@ -20,7 +20,8 @@ use Rattle.org_store.proofs.Own.{KeepsToItsOwn, own_none, own_run, own_settling,
 use Rattle.org_serve.specs.declared.whole.Setup.{Setup}
 use Rattle.org_serve.specs.Pipes.{Exchange}
 use Rattle.org_serve.specs.declared.end.ServeEnd.{ServeEnd}
-use Rattle.org_serve.specs.declared.fault.LineFault.{LineFault}
+use Rattle.org_fault.specs.declared.fault.Fault.{Fault}
+use Rattle.org_serve.specs.declared.fault.BadLine.{BadLine}
 use Rattle.org_serve.specs.Serving.{Answers, AnswersRead, HasSettled, RunsLines}
 use Rattle.org_serve.specs.Syncing.{IsNotStored}
 use Rattle.org_serve.specs.Whole.{IsForeign, LeavesForeign, ServesOver}
@@ -37,7 +38,7 @@ module _ {D : Type 0} (g : Ghosts D) where
   own_same : (old new : Trace D) → Ready old → new ≡ old → Own old new
   own_same old new ready same = own_none g old.store new.store ready (ap (λ (p : Trace D). p.store) same)
 
-  own_read : (old : Trace D) (read : Result Command LineFault) (out : List ℕ) (new : Trace D) → Ready old → AnswersRead (sound_traces g) old read out new → Own old new
+  own_read : (old : Trace D) (read : Result Command (Fault BadLine)) (out : List ℕ) (new : Trace D) → Ready old → AnswersRead (sound_traces g) old read out new → Own old new
   own_read old (Err fault) out new ready ran = own_same old new ready ran.1
   own_read old (Ok command) out new ready ran = own_run g old.store new.store command ran.0 ready ran.1.0.0
 

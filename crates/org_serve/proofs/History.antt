@@ -24,7 +24,8 @@ use Rattle.org_store.specs.Calls.{Call, Machine, StepsBy, model}
 use Rattle.org_store.specs.Calls.Call.{Grouped, Ran, Settled}
 use Rattle.org_serve.specs.Pipes.{Exchange}
 use Rattle.org_serve.specs.Serving.{Answers, AnswersRead, HasSettled, MayHaveSettled, RunsLines, RunsAndWrites, stores_while_honest, traces_while_honest}
-use Rattle.org_serve.specs.declared.fault.LineFault.{LineFault}
+use Rattle.org_fault.specs.declared.fault.Fault.{Fault}
+use Rattle.org_serve.specs.declared.fault.BadLine.{BadLine}
 use Rattle.org_serve.specs.declared.end.ServeEnd.{ServeEnd}
 use Rattle.org_serve.specs.History.{HoldsSince, Reaches}
 use Rattle.org_serve.proofs.Honest.{sound_traced, sound_traces}
@@ -32,7 +33,7 @@ use Rattle.org_serve.proofs.Crashes.{lines_by}
 
 -- A run of stores has a trace.
 module _ {D : Type 0} (g : Ghosts D) where
-  lift_read : (old : Trace D) (read : Result Command LineFault) (out : List ℕ) (new : StoreView D) → AnswersRead (stores_while_honest g) old.store read out new
+  lift_read : (old : Trace D) (read : Result Command (Fault BadLine)) (out : List ℕ) (new : StoreView D) → AnswersRead (stores_while_honest g) old.store read out new
       → (texts : Texts) × AnswersRead (traces_while_honest g) old read out (record { store = new; texts = texts })
   lift_read old (Err fault) out new ran = (old.texts, (ran.0, ap (λ (k : StoreView D). record { store = k; texts = old.texts }) ran.1))
   lift_read old (Ok command) out new ran = (
@@ -116,11 +117,11 @@ module _ {D : Type 0} (g : Ghosts D) where
   honest_lines old new [] out a here = subst (λ (p : Trace D). g.honest p.store.disk) (sym a.1) here
   honest_lines old new (line ∷ lines) out a here = honest_lines a.0 new lines a.2 a.5 (honest_read old a.3.0 a.1 a.0 a.3.2 here)
     where
-      honest_read : (old : Trace D) (read : Result Command LineFault) (out : List ℕ) (new : Trace D) → AnswersRead Sound old read out new → g.honest old.store.disk → g.honest new.store.disk
+      honest_read : (old : Trace D) (read : Result Command (Fault BadLine)) (out : List ℕ) (new : Trace D) → AnswersRead Sound old read out new → g.honest old.store.disk → g.honest new.store.disk
       honest_read old (Err fault) out new ran here = subst (λ (p : Trace D). g.honest p.store.disk) (sym ran.1) here
       honest_read old (Ok command) out new ran here = ran.1.1
 
-  lists_read : (old : Trace D) (read : Result Command LineFault) (out : List ℕ) (new : Trace D) → AnswersRead Sound old read out new → Lists old.store.session old.texts → Lists new.store.session new.texts
+  lists_read : (old : Trace D) (read : Result Command (Fault BadLine)) (out : List ℕ) (new : Trace D) → AnswersRead Sound old read out new → Lists old.store.session old.texts → Lists new.store.session new.texts
   lists_read old (Err fault) out new ran lists = subst (λ (p : Trace D). Lists p.store.session p.texts) (sym ran.1) lists
   lists_read old (Ok command) out new ran lists = lists_step old.store.session new.store.session command ran.0 old.texts new.texts ran.1.0.0.step ran.1.0.1 lists
 
@@ -134,7 +135,7 @@ module _ {D : Type 0} (g : Ghosts D) where
       (λ settled. subst (Lists last.store.session) (sym settled.1.0.1) (lists_settling mid.store.session last.store.session settled.0 mid.texts settled.1.0.0.step lists))
       ends
 
-  begin_read : (old : Trace D) (read : Result Command LineFault) (out : List ℕ) (new : Trace D) → AnswersRead Sound old read out new → Begin old.texts new.texts
+  begin_read : (old : Trace D) (read : Result Command (Fault BadLine)) (out : List ℕ) (new : Trace D) → AnswersRead Sound old read out new → Begin old.texts new.texts
   begin_read old (Err fault) out new ran = subst (λ (p : Trace D). Begin old.texts p.texts) (sym ran.1) (λ k files is. is)
   begin_read old (Ok command) out new ran = begin_adds (outcome old.store.session command) old.store.session.accepted new.store.session.accepted old.texts new.texts ran.1.0.1
 
@@ -155,7 +156,7 @@ module _ {D : Type 0} (g : Ghosts D) where
 
   -- one line, and the lines after it
   module _ (old mid last : Trace D) (course : Goes mid last (Counts last mid)) (lists : Lists old.store.session old.texts) (ends : Begin mid.texts last.texts) where
-    course_read : (read : Result Command LineFault) (out : List ℕ) → AnswersRead Sound old read out mid → Goes old last (Counts last old)
+    course_read : (read : Result Command (Fault BadLine)) (out : List ℕ) → AnswersRead Sound old read out mid → Goes old last (Counts last old)
     course_read (Err fault) out ran = subst (λ p. Goes p last (Counts last p)) ran.1 course
     course_read (Ok command) out ran =
         let made = ran.1.0 in

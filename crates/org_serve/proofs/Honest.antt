@@ -11,7 +11,8 @@ use Rattle.org_store.specs.History.{Trace}
 use Rattle.org_serve.specs.Pipes.{Exchange, Output}
 use Rattle.org_serve.specs.declared.end.ServeEnd.{ServeEnd}
 use Rattle.org_serve.specs.declared.end.ServeEnd.TheVariants.{Write}
-use Rattle.org_serve.specs.declared.fault.LineFault.{LineFault}
+use Rattle.org_fault.specs.declared.fault.Fault.{Fault}
+use Rattle.org_serve.specs.declared.fault.BadLine.{BadLine}
 use Rattle.org_serve.specs.declared.pending.Pending.{Pending}
 use Rattle.org_serve.specs.declared.serving.Next.{Next}
 use Rattle.org_serve.specs.declared.serving.Next.TheVariants.{Line, Stop}
@@ -19,6 +20,7 @@ use Rattle.org_serve.specs.History.{Reaches}
 use Rattle.org_serve.specs.Lines.{cut}
 use Rattle.org_serve.specs.Serving.{Answers, AnswersEach, AnswersLine, AnswersRead, EndsAt, EndsBy, EndsWith, Finishes, HasSettled, LineLeadsTo, MayHaveSettled, Passes, PassesAll, ReadLeadsTo, RunsLines, RunsSome, ServesToEnd, Stops, stores_while_honest, traces_while_honest, if_good}
 use Rattle.org_serve.proofs.Inputs.{Served}
+use Rattle.org_serve.proofs.Joins.{end_as}
 
 -- the same machine, where the state after each call is good
 abbrev pub and_good : {S : Type 0} → (S → Type 0) → Machine S → Machine S
@@ -31,12 +33,12 @@ module _ {S : Type 0} (good : S → Type 0) (m : Machine S) where
   abbrev Sound : Machine S
   Sound = and_good good m
 
-  honest_read : (old : S) (read : Result Command LineFault) (out : List ℕ) (new : S) → AnswersRead Said old read out new → good new → AnswersRead Sound old read out new × good old
+  honest_read : (old : S) (read : Result Command (Fault BadLine)) (out : List ℕ) (new : S) → AnswersRead Said old read out new → good new → AnswersRead Sound old read out new × good old
   honest_read old (Err fault) out new ran here = ((ran.0, ran.1), subst good ran.1 here)
   honest_read old (Ok command) out new ran here = ((ran.0, (ran.1.did here, here), ran.2), ran.1.before here)
 
   -- .. and what comes behind it
-  honest_leads : (group : Group) (next : Next) (old : S) (read : Result Command LineFault) (out : List ℕ) (new : S) → ReadLeadsTo group next Said old read out new → good new
+  honest_leads : (group : Group) (next : Next) (old : S) (read : Result Command (Fault BadLine)) (out : List ℕ) (new : S) → ReadLeadsTo group next Said old read out new → good new
       → ReadLeadsTo group next Sound old read out new × good old
   honest_leads (Of size) Line old read out new ran here = honest_read old read out new ran here
   honest_leads (Of size) Stop old read out new ran here = absurd ran
@@ -73,18 +75,7 @@ module _ {S : Type 0} (good : S → Type 0) (m : Machine S) where
       → EndsAt group Sound Q old lines out new
   honest_ends_at group P Q one {old} {new} ends here =
       let last = one ends.mid ends.line ends.answer new ends.last here in
-      record {
-        passed = ends.passed;
-        line = ends.line;
-        others = ends.others;
-        before = ends.before;
-        answer = ends.answer;
-        mid = ends.mid;
-        all_lines = ends.all_lines;
-        all_out = ends.all_out;
-        passes = (honest_passes group old ends.passed ends.before ends.mid ends.passes last.1).0;
-        last = last.0;
-      }
+      end_as group Said Sound P Q ends (honest_passes group old ends.passed ends.before ends.mid ends.passes last.1).0 last.0
 
   pub honest_settled : (old new : S) → HasSettled Said old new → good new → HasSettled Sound old new × good old
   honest_settled old new settled here = ((settled.0, (settled.1.did here, here)), settled.1.before here)

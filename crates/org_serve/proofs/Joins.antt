@@ -9,7 +9,8 @@ use Rattle.org_commands.specs.declared.command.Reply.{Reply}
 use Rattle.org_commands.specs.declared.command.RunFault.{RunFault}
 use Rattle.org_commands.specs.declared.tally.Group.{Group}
 use Rattle.org_commands.specs.declared.tally.Group.TheVariants.{Of, Whole}
-use Rattle.org_serve.specs.declared.fault.LineFault.{LineFault}
+use Rattle.org_fault.specs.declared.fault.Fault.{Fault}
+use Rattle.org_serve.specs.declared.fault.BadLine.{BadLine}
 use Rattle.org_serve.specs.declared.pipes.Sink as sinks
 use Rattle.org_serve.specs.declared.serving.Next.{Next}
 use Rattle.org_serve.specs.declared.serving.Next.TheVariants.{Line, Stop}
@@ -43,7 +44,7 @@ Each-weaker P Q weaker old [] out new a = a
 Each-weaker P Q weaker old (line ∷ lines) out new a = (a.0, a.1, a.2, weaker old line a.1 a.0 a.3, a.4, Each-weaker P Q weaker a.0 lines a.2 new a.5)
 
 -- a line that something comes behind is answered
-read_answers : {S : Type 0} (group : Group) (next : Next) (m : Machine S) (old : S) (read : Result Command LineFault) (out : List ℕ) (new : S) → ReadLeadsTo group next m old read out new
+read_answers : {S : Type 0} (group : Group) (next : Next) (m : Machine S) (old : S) (read : Result Command (Fault BadLine)) (out : List ℕ) (new : S) → ReadLeadsTo group next m old read out new
     → AnswersRead m old read out new
 read_answers (Of size) Line m old read out new ran = ran
 read_answers (Of size) Stop m old read out new ran = absurd ran
@@ -63,12 +64,12 @@ leads_run Whole m old command (Ok reply) new made = (reply, made, refl)
 leads_run Whole m old command (Err fault) new made = (fault, made, refl)
 
 -- .. and behind a line that isn't run
-pub leads_unread : {S : Type 0} (group : Group) (m : Machine S) (old : S) (fault : LineFault) → ReadLeadsTo group (behind group false) m old (Err fault) (fault_text fault) old
+pub leads_unread : {S : Type 0} (group : Group) (m : Machine S) (old : S) (fault : Fault BadLine) → ReadLeadsTo group (behind group false) m old (Err fault) (fault_text fault) old
 leads_unread (Of size) m old fault = (refl, refl)
 leads_unread Whole m old fault = (refl, refl)
 
 -- what a line comes to whose answer is written
-pub then_leads : {S W E : Type 0} (w : sinks.Ghosts W) (group : Group) (next : Next) (m : Machine S) (old : S) (read : Result Command LineFault) (out : List ℕ) (new : S) (first last : W)
+pub then_leads : {S W E : Type 0} (w : sinks.Ghosts W) (group : Group) (next : Next) (m : Machine S) (old : S) (read : Result Command (Fault BadLine)) (out : List ℕ) (new : S) (first last : W)
     (written : Result (Unit {0}) E) (result : Result Next E) → result ≡ result_and written (Ok next) → ReadLeadsTo group next m old read out new → Writes w first last written out
     → ReadOutcome group result m old read out new × Writes w first last result out
 then_leads w group next m old read out new first last (Ok done) result is leads wrote =
@@ -78,7 +79,7 @@ then_leads w group next m old read out new first last (Err fault) result is lead
     (read_answers group next m old read out new leads, record { ok = tt; part = wrote.part; same = tt; counted = wrote.counted })
 
 -- what a line comes to, as what it was read as does
-pub outcome_of : {S E : Type 0} (group : Group) (result : Result Next E) (m : Machine S) (old : S) (line : List ℕ) (read : Result Command LineFault) (out : List ℕ) (new : S) → IsReadAs line read
+pub outcome_of : {S E : Type 0} (group : Group) (result : Result Next E) (m : Machine S) (old : S) (line : List ℕ) (read : Result Command (Fault BadLine)) (out : List ℕ) (new : S) → IsReadAs line read
     → ReadOutcome group result m old read out new → LineOutcome group result m old line out new
 outcome_of group (Ok next) m old line read out new is ran = (read, is, ran)
 outcome_of group (Err fault) m old line read out new is ran = (read, is, ran)
@@ -93,10 +94,10 @@ end_answers group m {old} {new} ends =
     subst (λ o. Answers m old (ends.passed ++ ends.line ∷ []) o new) (sym ends.all_out)
     (Each-one (AnswersLine m) old ends.mid new ends.passed ends.line ends.before ends.answer (all_answer group m old ends.passed ends.before ends.mid ends.passes) ends.last)
 
--- .. and what that one comes to
-pub end_weaker : {S : Type 0} (group : Group) (m : Machine S) (P Q : S → List ℕ → List ℕ → S → Type 0) → ((old : S) (line out : List ℕ) (new : S) → P old line out new → Q old line out new)
-    → {old new : S} {lines : List (List ℕ)} {out : List ℕ} → EndsAt group m P old lines out new → EndsAt group m Q old lines out new
-end_weaker group m P Q weaker {new = new} ends = record {
+-- .. passed and answered by other machines
+abbrev pub end_as : {S : Type 0} (group : Group) (m n : Machine S) (P Q : S → List ℕ → List ℕ → S → Type 0) {old new : S} {lines : List (List ℕ)} {out : List ℕ} (ends : EndsAt group m P old lines out new)
+    → PassesAll group n old ends.passed ends.before ends.mid → Q ends.mid ends.line ends.answer new → EndsAt group n Q old lines out new
+end_as group m n P Q ends passes last = record {
   passed = ends.passed;
   line = ends.line;
   others = ends.others;
@@ -105,9 +106,14 @@ end_weaker group m P Q weaker {new = new} ends = record {
   mid = ends.mid;
   all_lines = ends.all_lines;
   all_out = ends.all_out;
-  passes = ends.passes;
-  last = weaker ends.mid ends.line ends.answer new ends.last;
+  passes = passes;
+  last = last;
 }
+
+-- .. and what that one comes to
+pub end_weaker : {S : Type 0} (group : Group) (m : Machine S) (P Q : S → List ℕ → List ℕ → S → Type 0) → ((old : S) (line out : List ℕ) (new : S) → P old line out new → Q old line out new)
+    → {old new : S} {lines : List (List ℕ)} {out : List ℕ} → EndsAt group m P old lines out new → EndsAt group m Q old lines out new
+end_weaker group m P Q weaker {new = new} ends = end_as group m m P Q ends ends.passes (weaker ends.mid ends.line ends.answer new ends.last)
 
 pub Consumes-append : (x y z : Option (List ℕ)) (a b : List ℕ) → Consumes x y a → Consumes y z b → Consumes x z (a ++ b)
 Consumes-append None y z a b p q = tt

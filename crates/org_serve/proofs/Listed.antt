@@ -29,7 +29,8 @@ use Rattle.org_store.proofs.Reopening.{opened_small}
 use Rattle.org_serve.specs.declared.whole.Setup.{Setup}
 use Rattle.org_serve.specs.Pipes.{Exchange}
 use Rattle.org_serve.specs.declared.end.ServeEnd.{ServeEnd}
-use Rattle.org_serve.specs.declared.fault.LineFault.{LineFault}
+use Rattle.org_fault.specs.declared.fault.Fault.{Fault}
+use Rattle.org_serve.specs.declared.fault.BadLine.{BadLine}
 use Rattle.org_serve.specs.History.{OnlyRefiles}
 use Rattle.org_serve.specs.Serving.{Answers, AnswersRead, IsReadAs, RunsLines, traces_while_honest}
 use Rattle.org_serve.specs.Whole.{ServesOver, IsIntermediate}
@@ -79,7 +80,7 @@ module _ (names : List (List ℕ)) (Q : List (List ℕ) → Type 0) (Allowed : L
       ]
 
   module _ {D : Type 0} (g : Ghosts D) where
-    each_read : (old : Trace D) (line : List ℕ) (read : Result Command LineFault) (out : List ℕ) (new : Trace D) → Allowed line → IsReadAs line read
+    each_read : (old : Trace D) (line : List ℕ) (read : Result Command (Fault BadLine)) (out : List ℕ) (new : Trace D) → Allowed line → IsReadAs line read
         → AnswersRead (sound_traces g) old read out new → Each old.store.session old.texts → Each new.store.session new.texts
     each_read old line (Err fault) out new allowed read ran each = subst (λ (p : Trace D). Each p.store.session p.texts) (sym ran.1) each
     each_read old line (Ok command) out new allowed read ran each =

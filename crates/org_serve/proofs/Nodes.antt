@@ -2,8 +2,9 @@
 use Rattle.std.proofs.Common.{◌≡◌, Option, None, Some, Result, Ok, Err, refl, sym, subst, true≢false}
 use Rattle.std.specs.Prelude.{IsErr, IsErrAnd}
 use Rattle.std.specs.Option.{option_map, option_and_then, ok_or}
-use Rattle.org_serve.specs.declared.fault.LineFault.{LineFault}
-use Rattle.org_serve.specs.declared.fault.LineFault.TheVariants.{BadLine, OutOfMemory}
+use Rattle.org_fault.specs.declared.fault.Fault.{Fault}
+use Rattle.org_serve.specs.declared.fault.BadLine.{BadLine}
+use Rattle.org_fault.specs.declared.fault.Fault.TheVariants.{Refused, OutOfMemory}
 use Rattle.org_serve.specs.Grammar.{Parses}
 
 -- what is refused isn't there
@@ -27,14 +28,14 @@ not_both (Some x) None more none = refl
 not_both (Some x) (Some y) more none = absurd (cc)
 
 -- a `?` hands on that a part isn't there
-pub part_refused : {Y : Type 0} (answer : Result Y LineFault) (whole : Option Y) → IsErr answer → whole ≡ None → Parses answer whole
+pub part_refused : {Y : Type 0} (answer : Result Y (Fault BadLine)) (whole : Option Y) → IsErr answer → whole ≡ None → Parses answer whole
 part_refused (Ok y) whole failed none = absurd (true≢false (sym failed))
-part_refused (Err BadLine) whole failed none = none
+part_refused (Err (Refused _)) whole failed none = none
 part_refused (Err OutOfMemory) whole failed none = tt
 
 -- or why it couldn't be read
-pub part_unread : {X Y : Type 0} (fault : LineFault) (part : Option X) (answer : Result Y LineFault) (whole : Option Y) → Parses (Err fault) part → IsErrAnd answer (λ e. e ≡ fault)
+pub part_unread : {X Y : Type 0} (fault : Fault BadLine) (part : Option X) (answer : Result Y (Fault BadLine)) (whole : Option Y) → Parses (Err fault) part → IsErrAnd answer (λ e. e ≡ fault)
     → (part ≡ None → whole ≡ None) → Parses answer whole
 part_unread fault part (Ok y) whole gives is none = absurd is
-part_unread BadLine part (Err f) whole gives is none = subst (λ (e : LineFault). Parses (Err e) whole) (sym is) (none gives)
-part_unread OutOfMemory part (Err f) whole gives is none = subst (λ (e : LineFault). Parses (Err e) whole) (sym is) tt
+part_unread (Refused _) part (Err f) whole gives is none = subst (λ (e : Fault BadLine). Parses (Err e) whole) (sym is) (none gives)
+part_unread OutOfMemory part (Err f) whole gives is none = subst (λ (e : Fault BadLine). Parses (Err e) whole) (sym is) tt

@@ -1,11 +1,13 @@
 -- The definitions on worked examples.
-use Rattle.std.proofs.Common.{◌≡◌, ℕ, List, [], ◌∷◌, Some, None, Err, true, refl}
+use Rattle.std.proofs.Common.{◌≡◌, ℕ, List, [], ◌∷◌, Option, Some, None, Err, true, map, refl}
 use Rattle.std.specs.Prelude.{codes}
 use Rattle.std.specs.Str.{is_utf8}
+use Rattle.org_outline.specs.declared.moves.Place.{Place}
 use Rattle.org_outline.specs.declared.moves.Place.TheVariants.{First, Last}
 use Rattle.org_outline.specs.declared.steps.Step.{Step}
+use Rattle.org_capture.specs.declared.target.Target.{Target}
 use Rattle.org_capture.specs.declared.target.Target.TheVariants.{Top, Head, Path, Date}
-use Rattle.org_stamp.specs.Calendar.{at_minute, civil_day}
+use Rattle.org_stamp.specs.Calendar.{Moment, at_minute, civil_day}
 use Rattle.org_commands.specs.declared.command.Command.TheVariants.{Capture, Refile, Show}
 use Rattle.org_commands.specs.declared.command.RunFault.TheVariants.{Device}
 use Rattle.org_serve.specs.Grammar.{command_of, unescaped, escaped, moment_of, file_of, path_of, step_of, path_field, show_of, capture_of, refile_of, target_of, place_of, position_of}
@@ -18,14 +20,16 @@ lines_of_an_input = refl
 lines_of_nothing : cut [] ≡ record { lines = []; rest = [] }
 lines_of_nothing = refl
 
-every_escape : unescaped (codes "a\\nb\\tc\\\\d\\se") ≡ Some (codes "a\nb\tc\\d/e")
-every_escape = refl
+-- fields of a text, and what they stand for
+abbrev texts : List (List ℕ × Option (List ℕ))
+texts =
+    (codes "a\\nb\\tc\\\\d\\se", Some (codes "a\nb\tc\\d/e"))
+    ∷ (codes "a\\x", None)
+    ∷ (codes "a\\", None)
+    ∷ []
 
-no_such_escape : unescaped (codes "a\\x") ≡ None
-no_such_escape = refl
-
-nothing_behind_a_backslash : unescaped (codes "a\\") ≡ None
-nothing_behind_a_backslash = refl
+each_of_texts : map (λ row. unescaped row.0) texts ≡ map (λ row. row.1) texts
+each_of_texts = refl
 
 spelled : escaped (codes "a/b\n") ≡ codes "a\\sb\\n"
 spelled = refl
@@ -37,177 +41,87 @@ only title = record { title = title; number = None }
 abbrev nth : ℕ → List ℕ → Step
 nth n title = record { title = title; number = Some n }
 
-two_titles : path_of (codes "a/b") ≡ Some (only (codes "a") ∷ only (codes "b") ∷ [])
-unfolding path_of step_of
-two_titles = refl
+-- fields PATH, and the paths that they are
+abbrev paths : List (List ℕ × Option (List Step))
+paths =
+    (codes "a/b", Some (only (codes "a") ∷ only (codes "b") ∷ []))
+    ∷ (codes "a\\sb", Some (only (codes "a/b") ∷ []))
+    ∷ ([], Some (only [] ∷ []))
+    ∷ (codes "/", Some (only [] ∷ only [] ∷ []))
+    ∷ (codes "a\\/sb", None)
+    ∷ (codes "a/b\\x", None)
+    ∷ (codes "A\\#2/B", Some (nth 2 (codes "A") ∷ only (codes "B") ∷ []))
+    ∷ (codes "a\\\\#2", Some (only (codes "a\\#2") ∷ []))
+    ∷ (codes "a\\\\#2\\#1", Some (nth 1 (codes "a\\#2") ∷ []))
+    ∷ (codes "A\\#999999999", Some (nth 999999999 (codes "A") ∷ []))
+    ∷ (codes "A\\#1000000000", None)
+    ∷ (codes "A\\#0", None)
+    ∷ (codes "A\\#01", None)
+    ∷ (codes "A\\#", None)
+    ∷ (codes "A\\#1x", None)
+    ∷ (codes "\\#1A", None)
+    ∷ (codes "A\\#1\\#1", None)
+    ∷ []
 
-slash_of_a_title : path_of (codes "a\\sb") ≡ Some (only (codes "a/b") ∷ [])
+each_of_paths : map (λ row. path_of row.0) paths ≡ map (λ row. row.1) paths
 unfolding path_of step_of
-slash_of_a_title = refl
-
-one_empty_title : path_of [] ≡ Some (only [] ∷ [])
-unfolding path_of step_of
-one_empty_title = refl
-
-two_empty_titles : path_of (codes "/") ≡ Some (only [] ∷ only [] ∷ [])
-unfolding path_of step_of
-two_empty_titles = refl
-
-backslash_ends_a_title : path_of (codes "a\\/sb") ≡ None
-unfolding path_of step_of
-backslash_ends_a_title = refl
-
-no_such_escape_in_a_title : path_of (codes "a/b\\x") ≡ None
-unfolding path_of step_of
-no_such_escape_in_a_title = refl
-
-numbered_step : path_of (codes "A\\#2/B") ≡ Some (nth 2 (codes "A") ∷ only (codes "B") ∷ [])
-unfolding path_of step_of
-numbered_step = refl
-
--- behind an escaped backslash a sharp is one of the title
-backslash_and_sharp : path_of (codes "a\\\\#2") ≡ Some (only (codes "a\\#2") ∷ [])
-unfolding path_of step_of
-backslash_and_sharp = refl
-
-backslash_sharp_and_number : path_of (codes "a\\\\#2\\#1") ≡ Some (nth 1 (codes "a\\#2") ∷ [])
-unfolding path_of step_of
-backslash_sharp_and_number = refl
-
-number_of_nine_digits : path_of (codes "A\\#999999999") ≡ Some (nth 999999999 (codes "A") ∷ [])
-unfolding path_of step_of
-number_of_nine_digits = refl
-
-number_of_ten_digits : path_of (codes "A\\#1000000000") ≡ None
-unfolding path_of step_of
-number_of_ten_digits = refl
-
-number_zero : path_of (codes "A\\#0") ≡ None
-unfolding path_of step_of
-number_zero = refl
-
-zero_in_front_of_a_number : path_of (codes "A\\#01") ≡ None
-unfolding path_of step_of
-zero_in_front_of_a_number = refl
-
-no_number : path_of (codes "A\\#") ≡ None
-unfolding path_of step_of
-no_number = refl
-
-number_and_more : path_of (codes "A\\#1x") ≡ None
-unfolding path_of step_of
-number_and_more = refl
-
-number_in_front : path_of (codes "\\#1A") ≡ None
-unfolding path_of step_of
-number_in_front = refl
-
-two_numbers : path_of (codes "A\\#1\\#1") ≡ None
-unfolding path_of step_of
-two_numbers = refl
+each_of_paths = refl
 
 written_path : path_field (only (codes "a/b") ∷ only (codes "c") ∷ []) ≡ codes "a\\sb/c"
 written_path = refl
 
-at_the_front : position_of (codes "0") ≡ Some 0
+-- fields AT, and the places in a file that they are
+abbrev positions : List (List ℕ × Option ℕ)
+positions =
+    (codes "0", Some 0) ∷ (codes "99999999", Some 99999999) ∷ (codes "100000000", None) ∷ (codes "00", None) ∷ (codes "-1", None)
+    ∷ ([], None) ∷ []
+
+each_of_positions : map (λ row. position_of row.0) positions ≡ map (λ row. row.1) positions
 unfolding position_of
-at_the_front = refl
+each_of_positions = refl
 
-eight_digits : position_of (codes "99999999") ≡ Some 99999999
-unfolding position_of
-eight_digits = refl
+-- fields TARGET, and the targets that they are
+abbrev targets : List (List ℕ × Option Target)
+targets =
+    (codes "top", Some Top)
+    ∷ (codes "head:a\\tb", Some (Head (only (codes "a\tb"))))
+    ∷ (codes "head:a/b", Some (Head (only (codes "a/b"))))
+    ∷ (codes "head:T\\#2", Some (Head (nth 2 (codes "T"))))
+    ∷ (codes "top\\#1", None)
+    ∷ (codes "path:a/b\\sc", Some (Path (only (codes "a") ∷ only (codes "b/c") ∷ [])))
+    ∷ (codes "path:", Some (Path (only [] ∷ [])))
+    ∷ (codes "date", Some (Date []))
+    ∷ (codes "date:Log", Some (Date (only (codes "Log") ∷ [])))
+    ∷ (codes "date:", Some (Date (only [] ∷ [])))
+    ∷ (codes "head:a\\x", None)
+    ∷ (codes "tops", None)
+    ∷ (codes "Date", None)
+    ∷ []
 
-nine_digits : position_of (codes "100000000") ≡ None
-unfolding position_of
-nine_digits = refl
-
-zero_in_front : position_of (codes "00") ≡ None
-unfolding position_of
-zero_in_front = refl
-
-sign_in_front : position_of (codes "-1") ≡ None
-unfolding position_of
-sign_in_front = refl
-
-no_position : position_of [] ≡ None
-unfolding position_of
-no_position = refl
-
-at_top : target_of (codes "top") ≡ Some Top
-unfolding target_of
-at_top = refl
-
-below_a_heading : target_of (codes "head:a\\tb") ≡ Some (Head (only (codes "a\tb")))
-unfolding target_of step_of
-below_a_heading = refl
-
-slash_of_a_heading : target_of (codes "head:a/b") ≡ Some (Head (only (codes "a/b")))
-unfolding target_of step_of
-slash_of_a_heading = refl
-
-below_a_numbered_heading : target_of (codes "head:T\\#2") ≡ Some (Head (nth 2 (codes "T")))
-unfolding target_of step_of
-below_a_numbered_heading = refl
-
-no_numbered_top : target_of (codes "top\\#1") ≡ None
-unfolding target_of
-no_numbered_top = refl
-
-below_a_path : target_of (codes "path:a/b\\sc") ≡ Some (Path (only (codes "a") ∷ only (codes "b/c") ∷ []))
+each_of_targets : map (λ row. target_of row.0) targets ≡ map (λ row. row.1) targets
 unfolding target_of path_of step_of
-below_a_path = refl
+each_of_targets = refl
 
-below_an_empty_title : target_of (codes "path:") ≡ Some (Path (only [] ∷ []))
-unfolding target_of path_of step_of
-below_an_empty_title = refl
+-- fields PLACE, and the places that they are
+abbrev places : List (List ℕ × Option Place)
+places = (codes "first", Some First) ∷ (codes "First", None) ∷ []
 
-in_the_date_tree : target_of (codes "date") ≡ Some (Date [])
-unfolding target_of
-in_the_date_tree = refl
-
-in_a_date_tree : target_of (codes "date:Log") ≡ Some (Date (only (codes "Log") ∷ []))
-unfolding target_of path_of step_of
-in_a_date_tree = refl
-
-in_the_date_tree_of_an_empty_title : target_of (codes "date:") ≡ Some (Date (only [] ∷ []))
-unfolding target_of path_of step_of
-in_the_date_tree_of_an_empty_title = refl
-
-no_such_escape_in_a_heading : target_of (codes "head:a\\x") ≡ None
-unfolding target_of step_of
-no_such_escape_in_a_heading = refl
-
-no_target : target_of (codes "tops") ≡ None
-unfolding target_of
-no_target = refl
-
-no_target_in_capitals : target_of (codes "Date") ≡ None
-unfolding target_of
-no_target_in_capitals = refl
-
-first_place : place_of (codes "first") ≡ Some First
+each_of_places : map (λ row. place_of row.0) places ≡ map (λ row. row.1) places
 unfolding place_of
-first_place = refl
+each_of_places = refl
 
-no_place : place_of (codes "First") ≡ None
-unfolding place_of
-no_place = refl
+-- fields MOMENT, and the moments that they are
+abbrev moments : List (List ℕ × Option Moment)
+moments =
+    (codes "2026-07-01 10:00", Some (at_minute (civil_day 2026 7 1) 600))
+    ∷ (codes "2026-02-29 10:00", None)
+    ∷ (codes "2026-07-01 24:00", None)
+    ∷ (codes "2026-7-01 10:00", None)
+    ∷ []
 
-a_moment : moment_of (codes "2026-07-01 10:00") ≡ Some (at_minute (civil_day 2026 7 1) 600)
+each_of_moments : map (λ row. moment_of row.0) moments ≡ map (λ row. row.1) moments
 unfolding moment_of
-a_moment = refl
-
-no_such_day : moment_of (codes "2026-02-29 10:00") ≡ None
-unfolding moment_of
-no_such_day = refl
-
-no_such_hour : moment_of (codes "2026-07-01 24:00") ≡ None
-unfolding moment_of
-no_such_hour = refl
-
-one_digit_too_few : moment_of (codes "2026-7-01 10:00") ≡ None
-unfolding moment_of
-one_digit_too_few = refl
+each_of_moments = refl
 
 shows : is_utf8 (codes "inbox.org") ≡ true → command_of (codes "show\tinbox.org") ≡ Some (Show (codes "inbox.org"))
 unfolding show_of file_of

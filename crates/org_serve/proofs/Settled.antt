@@ -28,7 +28,8 @@ use Rattle.org_store.proofs.Follows.{step_setting}
 use Rattle.org_store.proofs.History.{Counts, lists_step}
 use Rattle.org_store.proofs.Runs.{Course, HaveTexts, course_none, holds_back, on_disk_after}
 use Rattle.org_serve.specs.declared.end.ServeEnd.{ServeEnd}
-use Rattle.org_serve.specs.declared.fault.LineFault.{LineFault}
+use Rattle.org_fault.specs.declared.fault.Fault.{Fault}
+use Rattle.org_serve.specs.declared.fault.BadLine.{BadLine}
 use Rattle.org_serve.specs.Grammar.{command_of}
 use Rattle.org_serve.specs.History.{HoldsSettled, SettlesAt}
 use Rattle.org_serve.specs.Pipes.{Exchange}
@@ -40,7 +41,7 @@ use Rattle.org_serve.proofs.Joins.{Each-one}
 
 -- Lines leave the group as it is.
 module _ {D : Type 0} (g : Ghosts D) where
-  group_read : (old : Trace D) (read : Result Command LineFault) (out : List ℕ) (new : Trace D) → AnswersRead (sound_traces g) old read out new → new.store.session.group ≡ old.store.session.group
+  group_read : (old : Trace D) (read : Result Command (Fault BadLine)) (out : List ℕ) (new : Trace D) → AnswersRead (sound_traces g) old read out new → new.store.session.group ≡ old.store.session.group
   group_read old (Err fault) out new ran = ap (λ (p : Trace D). p.store.session.group) ran.1
   group_read old (Ok command) out new ran = (step_setting old.store.session new.store.session command ran.0 ran.1.0.0.step).2
 
@@ -220,7 +221,7 @@ module _ {D : Type 0} (g : Ghosts D)
             passes_then meanwhile (further (next one sound group count)) (λ image held. held)
       ]
 
-    go : (read : Result Command LineFault) → IsReadAs line read → AnswersRead Said here read a.1 a.0 → Between here.store later.store
+    go : (read : Result Command (Fault BadLine)) → IsReadAs line read → AnswersRead Said here read a.1 a.0 → Between here.store later.store
     go (Err fault) reads ran =
         subst (λ (p : Trace D). Between p.store later.store) ran.1
         (further

@@ -15,8 +15,9 @@ use Rattle.org_capture.specs.declared.target.Target.TheVariants.{Top, Head, Path
 use Rattle.org_stamp.specs.Calendar.{Moment, at_minute, civil_day}
 use Rattle.org_commands.specs.declared.command.Command.{Command}
 use Rattle.org_commands.specs.declared.command.Command.TheVariants.{Capture, Refile, Todo, ClockIn, ClockOut, Edit, Time, Archive, Show, Settle}
-use Rattle.org_serve.specs.declared.fault.LineFault.{LineFault}
-use Rattle.org_serve.specs.declared.fault.LineFault.TheVariants.{BadLine, OutOfMemory}
+use Rattle.org_fault.specs.declared.fault.Fault.{Fault}
+use Rattle.org_serve.specs.declared.fault.BadLine.{BadLine}
+use Rattle.org_fault.specs.declared.fault.Fault.TheVariants.{Refused, OutOfMemory}
 
 -- what a letter behind a backslash stands for: `\n` a newline, `\t` a tab, `\\` a backslash, `\s` a
 -- slash
@@ -291,11 +292,11 @@ command_of line = command_of_fields (slice_split (λ b. b == 9) line)
 
 -- What was read, as it is seen by view, is what the bytes are; or BadLine where they are nothing.
 -- Memory may be refused.
-abbrev pub ParsesAs : {X Y : Type 0} → (X → Y) → Result X LineFault → Option Y → Type 0
+abbrev pub ParsesAs : {X Y : Type 0} → (X → Y) → Result X (Fault BadLine) → Option Y → Type 0
 ParsesAs view (Ok x) value = value ≡ Some (view x)
-ParsesAs view (Err BadLine) value = value ≡ None
+ParsesAs view (Err (Refused _)) value = value ≡ None
 ParsesAs view (Err OutOfMemory) value = Unit {0}
 
 -- the same of what was read as it is
-abbrev pub Parses : {X : Type 0} → Result X LineFault → Option X → Type 0
+abbrev pub Parses : {X : Type 0} → Result X (Fault BadLine) → Option X → Type 0
 Parses result value = ParsesAs (λ x. x) result value

@@ -1,8 +1,9 @@
 -- How a stream of bytes is cut into lines, and what is kept of a line whose newline hasn't come. A
 -- line ends with the newline byte, 10.
 use Rattle.std.specs.Prelude.{ℕ, List, [], ◌∷◌, ◌++◌, ◌==◌, ◌≢◌, if◌then◌else◌, All, ◌≡◌, ◌<◌, ◌≤◌, length, Option, None, Some}
-use Rattle.org_serve.specs.declared.fault.LineFault.{LineFault}
-use Rattle.org_serve.specs.declared.fault.LineFault.TheVariants.{BadLine, OutOfMemory}
+use Rattle.org_fault.specs.declared.fault.Fault.{Fault}
+use Rattle.org_serve.specs.declared.fault.BadLine.{BadLine}
+use Rattle.org_fault.specs.declared.fault.Fault.TheVariants.{Refused, OutOfMemory}
 use Rattle.org_serve.specs.declared.pending.Pending.{Pending}
 
 -- the lines of a stream, without their newlines, and what stands behind the last newline
@@ -36,12 +37,12 @@ abbrev pub limit : ℕ
 limit = 1048576
 
 -- why the bytes of a line aren't kept: there are too many of them, or memory for some was refused
-abbrev pub IsCause : LineFault → List ℕ → Type 0
-IsCause BadLine part = limit < length part
+abbrev pub IsCause : Fault BadLine → List ℕ → Type 0
+IsCause (Refused _) part = limit < length part
 IsCause OutOfMemory part = 0 < length part
 
 -- these bytes of a line are kept, or not for this cause
-abbrev pub Keeps : Option LineFault → List ℕ → List ℕ → Type 0
+abbrev pub Keeps : Option (Fault BadLine) → List ℕ → List ℕ → Type 0
 Keeps None kept part = (kept ≡ part) × (length part ≤ limit)
 Keeps (Some fault) kept part = IsCause fault part
 

@@ -1,7 +1,8 @@
 -- The bytes of replies.
 use Rattle.std.specs.Prelude.{ℕ, List, codes, [], ◌++◌, nat_lt, if◌then◌else◌, length, decimal, Option, Some, None, Result, Ok, Err}
-use Rattle.org_serve.specs.declared.fault.LineFault.{LineFault}
-use Rattle.org_serve.specs.declared.fault.LineFault.TheVariants as line
+use Rattle.org_fault.specs.declared.fault.Fault.{Fault}
+use Rattle.org_serve.specs.declared.fault.BadLine.{BadLine}
+use Rattle.org_fault.specs.declared.fault.Fault.TheVariants as line
 use Rattle.org_stamp.specs.Stamp.{duration_text}
 use Rattle.org_commands.specs.declared.command.Reply.{Reply}
 use Rattle.org_commands.specs.declared.command.Reply.TheVariants.{Done, Safe, Text, Time}
@@ -16,8 +17,8 @@ abbrev pub no_memory : List ℕ
 no_memory = codes "fault OutOfMemory\n"
 
 -- what is written for a line that isn't run
-abbrev pub fault_text : LineFault → List ℕ
-fault_text line.BadLine = bad_line
+abbrev pub fault_text : Fault BadLine → List ℕ
+fault_text (line.Refused _) = bad_line
 fault_text line.OutOfMemory = no_memory
 
 abbrev pub safe_line : ℕ → List ℕ

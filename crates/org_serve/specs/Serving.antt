@@ -21,8 +21,9 @@ use Rattle.org_store.specs.Calls.Call.{Ran, Settled}
 use Rattle.org_store.specs.History.{Trace}
 use Rattle.org_serve.specs.declared.end.ServeEnd.{ServeEnd}
 use Rattle.org_serve.specs.declared.end.ServeEnd.TheVariants.{End, Unsettled, Device, Read, Write}
-use Rattle.org_serve.specs.declared.fault.LineFault.{LineFault}
-use Rattle.org_serve.specs.declared.fault.LineFault.TheVariants.{BadLine, OutOfMemory}
+use Rattle.org_fault.specs.declared.fault.Fault.{Fault}
+use Rattle.org_serve.specs.declared.fault.BadLine.{BadLine}
+use Rattle.org_fault.specs.declared.fault.Fault.TheVariants.{Refused, OutOfMemory}
 use Rattle.org_serve.specs.declared.pending.Pending.{Pending}
 use Rattle.org_serve.specs.declared.pipes.Sink as sinks
 use Rattle.org_serve.specs.declared.serving.Next.{Next}
@@ -59,18 +60,18 @@ traces_while_honest g = if_good (λ trace. g.honest trace.store.disk) (traces g)
 
 -- Why a line isn't run: it is too long or no command; or memory for it was refused, which may
 -- happen to any.
-abbrev pub IsNotRun : LineFault → List ℕ → Type 0
-IsNotRun BadLine line = (limit < length line) ⊎ (command_of line ≡ None)
+abbrev pub IsNotRun : Fault BadLine → List ℕ → Type 0
+IsNotRun (Refused _) line = (limit < length line) ⊎ (command_of line ≡ None)
 IsNotRun OutOfMemory line = Unit {0}
 
 -- what a line was read as
-abbrev pub IsReadAs : List ℕ → Result Command LineFault → Type 0
+abbrev pub IsReadAs : List ℕ → Result Command (Fault BadLine) → Type 0
 IsReadAs line (Ok command) = (length line ≤ limit) × (command_of line ≡ Some command)
 IsReadAs line (Err fault) = IsNotRun fault line
 
 -- What a line was read as is answered by these bytes: as one that isn't run, or by one call for its
 -- command.
-abbrev pub AnswersRead : {S : Type 0} → Machine S → S → Result Command LineFault → List ℕ → S
+abbrev pub AnswersRead : {S : Type 0} → Machine S → S → Result Command (Fault BadLine) → List ℕ → S
     → Type 0
 AnswersRead m old (Err fault) out new = (out ≡ fault_text fault) × (new ≡ old)
 AnswersRead m old (Ok command) out new =
@@ -79,7 +80,8 @@ AnswersRead m old (Ok command) out new =
     × (out ≡ answer_text answer (m.session old).acknowledged (m.session new).acknowledged)
 
 -- It is done: it is a command, and the answer is no refusal and no fault.
-abbrev pub DoesRead : {S : Type 0} → Machine S → S → Result Command LineFault → List ℕ → S → Type 0
+abbrev pub DoesRead : {S : Type 0} → Machine S → S → Result Command (Fault BadLine) → List ℕ → S
+    → Type 0
 DoesRead m old (Err fault) out new = ⊥
 DoesRead m old (Ok command) out new =
     (reply : Reply)
@@ -87,7 +89,7 @@ DoesRead m old (Ok command) out new =
     × (out ≡ answer_text (Ok reply) (m.session old).acknowledged (m.session new).acknowledged)
 
 -- It isn't done: it isn't run, or is refused, or gets a fault.
-abbrev pub RefusesRead : {S : Type 0} → Machine S → S → Result Command LineFault → List ℕ → S
+abbrev pub RefusesRead : {S : Type 0} → Machine S → S → Result Command (Fault BadLine) → List ℕ → S
     → Type 0
 RefusesRead m old (Err fault) out new = (out ≡ fault_text fault) × (new ≡ old)
 RefusesRead m old (Ok command) out new =
@@ -101,7 +103,8 @@ behind Whole true = Line
 behind Whole false = Stop
 
 -- what a line was read as is answered so, and this comes behind it
-abbrev pub ReadLeadsTo : {S : Type 0} → Group → Next → Machine S → S → Result Command LineFault
+abbrev pub ReadLeadsTo : {S : Type 0} → Group → Next → Machine S → S
+    → Result Command (Fault BadLine)
     → List ℕ → S → Type 0
 ReadLeadsTo (Of size) Line m old read out new = AnswersRead m old read out new
 ReadLeadsTo (Of size) Stop m old read out new = ⊥
@@ -110,19 +113,19 @@ ReadLeadsTo Whole Stop m old read out new = RefusesRead m old read out new
 
 -- .. or it is answered, and a write fails
 abbrev pub ReadOutcome : {S E : Type 0} → Group → Result Next E → Machine S → S
-    → Result Command LineFault → List ℕ → S → Type 0
+    → Result Command (Fault BadLine) → List ℕ → S → Type 0
 ReadOutcome group (Ok next) = ReadLeadsTo group next
 ReadOutcome group (Err fault) = AnswersRead
 
 -- a line is answered so, as what it may be read as
 abbrev pub AnswersLine : {S : Type 0} → Machine S → S → List ℕ → List ℕ → S → Type 0
 AnswersLine m old line out new =
-    (read : Result Command LineFault) × IsReadAs line read × AnswersRead m old read out new
+    (read : Result Command (Fault BadLine)) × IsReadAs line read × AnswersRead m old read out new
 
 -- .. and this comes behind it
 abbrev pub LineLeadsTo : {S : Type 0} → Group → Next → Machine S → S → List ℕ → List ℕ → S → Type 0
 LineLeadsTo group next m old line out new =
-    (read : Result Command LineFault)
+    (read : Result Command (Fault BadLine))
     × IsReadAs line read
     × ReadLeadsTo group next m old read out new
 

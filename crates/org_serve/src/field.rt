@@ -6,9 +6,10 @@ ghost use Rattle.std.specs.Str.{bytes_eq, is_utf8};
 ghost use Rattle.org_disk.specs.Names.{is_file_name};
 ghost use Rattle.org_serve.specs.Grammar.{digits_of, escape, leads_with_zero, mark_from, number_of, step_of, unescaped, file_of, path_of, position_of, target_of, place_of, Parses, ParsesAs};
 
-use crate::fault::LineFault;
+use crate::fault::BadLine;
 use org_capture::Target;
 use org_disk::{FileName, NameFault};
+use org_fault::Fault;
 use org_outline::{Path, Place, Step};
 use org_splice::Bytes;
 use org_store::TextOf;
@@ -34,7 +35,7 @@ fn escape(b: u8) -> Option<u8>
 }
 
 // What a field with an escape stands for.
-fn read_escapes(alloc: Global, field: &[u8]) -> Result<Vec<u8>, LineFault>
+fn read_escapes(alloc: Global, field: &[u8]) -> Result<Vec<u8>, Fault<BadLine>>
     ensures { ParsesAs (λ v. v.items) result (unescaped field.now) }
 {
     let mut text = Vec::with_capacity(alloc, field.len())?;
@@ -42,7 +43,7 @@ fn read_escapes(alloc: Global, field: &[u8]) -> Result<Vec<u8>, LineFault>
     for b in field {
         if is_escaped {
             let Some(c) = escape(*b) else {
-                return Err(LineFault::BadLine);
+                return Err(Fault::Refused(BadLine));
             };
             text.push(c)?;
             is_escaped = false;
@@ -53,13 +54,13 @@ fn read_escapes(alloc: Global, field: &[u8]) -> Result<Vec<u8>, LineFault>
         }
     }
     if is_escaped {
-        return Err(LineFault::BadLine);
+        return Err(Fault::Refused(BadLine));
     }
     Ok(text)
 }
 
 // What a field stands for. Most have no escape, and are copied at once.
-fn unescape(alloc: Global, field: &[u8]) -> Result<Vec<u8>, LineFault>
+fn unescape(alloc: Global, field: &[u8]) -> Result<Vec<u8>, Fault<BadLine>>
     ensures { ParsesAs (λ v. v.items) result (unescaped field.now) }
 {
     if !field.contains(&b'\\') {
@@ -75,7 +76,7 @@ fn unescape(alloc: Global, field: &[u8]) -> Result<Vec<u8>, LineFault>
 ///
 /// - `BadLine`: it has a wrong escape.
 /// - `OutOfMemory`.
-pub fn text(alloc: Global, field: &[u8]) -> Result<TextOf<'_>, LineFault>
+pub fn text(alloc: Global, field: &[u8]) -> Result<TextOf<'_>, Fault<BadLine>>
     ensures { Parses result (unescaped field.now) }
 {
     if !field.contains(&b'\\') {
@@ -96,17 +97,17 @@ fn utf8(bytes: &[u8]) -> Option<&str>
 }
 
 // The name that bytes are.
-fn named(alloc: Global, bytes: &[u8]) -> Result<FileName, LineFault>
+fn named(alloc: Global, bytes: &[u8]) -> Result<FileName, Fault<BadLine>>
     ensures { Parses result
         (if is_utf8 bytes.now && is_file_name bytes.now then Some bytes.now else None) }
 {
     let Some(name) = utf8(bytes) else {
-        return Err(LineFault::BadLine);
+        return Err(Fault::Refused(BadLine));
     };
     match FileName::new(alloc, name) {
         Ok(name) => Ok(name),
-        Err(NameFault::BadName) => Err(LineFault::BadLine),
-        Err(NameFault::OutOfMemory) => Err(LineFault::OutOfMemory),
+        Err(NameFault::BadName) => Err(Fault::Refused(BadLine)),
+        Err(NameFault::OutOfMemory) => Err(Fault::OutOfMemory),
     }
 }
 
@@ -117,7 +118,7 @@ fn named(alloc: Global, bytes: &[u8]) -> Result<FileName, LineFault>
 /// - `BadLine`: it is no file name.
 /// - `OutOfMemory`.
 #[tactic(auto, unfolding(crate::specs::Grammar::file_of))]
-pub fn file(alloc: Global, field: &[u8]) -> Result<FileName, LineFault>
+pub fn file(alloc: Global, field: &[u8]) -> Result<FileName, Fault<BadLine>>
     ensures { Parses result (file_of field.now) }
 {
     // Most fields have no escape, and are the name as they stand.
@@ -175,7 +176,7 @@ fn number(field: &[u8]) -> Option<u32>
 
 // The step that a part of a path is: a title, or a title, `\#` and a number.
 #[tactic(auto, unfolding(crate::specs::Grammar::step_of))]
-fn step(alloc: Global, field: &[u8]) -> Result<Step, LineFault>
+fn step(alloc: Global, field: &[u8]) -> Result<Step, Fault<BadLine>>
     ensures { Parses result (step_of field.now) }
 {
     let Some(at) = mark(field) else {
@@ -185,7 +186,7 @@ fn step(alloc: Global, field: &[u8]) -> Result<Step, LineFault>
             number: None,
         });
     };
-    let number = number(&field[at + 1..]).ok_or(LineFault::BadLine)?;
+    let number = number(&field[at + 1..]).ok_or(Fault::Refused(BadLine))?;
     let title = Bytes::new(unescape(alloc, &field[..at - 1])?);
     Ok(Step {
         title,
@@ -200,7 +201,7 @@ fn step(alloc: Global, field: &[u8]) -> Result<Step, LineFault>
 ///
 /// - `BadLine`: a step has a wrong escape, or a wrong number.
 /// - `OutOfMemory`.
-pub fn path(alloc: Global, field: &[u8]) -> Result<Path, LineFault>
+pub fn path(alloc: Global, field: &[u8]) -> Result<Path, Fault<BadLine>>
     ensures { Parses result (path_of field.now) }
 {
     let mut steps = Vec::new(alloc);
@@ -217,7 +218,7 @@ pub fn path(alloc: Global, field: &[u8]) -> Result<Path, LineFault>
 /// - `BadLine`: it is none.
 /// - `OutOfMemory`.
 #[tactic(auto, unfolding(crate::specs::Grammar::target_of))]
-pub fn target(alloc: Global, field: &[u8]) -> Result<Target, LineFault>
+pub fn target(alloc: Global, field: &[u8]) -> Result<Target, Fault<BadLine>>
     ensures { Parses result (target_of field.now) }
 {
     if is(field, "top") {
@@ -231,7 +232,7 @@ pub fn target(alloc: Global, field: &[u8]) -> Result<Target, LineFault>
     } else if let Some(steps) = field.strip_prefix(b"date:") {
         Ok(Target::Date(path(alloc, steps)?))
     } else {
-        Err(LineFault::BadLine)
+        Err(Fault::Refused(BadLine))
     }
 }
 

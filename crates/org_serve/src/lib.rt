@@ -20,7 +20,7 @@ mod whole;
 
 pub use counted::Counted;
 pub use end::ServeEnd;
-pub use fault::LineFault;
+pub use fault::BadLine;
 pub use names::file_names;
 pub use pipes::{PipeFault, Sink, Source};
 pub use reading::read_command;

@@ -4,7 +4,8 @@
 ghost use Rattle.std.specs.Prelude.{◌≡◌, ◌↔◌, ◌<◌, ◌≤◌, ◌++◌, List, ℕ, [], length, IsTrue, MatchOption, MatchResult};
 ghost use Rattle.org_serve.specs.Lines.{limit, IsCause, Stands};
 
-use crate::fault::LineFault;
+use crate::fault::BadLine;
+use org_fault::Fault;
 use std::alloc::Global;
 
 /// The most bytes that a command line may have, without its newline.
@@ -14,7 +15,7 @@ const LIMIT: usize = 1_048_576;
 #[derive(Drop)]
 pub struct Pending {
     bytes: Vec<u8>,
-    fault: Option<LineFault>,
+    fault: Option<Fault<BadLine>>,
 }
 
 impl Pending {
@@ -37,9 +38,9 @@ impl Pending {
             return;
         }
         if piece.len() > LIMIT.saturating_sub(self.bytes.len()) {
-            self.fault = Some(LineFault::BadLine);
+            self.fault = Some(Fault::Refused(BadLine));
         } else if self.bytes.extend_from_slice(piece).is_err() {
-            self.fault = Some(LineFault::OutOfMemory);
+            self.fault = Some(Fault::OutOfMemory);
         }
     }
 
@@ -54,7 +55,7 @@ impl Pending {
     }
 
     /// The line, now that its newline has come.
-    pub fn line(&self) -> Result<&[u8], LineFault>
+    pub fn line(&self) -> Result<&[u8], Fault<BadLine>>
         ensures { (part : List ℕ) → Stands self.now part
             → MatchResult result (λ line. (line.now ≡ part) × (length part ≤ limit))
             (λ fault. IsCause fault part) }
@@ -66,13 +67,13 @@ impl Pending {
     }
 
     /// What is answered where the input ends within a line.
-    pub fn unended(&self) -> Option<LineFault>
+    pub fn unended(&self) -> Option<Fault<BadLine>>
         ensures { (part : List ℕ) → Stands self.now part
             → MatchOption result (part ≡ []) (λ _. 0 < length part) }
     {
         match self.fault {
             None if self.bytes.is_empty() => None,
-            None => Some(LineFault::BadLine),
+            None => Some(Fault::Refused(BadLine)),
             Some(fault) => Some(fault),
         }
     }

@@ -5,11 +5,12 @@ ghost use Rattle.std.specs.Prelude.{◌∷◌, map};
 ghost use Rattle.std.specs.Option.{option_map, option_and_then};
 ghost use Rattle.org_serve.specs.Grammar.{file_of, path_of, show_of, capture_of, refile_of, todo_of, clock_in_of, clock_out_of, clocked_of, archive_of, edit_of, command_of, command_of_fields, Parses};
 
-use crate::fault::LineFault;
+use crate::fault::BadLine;
 use crate::field::{file, is, path, place, position, target, text};
 use crate::moment::moment;
 use memchr::memchr;
 use org_disk::FileName;
+use org_fault::Fault;
 use org_outline::Path;
 use org_store::{Archive, Capture, ClockIn, Command, Edit, Refile, Todo};
 use std::alloc::Global;
@@ -23,7 +24,7 @@ const MOST_FIELDS: usize = 7;
 ///
 /// - `BadLine`: exactly where it is none.
 /// - `OutOfMemory`.
-pub fn read_command(alloc: Global, line: &[u8]) -> Result<Command<'_>, LineFault>
+pub fn read_command(alloc: Global, line: &[u8]) -> Result<Command<'_>, Fault<BadLine>>
     ensures { Parses result (command_of line.now) }
 {
     let mut fields = [line; MOST_FIELDS];
@@ -37,10 +38,10 @@ pub fn read_command(alloc: Global, line: &[u8]) -> Result<Command<'_>, LineFault
         fields[i] = field;
         rest = &behind[1..];
     }
-    Err(LineFault::BadLine)
+    Err(Fault::Refused(BadLine))
 }
 
-fn command<'a>(alloc: Global, fields: &[&'a [u8]]) -> Result<Command<'a>, LineFault>
+fn command<'a>(alloc: Global, fields: &[&'a [u8]]) -> Result<Command<'a>, Fault<BadLine>>
     ensures { Parses result (command_of_fields (map (λ s. s.now) fields.now)) }
 {
     match *fields {
@@ -48,7 +49,7 @@ fn command<'a>(alloc: Global, fields: &[&'a [u8]]) -> Result<Command<'a>, LineFa
         [word, name] if is(word, "show") => show(alloc, name),
         [word, when] if is(word, "clock-out") => clock_out(when),
         [word, name, titles, ref more @ ..] => command_within(alloc, word, name, titles, more),
-        _ => Err(LineFault::BadLine),
+        _ => Err(Fault::Refused(BadLine)),
     }
 }
 
@@ -59,7 +60,7 @@ fn command_within<'a>(
     name: &[u8],
     titles: &[u8],
     more: &[&'a [u8]],
-) -> Result<Command<'a>, LineFault>
+) -> Result<Command<'a>, Fault<BadLine>>
     ensures { Parses result
         (command_of_fields (word.now ∷ name.now ∷ titles.now ∷ map (λ s. s.now) more.now)) }
 {
@@ -75,12 +76,12 @@ fn command_within<'a>(
         [at, when, template, initial] if is(word, "capture") => {
             capture(alloc, name, titles, at, when, template, initial)
         }
-        _ => Err(LineFault::BadLine),
+        _ => Err(Fault::Refused(BadLine)),
     }
 }
 
 // The node that fields FILE and PATH name.
-fn node(alloc: Global, name: &[u8], titles: &[u8]) -> Result<(FileName, Path), LineFault>
+fn node(alloc: Global, name: &[u8], titles: &[u8]) -> Result<(FileName, Path), Fault<BadLine>>
     ensures { Parses result (option_and_then (λ file. option_map (λ path. (file, path))
         (path_of titles.now)) (file_of name.now)) }
 {
@@ -90,7 +91,7 @@ fn node(alloc: Global, name: &[u8], titles: &[u8]) -> Result<(FileName, Path), L
 }
 
 #[tactic(auto, unfolding(crate::specs::Grammar::show_of))]
-fn show<'a>(alloc: Global, name: &[u8]) -> Result<Command<'a>, LineFault>
+fn show<'a>(alloc: Global, name: &[u8]) -> Result<Command<'a>, Fault<BadLine>>
     ensures { Parses result (show_of name.now) }
 {
     let file = file(alloc, name)?;
@@ -106,11 +107,11 @@ fn capture<'a>(
     when: &[u8],
     template: &'a [u8],
     initial: &'a [u8],
-) -> Result<Command<'a>, LineFault>
+) -> Result<Command<'a>, Fault<BadLine>>
     ensures { Parses result (capture_of name.now to.now at.now when.now template.now initial.now) }
 {
-    let place = place(at).ok_or(LineFault::BadLine)?;
-    let moment = moment(when).ok_or(LineFault::BadLine)?;
+    let place = place(at).ok_or(Fault::Refused(BadLine))?;
+    let moment = moment(when).ok_or(Fault::Refused(BadLine))?;
     let file = file(alloc, name)?;
     let target = target(alloc, to)?;
     let template = text(alloc, template)?;
@@ -133,10 +134,10 @@ fn refile<'a>(
     to_name: &[u8],
     to_titles: &[u8],
     at: &[u8],
-) -> Result<Command<'a>, LineFault>
+) -> Result<Command<'a>, Fault<BadLine>>
     ensures { Parses result (refile_of name.now titles.now to_name.now to_titles.now at.now) }
 {
-    let place = place(at).ok_or(LineFault::BadLine)?;
+    let place = place(at).ok_or(Fault::Refused(BadLine))?;
     let (file, path) = node(alloc, name, titles)?;
     let (to_file, to_path) = node(alloc, to_name, to_titles)?;
     Ok(Command::Refile(Refile {
@@ -155,10 +156,10 @@ fn todo<'a>(
     titles: &[u8],
     state: &'a [u8],
     when: &[u8],
-) -> Result<Command<'a>, LineFault>
+) -> Result<Command<'a>, Fault<BadLine>>
     ensures { Parses result (todo_of name.now titles.now state.now when.now) }
 {
-    let moment = moment(when).ok_or(LineFault::BadLine)?;
+    let moment = moment(when).ok_or(Fault::Refused(BadLine))?;
     let (file, path) = node(alloc, name, titles)?;
     let state = text(alloc, state)?;
     Ok(Command::Todo(Todo {
@@ -176,10 +177,10 @@ fn edit<'a>(
     at: &[u8],
     old: &'a [u8],
     new: &'a [u8],
-) -> Result<Command<'a>, LineFault>
+) -> Result<Command<'a>, Fault<BadLine>>
     ensures { Parses result (edit_of name.now at.now old.now new.now) }
 {
-    let at = position(at).ok_or(LineFault::BadLine)?;
+    let at = position(at).ok_or(Fault::Refused(BadLine))?;
     let file = file(alloc, name)?;
     let old = text(alloc, old)?;
     let new = text(alloc, new)?;
@@ -192,10 +193,10 @@ fn archive<'a>(
     name: &[u8],
     titles: &[u8],
     when: &[u8],
-) -> Result<Command<'a>, LineFault>
+) -> Result<Command<'a>, Fault<BadLine>>
     ensures { Parses result (archive_of name.now titles.now when.now) }
 {
-    let moment = moment(when).ok_or(LineFault::BadLine)?;
+    let moment = moment(when).ok_or(Fault::Refused(BadLine))?;
     let (file, path) = node(alloc, name, titles)?;
     Ok(Command::Archive(Archive { file, path, moment }))
 }
@@ -206,24 +207,24 @@ fn clock_in<'a>(
     name: &[u8],
     titles: &[u8],
     when: &[u8],
-) -> Result<Command<'a>, LineFault>
+) -> Result<Command<'a>, Fault<BadLine>>
     ensures { Parses result (clock_in_of name.now titles.now when.now) }
 {
-    let moment = moment(when).ok_or(LineFault::BadLine)?;
+    let moment = moment(when).ok_or(Fault::Refused(BadLine))?;
     let (file, path) = node(alloc, name, titles)?;
     Ok(Command::ClockIn(ClockIn { file, path, moment }))
 }
 
 #[tactic(auto, unfolding(crate::specs::Grammar::clock_out_of))]
-fn clock_out<'a>(when: &[u8]) -> Result<Command<'a>, LineFault>
+fn clock_out<'a>(when: &[u8]) -> Result<Command<'a>, Fault<BadLine>>
     ensures { Parses result (clock_out_of when.now) }
 {
-    let moment = moment(when).ok_or(LineFault::BadLine)?;
+    let moment = moment(when).ok_or(Fault::Refused(BadLine))?;
     Ok(Command::ClockOut { moment })
 }
 
 #[tactic(auto, unfolding(crate::specs::Grammar::clocked_of))]
-fn time<'a>(alloc: Global, name: &[u8], titles: &[u8]) -> Result<Command<'a>, LineFault>
+fn time<'a>(alloc: Global, name: &[u8], titles: &[u8]) -> Result<Command<'a>, Fault<BadLine>>
     ensures { Parses result (clocked_of name.now titles.now) }
 {
     let (file, path) = node(alloc, name, titles)?;

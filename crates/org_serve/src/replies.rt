@@ -9,10 +9,11 @@ ghost use Rattle.org_commands.specs.declared.command.RunFault.TheVariants.{Refus
 ghost use Rattle.org_serve.specs.Replies.{fault_text, safe_line, safe_if_risen, fault_line, answer_text, settled_text};
 ghost use Rattle.org_serve.specs.Writes.{Writes};
 
-use crate::fault::LineFault;
+use crate::fault::BadLine;
 use crate::pipes::{PipeFault, Sink};
 use arrayvec::ArrayVec;
 use itoa::Buffer;
+use org_fault::Fault;
 use org_store::{Refusal, Reply, RunFault};
 
 /// The most bytes that are written for a command that is done: `ok ` and `safe `, a number of at
@@ -45,12 +46,12 @@ pub fn write_answer<W: Sink>(
 /// # Errors
 ///
 /// `PipeFault`, as by `write_answer`.
-pub fn write_unread<W: Sink>(writer: &mut W, fault: LineFault) -> Result<(), PipeFault>
+pub fn write_unread<W: Sink>(writer: &mut W, fault: Fault<BadLine>) -> Result<(), PipeFault>
     ensures { Writes W.Sink writer.old writer.new result (fault_text fault) }
 {
     let line: &[u8] = match fault {
-        LineFault::BadLine => b"refused 20 BadLine\n",
-        LineFault::OutOfMemory => b"fault OutOfMemory\n",
+        Fault::Refused(BadLine) => b"refused 20 BadLine\n",
+        Fault::OutOfMemory => b"fault OutOfMemory\n",
     };
     writer.write(line)?;
     writer.flush()

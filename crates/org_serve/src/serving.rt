@@ -14,13 +14,14 @@ ghost use Rattle.org_serve.specs.Serving.{AnswersRest, EndSaysBroken, EndsGroups
 ghost use Rattle.org_serve.specs.Writes.{CountsFailure, Writes, exchange, output};
 
 use crate::end::ServeEnd;
-use crate::fault::LineFault;
+use crate::fault::BadLine;
 use crate::lines::first_line;
 use crate::pending::Pending;
 use crate::pipes::{PipeFault, Sink, Source};
 use crate::reading::read_command;
 use crate::replies::{write_answer, write_settled, write_unread};
 use org_disk::Disk;
+use org_fault::Fault;
 use org_store::{Command, Group, RunFault, Store};
 use std::alloc::Global;
 
@@ -169,7 +170,7 @@ fn answer_kept<D: Disk, W: Sink>(
 }
 
 // What a line that was kept is read as.
-fn read_kept(alloc: Global, pending: &Pending) -> Result<Command<'_>, LineFault>
+fn read_kept(alloc: Global, pending: &Pending) -> Result<Command<'_>, Fault<BadLine>>
     ensures { (line : List ℕ) → Stands pending.now line → IsReadAs line result }
 {
     match pending.line() {
@@ -182,7 +183,7 @@ fn read_kept(alloc: Global, pending: &Pending) -> Result<Command<'_>, LineFault>
 fn answer_read<D: Disk, W: Sink>(
     store: &mut Store<D>,
     group: Group,
-    read: &Result<Command<'_>, LineFault>,
+    read: &Result<Command<'_>, Fault<BadLine>>,
     writer: &mut W,
 ) -> Result<Next, PipeFault>
     ensures step { (out : List ℕ)

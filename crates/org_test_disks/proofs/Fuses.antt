@@ -50,7 +50,7 @@ accounts_passed {honest = honest} {failures = failures} old mid new (Err fault) 
   counted = counted_disk old.failures new.failures (failures old.disk) (failures new.disk) (own ∙ kept) (subst (λ d. IsCounted (failures d) (failures new.disk)) same call.counted);
 }
 
--- what such a call is told of its turn
+-- what such a call has of its turn
 pub burns_blown : {D A : Type 0} (old new : Fuse D) (fault : DiskFault) → new.passes ≡ old.passes - 1 → old.passes ≡ 0 → new.disk ≡ old.disk → Burns {A = A} old new (Err fault)
 burns_blown old new fault spent none same = record { spent = spent; blown = λ none. (refl, same); passed = λ some. absurd (omega (arith, some, none)) }
 

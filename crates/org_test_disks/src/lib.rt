@@ -1,4 +1,4 @@
-//! Disks for tests: one in memory, which can be told to fail or to crash, and one that fails from
+//! Disks for tests: one in memory, which can be set to fail or to crash, and one that fails from
 //! some call on. No program uses them.
 //!
 //! `MemoryDisk` keeps a record of its calls, and what it holds is what the record stands for. It is

@@ -136,7 +136,7 @@ impl MemoryDisk {
     }
 
     /// The k-th call of `Disk` from now on, counted from 1, and every later one fail; `image` then
-    /// tells what the outcome leaves. It takes the place of an earlier `crash_at` whose call hasn't
+    /// shows what the outcome leaves. It takes the place of an earlier `crash_at` whose call hasn't
     /// come, and with 0 no call crashes the disk; a disk that has crashed stays so.
     pub fn crash_at(&mut self, k: u64, outcome: Outcome)
         ensures files { memory_files self.new ≡ memory_files self.old }

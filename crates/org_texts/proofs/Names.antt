@@ -6,11 +6,14 @@ use Rattle.std.specs.Map.{keys_of, lookup, values_of}
 use Rattle.std.specs.Option.{is_some, option_map, IsSome}
 use Rattle.std.specs.Str.{bytes_eq}
 use Rattle.std.proofs.lemmas.Bool.{cases_Bool}
+use Rattle.std.proofs.lemmas.List.Quantifiers.{position-Some}
 use Rattle.std.proofs.lemmas.Map.Made.{is_some-lookup, lookup-map_values}
+use Rattle.indexmap.specs.IndexMap.{set_value_at}
 use Rattle.org_splice.specs.Texts.{EditedText, settled}
 use Rattle.org_texts.specs.Held.{HeldText}
 use Rattle.org_texts.specs.Inside.{AreAmong}
-use Rattle.org_texts.specs.Texts.{now_of, on_disk, with_name}
+use Rattle.org_texts.specs.Texts.{TextSet, IsPlace, before_of, now_of, on_disk, ready_of, with_change, with_name}
+use Rattle.org_texts.proofs.Values.{map_changed, valued}
 
 pub found : (name : List ℕ) (es : List (List ℕ × HeldText)) (i : ℕ) (held : HeldText) → slice_get (values_of es) i ≡ lookup (bytes_eq name) es → slice_get (values_of es) i ≡ Some held
     → lookup (bytes_eq name) (map now_of es) ≡ Some held.text
@@ -25,6 +28,34 @@ missing name es none some =
     none_left : (o : Option HeldText) → is_some o ≡ false → is_some (option_map (λ (h : HeldText). h.text) o) ≡ true → ⊥
     none_left None none some = absurd (cc)
     none_left (Some h) none some = absurd (cc)
+
+-- a held name has a place
+pub no_place : (name : List ℕ) (es : List (List ℕ × HeldText)) (place : Option ℕ) → IsPlace name es place → place ≡ None → IsSome (lookup (bytes_eq name) (map now_of es)) → ⊥
+no_place name es place is none some = missing name es (sym is.found ∙ ap is_some none) some
+
+-- what is held of a name shows in each of its parts
+pub parts_of : (name : List ℕ) (es : List (List ℕ × HeldText)) (held : Option HeldText) → held ≡ lookup (bytes_eq name) es
+    → (option_map (λ (h : HeldText). h.text) held ≡ lookup (bytes_eq name) (map now_of es))
+    × (option_map (λ (h : HeldText). h.before) held ≡ lookup (bytes_eq name) (map before_of es))
+    × (option_map (λ (h : HeldText). h.ready) held ≡ lookup (bytes_eq name) (map ready_of es))
+parts_of name es held is = (part (λ (h : HeldText). h.text), part (λ (h : HeldText). h.before), part (λ (h : HeldText). h.ready))
+  where
+    part : {Y : Type 0} (p : HeldText → Y) → option_map p held ≡ lookup (bytes_eq name) (map (valued p) es)
+    part p = ap (option_map p) is ∙ sym (lookup-map_values p (bytes_eq name) es)
+
+-- a part of the text of a name is changed, at the name's place
+pub changed_at : {Y : Type 0} (p : HeldText → Y) (change : Y → Y) (name : List ℕ) (es : List (List ℕ × HeldText)) (place : ℕ) (old new : HeldText) → IsPlace name es (Some place)
+    → slice_get (values_of es) place ≡ Some old → p new ≡ change (p old) → map (valued p) (set_value_at es place new) ≡ with_change name change (map (valued p) es)
+changed_at p change name es place old new is at made =
+    let first = position-Some (bytes_eq name) (keys_of es) place [] (sym is.named) in
+    map_changed p change name [] es place old new first.0 first.1 first.2 at made
+
+-- the same texts, and the same names of dirty ones
+pub same_set : {texts other : List (List ℕ × EditedText)} {dirty names : List (List ℕ)} → texts ≡ other → dirty ≡ names
+    → ◌≡◌ {A = TextSet} (record { texts = texts; dirty = dirty }) (record { texts = other; dirty = names })
+same_set {texts} {other} {dirty} {names} same kept =
+    let set : List (List ℕ × EditedText) → List (List ℕ) → TextSet = λ ts ns. record { texts = ts; dirty = ns } in
+    ap (λ (ts : List (List ℕ × EditedText)). set ts dirty) same ∙ ap (set other) kept
 
 pub some_of : {X : Type 0} (P : X → Type 0) (o : Option X) → IsSomeAnd o P → IsSome o
 some_of P None is = absurd is

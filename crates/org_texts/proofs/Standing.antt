@@ -21,7 +21,7 @@ use Rattle.org_texts.specs.Files.{IsTextOf, StandOver, is_dirty}
 use Rattle.org_texts.specs.Inside.{AreAmong}
 use Rattle.org_texts.specs.declared.plan.Plan.{Plan}
 use Rattle.org_texts.specs.Plan.{CanEdit, EditsLines, IsOfLines, IsPlan, LieIn, with_edits}
-use Rattle.org_texts.specs.Texts.{TextSet, terminated_in, settled_set, text_of, with_name, with_text}
+use Rattle.org_texts.specs.Texts.{TextSet, terminated_in, settled_set, text_of, with_change, with_name, with_text}
 use Rattle.org_texts.proofs.Looking.{change_names, change_other, change_this, text_of-settled}
 use Rattle.org_texts.proofs.Names.{among_more, among_name, any_more, some_of}
 
@@ -81,39 +81,44 @@ the_old : {X Y : Type 0} (f : X → Y) (o : Option X) (y : Y) → option_map f o
 the_old f None y is = absurd (cc)
 the_old f (Some x) y is = (x, refl, let same : f x ≡ y = cc in sym same)
 
-held_name : (set : TextSet) (name : List ℕ) → IsSome (text_of set name) → list_any (bytes_eq name) (keys_of set.texts) ≡ true
-held_name set name some = sym (is_some-lookup (bytes_eq name) set.texts) ∙ some
+-- the text of one name is changed, and stays an edit of its file
+StandOver-change : (own : List ℕ) (change : EditedText → EditedText) (files : List ℕ → List ℕ) (set : TextSet) → IsSome (text_of set own)
+    → ((text : EditedText) → text_of set own ≡ Some text → AreChanged (length text.bytes) text.changed → IsEditOf (files own) text
+    → IsEditOf (files own) (change text) × AreChanged (length (change text).bytes) (change text).changed)
+    → StandOver files set → StandOver files (record { texts = with_change own change set.texts; dirty = with_name own set.dirty })
+StandOver-change own change files set some kept stand =
+    let new : TextSet = record { texts = with_change own change set.texts; dirty = with_name own set.dirty } in
+    record {
+      each = λ name text at. elim (cases_Bool (bytes_eq own name)) [
+        | inl t ↦
+            let same : own ≡ name = (bytes_eq-Decides own name).0 t in
+            let at_own : text_of new own ≡ Some text = subst (λ (n : List ℕ). text_of new n ≡ Some text) (sym same) at in
+            let old = the_old change (text_of set own) text (sym (change_this own change set.texts) ∙ at_own) in
+            let was = stand.each own old.0 old.1 in
+            let made = kept old.0 old.1 was.ranges was.edit in
+            let is : IsTextOf (files own) (is_dirty new own) (change old.0) = record {
+              edit = made.0;
+              ranges = made.1;
+              same = λ none. let no : true ≡ false = sym (marked own set.dirty) ∙ none in absurd (cc);
+            } in
+            subst (λ (n : List ℕ). IsTextOf (files n) (is_dirty new n) text) same (subst (IsTextOf (files own) (is_dirty new own)) (sym old.2) is)
+        | inr f ↦
+            let apart : own ≡ name → ⊥ = λ same. let yes : true ≡ false = sym ((bytes_eq-Decides own name).1 same) ∙ f in absurd (cc) in
+            let was = stand.each name text (sym (change_other own name change set.texts apart) ∙ at) in
+            record { edit = was.edit; ranges = was.ranges; same = λ none. was.same (not_marked own name set.dirty none) }
+      ];
+      held =
+          subst (λ (l : List (List ℕ)). AreAmong l (with_name own set.dirty)) (sym (change_names own change set.texts))
+          (among_name (keys_of set.texts) set.dirty own stand.held (sym (is_some-lookup (bytes_eq own) set.texts) ∙ some));
+    }
 
 pub StandOver-edits : (change : FileEdits) (files : List ℕ → List ℕ) (set : TextSet) → CanEdit change set → StandOver files set → StandOver files (with_edits change set)
 StandOver-edits change files set can stand =
     let own = change.file in
     let es = change.edits.items in
-    record {
-      each = λ name text at. elim (cases_Bool (bytes_eq own name)) [
-        | inl t ↦
-            let same : own ≡ name = (bytes_eq-Decides own name).0 t in
-            let at_own : text_of (with_edits change set) own ≡ Some text = subst (λ (n : List ℕ). text_of (with_edits change set) n ≡ Some text) (sym same) at in
-            let old = the_old (spliced_each es) (text_of set own) text (sym (change_this own (spliced_each es) set.texts) ∙ at_own) in
-            let was = stand.each own old.0 old.1 in
-            let able : LieIn es old.0.bytes = subst (λ o. IsSomeAnd o (λ (x : EditedText). LieIn es x.bytes)) old.1 can in
-            let made = IsEditOf-edits es (files own) old.0 able was.ranges was.edit in
-            let is : IsTextOf (files own) (is_dirty (with_edits change set) own) (spliced_each es old.0) = record {
-              edit = made.0;
-              ranges = made.1;
-              same = λ none. let no : true ≡ false = sym (marked own set.dirty) ∙ none in absurd (cc);
-            } in
-            subst (λ (n : List ℕ). IsTextOf (files n) (is_dirty (with_edits change set) n) text) same
-            (subst (IsTextOf (files own) (is_dirty (with_edits change set) own)) (sym old.2) is)
-        | inr f ↦
-            let apart : own ≡ name → ⊥ = λ same. let yes : true ≡ false = sym ((bytes_eq-Decides own name).1 same) ∙ f in absurd (cc) in
-            let was = stand.each name text (sym (change_other own name (spliced_each es) set.texts apart) ∙ at) in
-            record { edit = was.edit; ranges = was.ranges; same = λ none. was.same (not_marked own name set.dirty none) }
-      ];
-      held =
-          let some = some_of (λ (x : EditedText). LieIn es x.bytes) (text_of set own) can in
-          subst (λ (l : List (List ℕ)). AreAmong l (with_name own set.dirty)) (sym (change_names own (spliced_each es) set.texts))
-          (among_name (keys_of set.texts) set.dirty own stand.held (held_name set own some));
-    }
+    let lie : EditedText → Type 0 = λ text. LieIn es text.bytes in
+    StandOver-change own (spliced_each es) files set (some_of lie (text_of set own) can)
+    (λ text at ranges edit. IsEditOf-edits es (files own) text (subst (λ o. IsSomeAnd o lie) at can) ranges edit) stand
 
 pub StandOver-held : (own : List ℕ) (files : List ℕ → List ℕ) (set : TextSet) → text_of set own ≡ None → StandOver files set → StandOver files (with_text own (files own) set)
 StandOver-held own files set none stand = record {
@@ -161,30 +166,8 @@ terminated_one file text are edit = elim (cases_Bool (is_terminated text.bytes))
 ]
 
 pub StandOver-terminated : (own : List ℕ) (files : List ℕ → List ℕ) (set : TextSet) → IsSome (text_of set own) → StandOver files set → StandOver files (terminated_in own set)
-StandOver-terminated own files set some stand = record {
-  each = λ name text at. elim (cases_Bool (bytes_eq own name)) [
-    | inl t ↦
-        let same : own ≡ name = (bytes_eq-Decides own name).0 t in
-        let at_own : text_of (terminated_in own set) own ≡ Some text = subst (λ (n : List ℕ). text_of (terminated_in own set) n ≡ Some text) (sym same) at in
-        let old = the_old terminated_text (text_of set own) text (sym (change_this own terminated_text set.texts) ∙ at_own) in
-        let was = stand.each own old.0 old.1 in
-        let made = terminated_one (files own) old.0 was.ranges was.edit in
-        let is : IsTextOf (files own) (is_dirty (terminated_in own set) own) (terminated_text old.0) = record {
-          edit = made.0;
-          ranges = made.1;
-          same = λ none. let no : true ≡ false = sym (marked own set.dirty) ∙ none in absurd (cc);
-        } in
-        subst (λ (n : List ℕ). IsTextOf (files n) (is_dirty (terminated_in own set) n) text) same
-        (subst (IsTextOf (files own) (is_dirty (terminated_in own set) own)) (sym old.2) is)
-    | inr f ↦
-        let apart : own ≡ name → ⊥ = λ same. let yes : true ≡ false = sym ((bytes_eq-Decides own name).1 same) ∙ f in absurd (cc) in
-        let was = stand.each name text (sym (change_other own name terminated_text set.texts apart) ∙ at) in
-        record { edit = was.edit; ranges = was.ranges; same = λ none. was.same (not_marked own name set.dirty none) }
-  ];
-  held =
-      subst (λ (l : List (List ℕ)). AreAmong l (with_name own set.dirty)) (sym (change_names own terminated_text set.texts))
-      (among_name (keys_of set.texts) set.dirty own stand.held (held_name set own some));
-}
+StandOver-terminated own files set some stand =
+    StandOver-change own terminated_text files set some (λ text at ranges edit. terminated_one (files own) text ranges edit) stand
 
 -- edits of one text leave what can be done to another
 pub CanEdit-second : (first second : FileEdits) (set : TextSet) → CanEdit first set → CanEdit second set → (first.file ≡ second.file → ⊥) → CanEdit second (with_edits first set)

@@ -1,10 +1,12 @@
 -- Values by name, of which one is changed.
-use Rattle.std.proofs.Common.{◌≡◌, ◌≢◌, inl, inr, ℕ, zero, suc, ◌+◌, ◌<◌, true, false, List, [], ◌∷◌, length, get_or, eqb, Some, refl, sym, ◌∙◌, ap, subst, arith, map, eq-eqb}
+use Rattle.std.proofs.Common.{◌≡◌, ◌≢◌, inl, inr, ℕ, zero, suc, ◌+◌, ◌<◌, ◌≤◌, true, false, List, [], ◌∷◌, ◌++◌, length, get_or, eqb, Some, refl, sym, ◌∙◌, ap, subst, arith, map, eq-eqb}
 use Rattle.std.specs.Prelude.{slice_get}
 use Rattle.std.specs.Map.{keys_of, values_of}
 use Rattle.std.specs.Str.{bytes_eq}
 use Rattle.indexmap.specs.IndexMap.{set_value_at}
 use Rattle.std.proofs.lemmas.Bool.{cases_Bool, eqb-true}
+use Rattle.std.proofs.lemmas.List.{map-append}
+use Rattle.std.proofs.lemmas.Map.Entries.{length-keys_of}
 use Rattle.org_texts.specs.Texts.{with_change}
 
 -- a value, changed
@@ -23,19 +25,6 @@ module _ {X : Type 0} where
   this_value [] i w e is = absurd (cc)
   this_value (x ∷ es) zero w e is = let same : (x.0, w) ≡ e = cc in ap (λ (p : List ℕ × X). p.1) (sym same)
   this_value (x ∷ es) (suc i) w e is = this_value es i w e is
-
-  -- what holds of the first values, this many, and of the next one as it is written
-  pub unedited_more : (P : X → Type 0) (es : List (List ℕ × X)) (i : ℕ) (w : X) → ((k : ℕ) (e : List ℕ × X) → k < i → slice_get es k ≡ Some e → P e.1) → P w
-      → (k : ℕ) (e : List ℕ × X) → k < i + 1 → slice_get (set_value_at es i w) k ≡ Some e → P e.1
-  unedited_more P es i w so_far is k e below at = elim (cases_Bool (eqb k i)) [
-    | inl t ↦
-        let same : k ≡ i = eqb-true k i t in
-        let here : slice_get (set_value_at es i w) i ≡ Some e = ap (slice_get (set_value_at es i w)) (sym same) ∙ at in
-        subst P (sym (this_value es i w e here)) is
-    | inr f ↦
-        let apart : k ≢ i = λ same. let both : true ≡ false = sym (eq-eqb k i same) ∙ f in absurd (cc) in
-        so_far k e (omega (arith, below, apart)) (sym (other_value es i k w apart) ∙ at)
-  ]
 
   pub names_kept : (es : List (List ℕ × X)) (i : ℕ) (w : X) → keys_of (set_value_at es i w) ≡ keys_of es
   names_kept [] i w = refl
@@ -64,11 +53,48 @@ module _ {X : Type 0} where
       let rest = map_changed p f name d es i old w (omega (arith, within)) here (λ j less. before (suc j) (omega (arith, less))) at is in
       rw first (ap (λ (l : List (List ℕ × Y)). valued p e ∷ l) rest)
 
--- two parts of each value that are the same
-pub map_same : {X Y : Type 0} (p q : X → Y) (es : List (List ℕ × X)) → ((k : ℕ) (e : List ℕ × X) → k < length es → slice_get es k ≡ Some e → p e.1 ≡ q e.1)
-    → map (valued p) es ≡ map (valued q) es
-map_same p q [] all = refl
-map_same {X = X} {Y = Y} p q (e ∷ es) all =
-    let first : p e.1 ≡ q e.1 = all 0 e (omega arith) refl in
-    let rest = map_same p q es (λ k f below at. all (suc k) f (omega (arith, below)) at) in
-    ap (λ (y : Y). let pair : List ℕ × Y = (e.0, y) in pair ∷ map (valued p) es) first ∙ ap (λ (l : List (List ℕ × Y)). valued q e ∷ l) rest
+  -- a part of each value, with one more value behind the others
+  pub map_more : {Y : Type 0} (p : X → Y) (es new : List (List ℕ × X)) (name : List ℕ) (x : X) (y : Y) → new ≡ es ++ (name, x) ∷ [] → p x ≡ y
+      → map (valued p) new ≡ map (valued p) es ++ (name, y) ∷ []
+  map_more {Y = Y} p es new name x y made is =
+      ap (map (valued p)) made ∙ map-append (valued p) es ((name, x) ∷ []) ∙ ap (λ (z : Y). map (valued p) es ++ (name, z) ∷ []) is
+
+-- Of the first values, this many, one part is the other. Of all values the other is as it was, and
+-- so are the names.
+pub record Copied {X Y : Type 0} (to from : X → Y) (es old : List (List ℕ × X)) (n : ℕ) : Type 0 where
+  pub so_far : (k : ℕ) (e : List ℕ × X) → k < n → slice_get es k ≡ Some e → to e.1 ≡ from e.1
+  pub from_same : map (valued from) es ≡ map (valued from) old
+  pub names : keys_of es ≡ keys_of old
+
+module _ {X Y : Type 0} {to from : X → Y} where
+  pub copied_none : (es : List (List ℕ × X)) → Copied to from es es 0
+  copied_none es = record { so_far = λ k e below at. absurd (omega (arith, below)); from_same = refl; names = refl }
+
+  -- .. the next one is copied
+  pub copied_more : {es old : List (List ℕ × X)} {n : ℕ} {was now : X} → Copied to from es old n → slice_get (values_of es) n ≡ Some was → from now ≡ from was → to now ≡ from was
+      → Copied to from (set_value_at es n now) old (n + 1)
+  copied_more {es} {old} {n} {was} {now} so_far at same copy = record {
+    so_far = λ k e below is. elim (cases_Bool (eqb k n)) [
+      | inl t ↦
+          let here : slice_get (set_value_at es n now) n ≡ Some e = ap (slice_get (set_value_at es n now)) (sym (eqb-true k n t)) ∙ is in
+          subst (λ (x : X). to x ≡ from x) (sym (this_value es n now e here)) (copy ∙ sym same)
+      | inr f ↦
+          let apart : k ≢ n = λ one. let both : true ≡ false = sym (eq-eqb k n one) ∙ f in absurd (cc) in
+          so_far.so_far k e (omega (arith, below, apart)) (sym (other_value es n k now apart) ∙ is)
+    ];
+    from_same = map_kept from es n was now at same ∙ so_far.from_same;
+    names = names_kept es n now ∙ so_far.names;
+  }
+
+  -- .. all are copied
+  pub copied_all : {es old : List (List ℕ × X)} {n : ℕ} → Copied to from es old n → length old ≤ n → map (valued to) es ≡ map (valued from) old
+  copied_all {es} {old} so_far within =
+      let long : length es ≡ length old = sym (length-keys_of es) ∙ ap length so_far.names ∙ length-keys_of old in
+      map_same es (λ k e below at. so_far.so_far k e (omega (arith, below, long, within)) at) ∙ so_far.from_same
+    where
+      map_same : (es : List (List ℕ × X)) → ((k : ℕ) (e : List ℕ × X) → k < length es → slice_get es k ≡ Some e → to e.1 ≡ from e.1) → map (valued to) es ≡ map (valued from) es
+      map_same [] all = refl
+      map_same (e ∷ es) all =
+          let first : to e.1 ≡ from e.1 = all 0 e (omega arith) refl in
+          let rest = map_same es (λ k f below at. all (suc k) f (omega (arith, below)) at) in
+          ap (λ (y : Y). let pair : List ℕ × Y = (e.0, y) in pair ∷ map (valued to) es) first ∙ ap (λ (l : List (List ℕ × Y)). valued from e ∷ l) rest

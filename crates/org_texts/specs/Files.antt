@@ -1,5 +1,5 @@
 -- What held texts say of the files that they stand for.
-use Rattle.std.specs.Prelude.{◌≡◌, Bool, false, ℕ, List, Option, Some, None, length, if◌then◌else◌}
+use Rattle.std.specs.Prelude.{◌≡◌, Bool, false, ℕ, List, Some, length, if◌then◌else◌}
 use Rattle.std.specs.List.{list_any}
 use Rattle.std.specs.Map.{keys_of}
 use Rattle.std.specs.Str.{bytes_eq}
@@ -8,7 +8,6 @@ use Rattle.org_splice.specs.Lines.{terminated}
 use Rattle.org_splice.specs.Ranges.{AreChanged}
 use Rattle.org_splice.specs.Texts.{EditedText, IsEditOf}
 use Rattle.org_texts.specs.declared.plan.FileEdits.{FileEdits}
-use Rattle.org_texts.specs.declared.plan.Plan.{Plan}
 use Rattle.org_texts.specs.Inside.{AreAmong}
 use Rattle.org_texts.specs.Texts.{TextSet, text_of}
 
@@ -33,14 +32,6 @@ pub record StandOver (files : List ℕ → List ℕ) (set : TextSet) : Type 0 wh
 abbrev pub files_with : FileEdits → (List ℕ → List ℕ) → List ℕ → List ℕ
 files_with change files name =
     if bytes_eq change.file name then applied_each change.edits.items (files name) else files name
-
-abbrev pub files_with_second : Option FileEdits → (List ℕ → List ℕ) → List ℕ → List ℕ
-files_with_second None files = files
-files_with_second (Some change) files = files_with change files
-
--- the files that a plan makes
-abbrev pub files_planned : Plan → (List ℕ → List ℕ) → List ℕ → List ℕ
-files_planned plan files = files_with_second plan.second (files_with plan.first files)
 
 -- the files with this one terminated
 abbrev pub files_terminated : List ℕ → (List ℕ → List ℕ) → List ℕ → List ℕ

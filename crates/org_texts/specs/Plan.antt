@@ -39,7 +39,7 @@ abbrev pub EditsLines : FileEdits → TextSet → Type 0
 EditsLines change set = IsSomeAnd (text_of set change.file)
     (λ text. (terminated text.bytes ≡ text.bytes) × CanApply change.edits.items text.bytes)
 
--- A plan for these texts: its edits can be made, the second file's behind the first's.
+-- A plan for these texts: its edits can be made, the second file's after the first's.
 pub record IsPlan (plan : Plan) (set : TextSet) : Type 0 where
   pub first : CanEdit plan.first set
   pub second : ForSome plan.second (λ change. CanEdit change (with_edits plan.first set))

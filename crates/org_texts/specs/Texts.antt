@@ -58,7 +58,7 @@ terminated_in name set = record {
   dirty = with_name name set.dirty;
 }
 
--- the texts as the disk has them behind a commit: none is dirty
+-- the texts as the disk has them after a commit: none is dirty
 abbrev pub settled_set : TextSet → TextSet
 settled_set set = record { texts = map (λ e. (e.0, settled e.1.bytes)) set.texts; dirty = [] }
 
@@ -80,7 +80,7 @@ before_of e = (e.0, e.1.before)
 abbrev pub ready_of : List ℕ × HeldText → List ℕ × Bool
 ready_of e = (e.0, e.1.ready)
 
--- the same, as it is behind a commit
+-- the same, as it is after a commit
 abbrev pub on_disk : List ℕ × HeldText → List ℕ × EditedText
 on_disk e = (e.0, settled e.1.text.bytes)
 

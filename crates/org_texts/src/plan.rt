@@ -95,7 +95,7 @@ pub struct FileEdits<'a> {
     pub edits: Edits,
 }
 
-/// What a command changes: one file, or two. The second file's edits are made behind the first's.
+/// What a command changes: one file, or two. The second file's edits are made after the first's.
 #[derive(Drop)]
 pub struct Plan<'a> {
     pub first: FileEdits<'a>,

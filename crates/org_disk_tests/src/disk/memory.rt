@@ -176,7 +176,7 @@ fn goes(rt: &impl Abort, alloc: Global, disk: &mut MemoryDisk, name: &FileName, 
 }
 
 // The same of a disk without files.
-fn is_as_told(rt: &impl Abort, alloc: Global, row: &Row) -> bool {
+fn is_as_said(rt: &impl Abort, alloc: Global, row: &Row) -> bool {
     let name = name_of(rt, alloc, "a.org");
     let mut disk = MemoryDisk::new(alloc);
     let goes = goes(rt, alloc, &mut disk, &name, row);
@@ -188,7 +188,7 @@ fn is_as_told(rt: &impl Abort, alloc: Global, row: &Row) -> bool {
 fn leaves_each(rt: &impl Abort, alloc: Global, crash: &Crash) -> bool {
     let (calls, k, texts) = crash;
     for (outcome, text) in WAYS.iter().zip(texts) {
-        if !is_as_told(rt, alloc, &Row::Crash(*calls, *k, *outcome, *text)) {
+        if !is_as_said(rt, alloc, &Row::Crash(*calls, *k, *outcome, *text)) {
             return false;
         }
     }
@@ -206,6 +206,6 @@ fn crashes_in_each_way(rt: HostRuntime) {
 fn crashes_and_failures(rt: HostRuntime) {
     let alloc = rt.alloc();
     for (i, row) in ROWS.iter().enumerate() {
-        hold_row(&rt, is_as_told(&rt, alloc, row), i);
+        hold_row(&rt, is_as_said(&rt, alloc, row), i);
     }
 }

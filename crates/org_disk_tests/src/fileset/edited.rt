@@ -1,4 +1,4 @@
-//! Texts under edit that a commit can be told of.
+//! Texts under edit, as changes of a commit.
 ghost use Rattle.std.specs.Prelude.{◌≡◌, [], OnOk};
 ghost use Rattle.org_disk_tests.specs.Edited.{with_text};
 

@@ -82,7 +82,7 @@ static ROWS: &[(u8, Body, &[u8], Answer)] = &[
 
 // Whether `find` says this, and a set of files is refused where the journal is bad, and nowhere
 // else.
-fn is_as_told(
+fn is_as_said(
     rt: &impl Abort,
     alloc: Global,
     journal: &[u8],
@@ -103,7 +103,7 @@ fn journals_on_a_disk(rt: HostRuntime) {
     let alloc = rt.alloc();
     for (i, (gate, body, text, expected)) in ROWS.iter().enumerate() {
         let journal = journal_of(&rt, alloc, *gate, body);
-        hold_row(&rt, is_as_told(&rt, alloc, &journal, text, *expected), i);
+        hold_row(&rt, is_as_said(&rt, alloc, &journal, text, *expected), i);
     }
 }
 

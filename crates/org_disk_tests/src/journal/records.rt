@@ -1,8 +1,9 @@
 //! Which bytes are a record, and how a record is written.
 use super::{ALL, Body, TWO, behind_gate, body_of, is_capture, joined};
 use crate::disk::hold_row;
+use org_fault::Fault;
 use org_fixtures::{NEW, OLD};
-use org_journal::{RecordFault, decode, well_formed};
+use org_journal::{Malformed, decode, well_formed};
 use std::alloc::Global;
 use std::process::Abort;
 
@@ -103,7 +104,7 @@ static VERSION_2: &[Row] = &[
 ];
 
 fn is_refused(alloc: Global, bytes: &[u8]) -> bool {
-    !well_formed(bytes) && matches!(decode(alloc, bytes), Err(RecordFault::Malformed))
+    !well_formed(bytes) && matches!(decode(alloc, bytes), Err(Fault::Refused(Malformed)))
 }
 
 fn is_read(alloc: Global, bytes: &[u8]) -> bool {
@@ -116,7 +117,7 @@ fn is_written(rt: &impl Abort, alloc: Global, bytes: &[u8], expected: &[u8]) -> 
     record.encode(alloc).expect(rt, "memory").as_slice() == expected
 }
 
-fn is_as_told(rt: &impl Abort, alloc: Global, bytes: &[u8], record: &Record) -> bool {
+fn is_as_said(rt: &impl Abort, alloc: Global, bytes: &[u8], record: &Record) -> bool {
     match record {
         Record::Capture => {
             is_read(alloc, bytes) && is_read(alloc, &joined(rt, alloc, bytes, behind_gate(&OLD)))
@@ -134,7 +135,7 @@ fn is_as_told(rt: &impl Abort, alloc: Global, bytes: &[u8], record: &Record) -> 
 fn hold_rows(rt: &impl Abort, alloc: Global, rows: &[Row]) {
     for (i, (body, record)) in rows.iter().enumerate() {
         let bytes = body_of(rt, alloc, body);
-        hold_row(rt, is_as_told(rt, alloc, &bytes, record), i);
+        hold_row(rt, is_as_said(rt, alloc, &bytes, record), i);
     }
 }
 

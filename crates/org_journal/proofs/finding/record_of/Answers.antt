@@ -10,10 +10,10 @@ returns-in-Ok-clause-found g c ended =
     let before = c.body_of.ensures.accounts.was_honest ended in
     journal_of_body (g.D.Disk.files c.args.disk.now c.args.journal.now).content c.deref.result.now c.args.size (c.requires.within before) (c.deref.ensures.value ∙ c.in_ok-body.ensures.bytes ended) ∙ c.in-Ok.ensures.exact
 
-pub returns-in-Err-Malformed-clause-found : goal.returns-in-Err-Malformed-clause-found
-returns-in-Err-Malformed-clause-found g c ended =
+pub returns-in-Err-Refused-clause-found : goal.returns-in-Err-Refused-clause-found
+returns-in-Err-Refused-clause-found g c ended =
     let before = c.body_of.ensures.accounts.was_honest ended in
-    journal_of_body (g.D.Disk.files c.args.disk.now c.args.journal.now).content c.deref.result.now c.args.size (c.requires.within before) (c.deref.ensures.value ∙ c.in_ok-body.ensures.bytes ended) ∙ (rw c.in-Err-Malformed.field-0-is at c.in-Err-Malformed.ensures.exact)
+    journal_of_body (g.D.Disk.files c.args.disk.now c.args.journal.now).content c.deref.result.now c.args.size (c.requires.within before) (c.deref.ensures.value ∙ c.in_ok-body.ensures.bytes ended) ∙ (rw c.in-Err-Refused.field-0-is at c.in-Err-Refused.ensures.exact)
 
 pub returns-in_err-body-clause-accounts : goal.returns-in_err-body-clause-accounts
 returns-in_err-body-clause-accounts g c = accounts_passed c.from_residual.ensures.1 c.in_err-body.ensures.accounts
@@ -21,8 +21,8 @@ returns-in_err-body-clause-accounts g c = accounts_passed c.from_residual.ensure
 pub returns-in-Ok-clause-accounts : goal.returns-in-Ok-clause-accounts
 returns-in-Ok-clause-accounts g c = accounts_answered (accounts_fine ok_is_no_fault c.in_ok-body.ensures.accounts)
 
-pub returns-in-Err-Malformed-clause-accounts : goal.returns-in-Err-Malformed-clause-accounts
-returns-in-Err-Malformed-clause-accounts g c = accounts_bad (accounts_fine ok_is_no_fault c.in_ok-body.ensures.accounts)
+pub returns-in-Err-Refused-clause-accounts : goal.returns-in-Err-Refused-clause-accounts
+returns-in-Err-Refused-clause-accounts g c = accounts_bad (accounts_fine ok_is_no_fault c.in_ok-body.ensures.accounts)
 
 pub body_of-requires-clause-small : goal.body_of-requires-clause-small
 body_of-requires-clause-small g c = c.requires.small
@@ -44,11 +44,11 @@ returns-in-Ok-clause-writable g c = c.in-Ok.ensures.writable
 pub returns-in-Ok-clause-looks : goal.returns-in-Ok-clause-looks
 returns-in-Ok-clause-looks g c = c.body_of.ensures.looks
 
-pub returns-in-Err-Malformed-clause-writable : goal.returns-in-Err-Malformed-clause-writable
-returns-in-Err-Malformed-clause-writable g c = tt
+pub returns-in-Err-Refused-clause-writable : goal.returns-in-Err-Refused-clause-writable
+returns-in-Err-Refused-clause-writable g c = tt
 
-pub returns-in-Err-Malformed-clause-looks : goal.returns-in-Err-Malformed-clause-looks
-returns-in-Err-Malformed-clause-looks g c = c.body_of.ensures.looks
+pub returns-in-Err-Refused-clause-looks : goal.returns-in-Err-Refused-clause-looks
+returns-in-Err-Refused-clause-looks g c = c.body_of.ensures.looks
 
 pub returns-clause-found : goal.returns-clause-found
 returns-clause-found g c ended = tt

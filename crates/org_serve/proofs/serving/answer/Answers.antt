@@ -1,8 +1,9 @@
 use Rattle.std.proofs.Common.{◌≤◌, ◌++◌, inr, List, ℕ, length, Result, Ok, Err, sym, subst}
 use Rattle.std.specs.Prelude.{IsTrue}
 use Rattle.org_commands.specs.declared.command.Command.{Command}
-use Rattle.org_serve.specs.declared.fault.LineFault.{LineFault}
-use Rattle.org_serve.specs.declared.fault.LineFault.TheVariants.{BadLine, OutOfMemory}
+use Rattle.org_fault.specs.declared.fault.Fault.{Fault}
+use Rattle.org_serve.specs.declared.fault.BadLine.{BadLine}
+use Rattle.org_fault.specs.declared.fault.Fault.TheVariants.{Refused, OutOfMemory}
 use Rattle.org_serve.specs.Grammar.{Parses, command_of}
 use Rattle.org_serve.specs.Lines.{limit}
 use Rattle.org_serve.specs.Serving.{IsReadAs}
@@ -10,9 +11,9 @@ use Rattle.org_serve.proofs.Joins.{outcome_of}
 use Rattle.org_serve.proofs.serving.answer.Goals as goal
 
 -- a line within the limit is read as the command that it is
-read_as : (line : List ℕ) (read : Result Command LineFault) → length line ≤ limit → Parses read (command_of line) → IsReadAs line read
+read_as : (line : List ℕ) (read : Result Command (Fault BadLine)) → length line ≤ limit → Parses read (command_of line) → IsReadAs line read
 read_as line (Ok command) within gives = (within, gives)
-read_as line (Err BadLine) within gives = inr gives
+read_as line (Err (Refused _)) within gives = inr gives
 read_as line (Err OutOfMemory) within gives = tt
 
 pub returns-then-not-is_whole-clause-answers : goal.returns-then-not-is_whole-clause-answers

@@ -1,72 +1,34 @@
 use Rattle.std.proofs.Common.{List, Option, Some, Ok, Err, true≢false, refl, sym, ◌∙◌, ap, subst}
-use Rattle.std.specs.Map.{keys_of}
-use Rattle.std.proofs.lemmas.Result.{err_from_is_err_and}
 use Rattle.org_disk.specs.Names.{journal_name}
-use Rattle.org_disk.specs.declared.disk.DiskFault.{DiskFault}
 use Rattle.org_journal.specs.declared.record.Entry.{Entry}
 use Rattle.org_journal.specs.declared.record.Version.TheVariants.{Two}
 use Rattle.org_journal.specs.Record.{BeginsWith, IsWellFormed, journal_bytes}
-use Rattle.org_journal.specs.Recovered.{contents, replayed}
+use Rattle.org_journal.specs.Recovered.{contents}
 use Rattle.org_journal.proofs.Journal.{written_begins}
-use Rattle.org_fileset.specs.Entries.{changed}
-use Rattle.org_fileset.specs.Replay.{AreApplicableTo, CommitsOver}
-use Rattle.org_fileset.specs.Writes.{IsOther, IsUnwritten}
+use Rattle.org_fileset.specs.Replay.{AreApplicableTo}
 use Rattle.org_fileset.specs.declared.fault.SetFault.TheVariants.{Device}
-use Rattle.org_fileset.proofs.Accounted.{accounts_other}
 use Rattle.org_fileset.proofs.Recorded.{changes_applicable, changes_fit}
-use Rattle.org_disk.proofs.Accounting.{accounts_none, accounts_ok}
+use Rattle.org_disk.proofs.Accounting.{accounts_ok}
 use Rattle.org_journal.proofs.Accounted.{accounts_answered, accounts_failed}
-use Rattle.org_fileset.proofs.Sets.{keeps_whole, keeps_broken, ok_apart, device_apart, memory_apart, passed_never}
-use Rattle.org_fileset.proofs.Committing.{committable, all_edits, changes_formed, commits_none, commits_changes, has_record}
+use Rattle.org_fileset.proofs.Sets.{keeps_whole, keeps_broken, ok_apart, device_apart}
+use Rattle.org_fileset.proofs.Committing.{committable, all_edits, changes_formed, commits_record, commits_refused, has_record}
 use Rattle.org_fileset.proofs.set.FileSet.commit_changes.Goals as goal
 
 pub returns-in_err-entries_of : goal.returns-in_err-entries_of
-returns-in_err-entries_of g c = record {
-  commits =
-      λ honest. let d = g.D.Disk in
-      let disk = c.args.self.now.disk in
-      let after = changed (g.C.Changes.pairs c.args.changes.now) (contents (d.files disk)) in
-      commits_none d after (IsOther (keys_of (g.C.Changes.pairs c.args.changes.now))) disk c.from_residual.result (λ image left. g.met.D.Disk.only_now disk image honest left) (passed_never _ _ c.from_residual.result c.from_residual.ensures.1);
-  record_stands = λ honest. passed_never _ _ c.from_residual.result c.from_residual.ensures.1;
-  memory = λ e. refl;
-  set =
-      let whole = rw (← c.self.view_is) at c.requires.whole in
-      let p = err_from_is_err_and c.from_residual.result c.from_residual.ensures.1 in
-      rw (← c.self.view_is) (keeps_whole _ _ refl whole whole c.from_residual.result (λ e. cc (e, p.1, p.2)) (λ e. cc (e, p.1, p.2)));
-  accounts = accounts_other c.from_residual.ensures.1 memory_apart (accounts_none _ _);
-}
+returns-in_err-entries_of g c =
+    commits_refused g.D.Disk c.args.self.now (g.C.Changes.pairs c.args.changes.now) c.from_residual.result c.requires.whole (g.met.D.Disk.only_now c.args.self.now.disk) c.from_residual.ensures.1
 
 pub returns-in_err-body : goal.returns-in_err-body
-returns-in_err-body g c = record {
-  commits =
-      λ honest. let d = g.D.Disk in
-      let disk = c.args.self.now.disk in
-      let after = changed (g.C.Changes.pairs c.args.changes.now) (contents (d.files disk)) in
-      commits_none d after (IsOther (keys_of (g.C.Changes.pairs c.args.changes.now))) disk c.from_residual-in_err-body.result (λ image left. g.met.D.Disk.only_now disk image honest left) (passed_never _ _ c.from_residual-in_err-body.result c.from_residual-in_err-body.ensures.1);
-  record_stands = λ honest. passed_never _ _ c.from_residual-in_err-body.result c.from_residual-in_err-body.ensures.1;
-  memory = λ e. refl;
-  set =
-      let whole = rw (← c.self.view_is) at c.requires.whole in
-      let p = err_from_is_err_and c.from_residual-in_err-body.result c.from_residual-in_err-body.ensures.1 in
-      rw (← c.self.view_is) (keeps_whole _ _ refl whole whole c.from_residual-in_err-body.result (λ e. cc (e, p.1, p.2)) (λ e. cc (e, p.1, p.2)));
-  accounts = accounts_other c.from_residual-in_err-body.ensures.1 memory_apart (accounts_none _ _);
-}
+returns-in_err-body g c =
+    commits_refused g.D.Disk c.args.self.now (g.C.Changes.pairs c.args.changes.now) c.from_residual-in_err-body.result c.requires.whole (g.met.D.Disk.only_now c.args.self.now.disk) c.from_residual-in_err-body.ensures.1
 
 pub returns-in-Ok : goal.returns-in-Ok
 returns-in-Ok g c = record {
   commits =
       rw (← c.self.view_is) (λ ended.
-      let honest = c.commit_entries.ensures.accounts.was_honest ended in
-      let edits = (rw (← c.self.view_is) at c.requires.can.edits) (rw (← c.self.view_is) at c.requires.whole) in
-      let d = g.D.Disk in
-      let disk = c.self.inside.disk in
-      let after = c.commit_entries.new.disk in
-      let entries = c.in_ok-entries_of.field-0.items in
-      let files = contents (d.files disk) in
-      let made : CommitsOver {A = Unit {0}} {E = DiskFault} d (replayed entries files) (IsUnwritten entries) disk after (Ok tt) =
-      subst (λ (l : List Entry). CommitsOver {A = Unit {0}} {E = DiskFault} d (replayed l files) (IsUnwritten l) disk after (Ok tt)) (c.as_slice.ensures ∙ c.new-record.ensures) (c.in-Ok.ensures.commits ended).commits in
-      commits_changes d (g.C.Changes.pairs c.args.changes.now) entries disk after (Ok tt) (Ok tt) c.requires.some c.in_ok-entries_of.ensures.entries
-      (all_edits files (g.C.Changes.pairs c.args.changes.now) (edits honest)) made made.done);
+      let edits = (rw (← c.self.view_is) at c.requires.can.edits) (rw (← c.self.view_is) at c.requires.whole) (c.commit_entries.ensures.accounts.was_honest ended) in
+      commits_record g.D.Disk (g.C.Changes.pairs c.args.changes.now) c.in_ok-entries_of.field-0.items _ c.self.inside.disk c.commit_entries.new.disk (Ok tt) (Ok tt) c.requires.some c.in_ok-entries_of.ensures.entries
+      (c.as_slice.ensures ∙ c.new-record.ensures) edits (c.in-Ok.ensures.commits ended) (λ made. made.done));
   record_stands =
       λ ended. let journal = contents (g.D.Disk.files c.commit_entries.new.disk) journal_name in
       has_record (g.C.Changes.pairs c.args.changes.now) c.in_ok-entries_of.field-0.items journal c.in_ok-entries_of.ensures.entries
@@ -82,17 +44,9 @@ pub returns : goal.returns
 returns g c = record {
   commits =
       rw (← c.self.view_is) (λ ended.
-      let honest = c.commit_entries.ensures.accounts.was_honest ended in
-      let edits = (rw (← c.self.view_is) at c.requires.can.edits) (rw (← c.self.view_is) at c.requires.whole) in
-      let d = g.D.Disk in
-      let disk = c.self.inside.disk in
-      let after = c.commit_entries.new.disk in
-      let entries = c.in_ok-entries_of.field-0.items in
-      let files = contents (d.files disk) in
-      let made : CommitsOver {A = Unit {0}} {E = DiskFault} d (replayed entries files) (IsUnwritten entries) disk after c.commit_entries.result =
-      subst (λ (l : List Entry). CommitsOver {A = Unit {0}} {E = DiskFault} d (replayed l files) (IsUnwritten l) disk after c.commit_entries.result) (c.as_slice.ensures ∙ c.new-record.ensures) (c.commit_entries.ensures.commits ended).commits in
-      commits_changes d (g.C.Changes.pairs c.args.changes.now) entries disk after c.commit_entries.result (Err Device) c.requires.some c.in_ok-entries_of.ensures.entries
-      (all_edits files (g.C.Changes.pairs c.args.changes.now) (edits honest)) made tt);
+      let edits = (rw (← c.self.view_is) at c.requires.can.edits) (rw (← c.self.view_is) at c.requires.whole) (c.commit_entries.ensures.accounts.was_honest ended) in
+      commits_record g.D.Disk (g.C.Changes.pairs c.args.changes.now) c.in_ok-entries_of.field-0.items _ c.self.inside.disk c.commit_entries.new.disk c.commit_entries.result (Err Device) c.requires.some c.in_ok-entries_of.ensures.entries
+      (c.as_slice.ensures ∙ c.new-record.ensures) edits (c.commit_entries.ensures.commits ended) (λ made. tt));
   record_stands = λ honest. tt;
   memory = λ e. absurd (device_apart e);
   set =

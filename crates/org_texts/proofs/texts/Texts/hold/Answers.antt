@@ -1,52 +1,38 @@
-use Rattle.std.proofs.Common.{◌≡◌, ◌∙◌, ◌++◌, [], ◌∷◌, List, ℕ, false, None, map, take, sym, ap, subst}
+use Rattle.std.proofs.Common.{◌≡◌, ◌∙◌, ◌++◌, [], ◌∷◌, List, ℕ, None, map, refl, sym, ap, subst}
 use Rattle.std.specs.Map.{keys_of, lookup}
 use Rattle.std.specs.Str.{bytes_eq}
 use Rattle.std.proofs.lemmas.List.{map-append}
 use Rattle.indexmap.proofs.CallerLemmas.{insert_entry-new}
-use Rattle.org_splice.specs.Texts.{EditedText, settled}
 use Rattle.org_texts.specs.Held.{HeldText}
 use Rattle.org_texts.specs.Inside.{IsHolding}
-use Rattle.org_texts.specs.Texts.{Holding, TextSet, before_of, now_of, ready_of, text_of, with_text}
-use Rattle.org_texts.proofs.Names.{among_more, none_of}
+use Rattle.org_texts.specs.Texts.{Holding, now_of, text_of}
+use Rattle.org_texts.proofs.Names.{among_more, none_of, same_set}
+use Rattle.org_texts.proofs.Values.{map_more}
 use Rattle.org_texts.proofs.texts.Texts.hold.Goals as goal
+use Rattle.org_texts.proofs.texts.Texts.hold.Goals.{In_ok-insert}
+
+-- the text stands behind the others
+made : (c : In_ok-insert) → c.insert.new.self.entries ≡ c.self.inside.held.entries ++ (c.args.name, c.new.result) ∷ []
+made c =
+    let es = c.self.inside.held.entries in
+    let none : lookup (bytes_eq c.args.name) (map now_of es) ≡ None = ap (λ (h : Holding). text_of h.now c.args.name) c.self.view_is ∙ c.requires in
+    c.in_ok-insert.ensures.entries ∙ insert_entry-new bytes_eq c.self.inside.held c.args.name c.new.result (none_of c.args.name es none)
 
 pub invariant_of-self-2 : goal.invariant_of-self-2
 invariant_of-self-2 c =
     let es = c.self.inside.held.entries in
-    let name = c.args.name in
-    let none : lookup (bytes_eq name) (map now_of es) ≡ None = ap (λ (h : Holding). text_of h.now name) c.self.view_is ∙ c.requires in
-    let made : c.insert.new.self.entries ≡ es ++ (name, c.new.result) ∷ [] = c.in_ok-insert.ensures.entries ∙ insert_entry-new bytes_eq c.self.inside.held name c.new.result (none_of name es none) in
-    let names : keys_of c.insert.new.self.entries ≡ keys_of es ++ name ∷ [] = ap keys_of made ∙ map-append (λ (e : List ℕ × HeldText). e.0) es ((name, c.new.result) ∷ []) in
+    let names : keys_of c.insert.new.self.entries ≡ keys_of es ++ c.args.name ∷ [] = ap keys_of (made (goal.at.invariant_of-self-2 c).In_ok-insert) ∙ map-append (λ (e : List ℕ × HeldText). e.0) es ((c.args.name, c.new.result) ∷ []) in
     subst (λ (l : List (List ℕ)). IsHolding l c.self.inside.dirty.keys c.self.inside.dirty_before) (sym names)
-    (record { held = among_more (keys_of es) (name ∷ []) c.self.inside.dirty.keys c.self.invariant.held; first = c.self.invariant.first })
+    (record { held = among_more (keys_of es) (c.args.name ∷ []) c.self.inside.dirty.keys c.self.invariant.held; first = c.self.invariant.first })
 
 pub returns-clause-now : goal.returns-clause-now
 returns-clause-now c =
-    let es = c.self.inside.held.entries in
-    let name = c.args.name in
-    let none : lookup (bytes_eq name) (map now_of es) ≡ None = ap (λ (h : Holding). text_of h.now name) c.self.view_is ∙ c.requires in
-    let made : c.insert.new.self.entries ≡ es ++ (name, c.new.result) ∷ [] = c.in_ok-insert.ensures.entries ∙ insert_entry-new bytes_eq c.self.inside.held name c.new.result (none_of name es none) in
-    let texts : map now_of c.insert.new.self.entries ≡ map now_of es ++ (name, settled c.args.bytes.items) ∷ [] =
-    ap (map now_of) made ∙ map-append now_of es ((name, c.new.result) ∷ []) ∙ ap (λ (h : HeldText). map now_of es ++ now_of (name, h) ∷ []) c.new.ensures in
-    let with : List (List ℕ × EditedText) → TextSet = λ l. record { texts = l; dirty = c.self.inside.dirty.keys } in
-    ap with texts ∙ ap (λ (h : Holding). with_text name c.args.bytes.items h.now) c.self.view_is
+    rw (← c.self.view_is) (same_set (map_more (λ (h : HeldText). h.text) c.self.inside.held.entries _ c.args.name c.new.result _ (made (goal.at.returns-clause-now c).In_ok-insert) (ap (λ (h : HeldText). h.text) c.new.ensures)) refl)
 
 pub returns-clause-before : goal.returns-clause-before
 returns-clause-before c =
-    let es = c.self.inside.held.entries in
-    let name = c.args.name in
-    let none : lookup (bytes_eq name) (map now_of es) ≡ None = ap (λ (h : Holding). text_of h.now name) c.self.view_is ∙ c.requires in
-    let made : c.insert.new.self.entries ≡ es ++ (name, c.new.result) ∷ [] = c.in_ok-insert.ensures.entries ∙ insert_entry-new bytes_eq c.self.inside.held name c.new.result (none_of name es none) in
-    let texts : map before_of c.insert.new.self.entries ≡ map before_of es ++ (name, settled c.args.bytes.items) ∷ [] =
-    ap (map before_of) made ∙ map-append before_of es ((name, c.new.result) ∷ []) ∙ ap (λ (h : HeldText). map before_of es ++ before_of (name, h) ∷ []) c.new.ensures in
-    let with : List (List ℕ × EditedText) → TextSet = λ l. record { texts = l; dirty = take c.self.inside.dirty_before c.self.inside.dirty.keys } in
-    ap with texts ∙ ap (λ (h : Holding). with_text name c.args.bytes.items h.before) c.self.view_is
+    rw (← c.self.view_is) (same_set (map_more (λ (h : HeldText). h.before) c.self.inside.held.entries _ c.args.name c.new.result _ (made (goal.at.returns-clause-before c).In_ok-insert) (ap (λ (h : HeldText). h.before) c.new.ensures)) refl)
 
 pub returns-clause-ready : goal.returns-clause-ready
 returns-clause-ready c =
-    let es = c.self.inside.held.entries in
-    let name = c.args.name in
-    let none : lookup (bytes_eq name) (map now_of es) ≡ None = ap (λ (h : Holding). text_of h.now name) c.self.view_is ∙ c.requires in
-    let made : c.insert.new.self.entries ≡ es ++ (name, c.new.result) ∷ [] = c.in_ok-insert.ensures.entries ∙ insert_entry-new bytes_eq c.self.inside.held name c.new.result (none_of name es none) in
-    ap (map ready_of) made ∙ map-append ready_of es ((name, c.new.result) ∷ []) ∙ ap (λ (h : HeldText). map ready_of es ++ ready_of (name, h) ∷ []) c.new.ensures
-    ∙ ap (λ (h : Holding). h.ready ++ (name, false) ∷ []) c.self.view_is
+    rw (← c.self.view_is) (map_more (λ (h : HeldText). h.ready) c.self.inside.held.entries _ c.args.name c.new.result _ (made (goal.at.returns-clause-ready c).In_ok-insert) (ap (λ (h : HeldText). h.ready) c.new.ensures))

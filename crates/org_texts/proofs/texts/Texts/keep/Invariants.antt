@@ -1,15 +1,11 @@
-use Rattle.std.proofs.Common.{◌≡◌, ◌<◌, ℕ, List, Some, map}
-use Rattle.std.specs.Prelude.{slice_get}
-use Rattle.std.specs.Map.{keys_of}
+use Rattle.std.proofs.Common.{◌≡◌}
 use Rattle.org_texts.specs.Held.{HeldText}
-use Rattle.org_texts.specs.Texts.{now_of}
+use Rattle.org_texts.proofs.Values.{Copied}
 use Rattle.org_texts.proofs.texts.Texts.keep.Given as goal
 
 -- the edits so far are kept
 abbrev pub invariant-loop-place : goal.invariant-loop-place
 invariant-loop-place l = record {
-  so_far : (k : ℕ) (e : List ℕ × HeldText) → k < l.place → slice_get l.self-inside.held.entries k ≡ Some e → e.1.before ≡ e.1.text;
-  now : map now_of l.self-inside.held.entries ≡ map now_of l.initial.self-inside.held.entries;
-  names : keys_of l.self-inside.held.entries ≡ keys_of l.initial.self-inside.held.entries;
+  before : Copied (λ (h : HeldText). h.before) (λ (h : HeldText). h.text) l.self-inside.held.entries l.initial.self-inside.held.entries l.place;
   dirty : l.self-inside.dirty.keys ≡ l.initial.self-inside.dirty.keys;
 }
