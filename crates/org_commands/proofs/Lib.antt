@@ -2,16 +2,11 @@ mod Rows
 pub mod InOrder
 pub mod Committing
 pub mod Held
-pub mod Dirty
 pub mod Noted
 pub mod Commits
 pub mod Handing
 pub mod Faults
-pub mod Keeping
 pub mod Reading
-pub mod Leaving
-pub mod Acting
-pub mod Planned
 pub mod Plans
 pub mod Running
 pub mod Clocks

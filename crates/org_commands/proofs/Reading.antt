@@ -15,10 +15,9 @@ use Rattle.org_commands.specs.Files.{OpenFiles, StaysInMemory}
 use Rattle.org_commands.specs.Keeping.{Reads, fault_of_set}
 use Rattle.org_commands.specs.Reading.{OnlyReads, ReadsFiles}
 use Rattle.org_commands.specs.Session.{Session, StoreView, view_over}
-use Rattle.org_commands.proofs.Acting.{view_same}
 use Rattle.org_commands.proofs.Faults.{IsOwn, fine_is_no_fault, other_fault, refused_own}
 use Rattle.org_commands.proofs.Held.{keeps_same, keeps_then}
-use Rattle.org_commands.proofs.Sessions.{reads_fault}
+use Rattle.org_commands.proofs.Sessions.{reads_fault, view_same}
 
 -- the accounts of a call, where another answer fails just where its own does
 accounts_as : {D : Type 0} {g : Ghosts D} {old new : D} {Failed Fails : Type 0} → (Fails → Failed) → (Failed → Fails)

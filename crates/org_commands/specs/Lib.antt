@@ -14,10 +14,6 @@ pub mod Kinds
 pub mod Outcome
 pub mod Planning
 pub mod Step
-pub mod Dirty
-pub mod Left
-pub mod Counts
-pub mod Runs
 pub mod Keeping
 pub mod Reading
-pub mod Executing
+pub mod Questions

@@ -5,7 +5,6 @@ use Rattle.org_commands.specs.declared.command.Reply.{Reply}
 use Rattle.org_commands.specs.declared.command.Reply.TheVariants.{Done, Safe, Text, Time}
 use Rattle.org_commands.specs.declared.command.RunFault.{RunFault}
 use Rattle.org_commands.specs.declared.command.RunFault.TheVariants.{Refused, OutOfMemory, Device, Broken}
-use Rattle.org_commands.specs.declared.tally.Tally.{Tally}
 use Rattle.org_commands.specs.Groups.{are_group}
 use Rattle.org_commands.specs.Session.{Session}
 use Rattle.org_commands.specs.Outcome.{Outcome, IsAccepted, Shows, Tells, AsksToSettle, Refuses, outcome}
@@ -13,9 +12,6 @@ use Rattle.org_commands.specs.Outcome.{Outcome, IsAccepted, Shows, Tells, AsksTo
 -- with one more accepted command, the group is full
 abbrev pub fills : Session → Bool
 fills s = are_group s.group (s.accepted + 1 - s.acknowledged)
-
-abbrev pub fills_tally : Tally → Bool
-fills_tally tally = are_group tally.group (tally.accepted + 1 - tally.acknowledged)
 
 -- one more command accepted, with these texts after it; where it fills the group, all is settled
 abbrev pub done : Session → List (List ℕ) → Session

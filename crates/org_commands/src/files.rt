@@ -253,7 +253,7 @@ impl<D: Disk> Files<D> {
 
     /// Makes the edits of a plan, in memory. `TooLarge` where one of the texts would be past the
     /// limit; then, and where there is no memory, all edits of the command are taken back.
-    pub(crate) fn put(&mut self, plan: &Plan<'_>) -> Result<(), RunFault>
+    pub fn put(&mut self, plan: &Plan<'_>) -> Result<(), RunFault>
         requires { IsPlanFor self.old.names self.old.held plan.now }
         ensures memory { StaysInMemory self.old self.new }
         ensures before { self.new.held.before ≡ self.old.held.before }
@@ -269,7 +269,7 @@ impl<D: Disk> Files<D> {
     }
 
     /// Takes all edits of the command back. Takes no memory, and can't fail.
-    pub(crate) fn undo(&mut self)
+    pub fn undo(&mut self)
         ensures memory { StaysInMemory self.old self.new }
         ensures now { self.new.held.now ≡ self.old.held.before }
         ensures before { self.new.held.before ≡ self.old.held.before }
@@ -279,7 +279,7 @@ impl<D: Disk> Files<D> {
     }
 
     /// Keeps all edits of the command, in memory. Takes none, and can't fail.
-    pub(crate) fn keep(&mut self)
+    pub fn keep(&mut self)
         requires { AreSmallToWrite self.old.held.now }
         ensures memory { StaysInMemory self.old self.new }
         ensures now { self.new.held.now ≡ self.old.held.now }

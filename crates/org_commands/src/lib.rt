@@ -1,21 +1,17 @@
-//! The commands of a store: what each of them does to the texts of its files, and when these are
-//! put on the disk.
+//! The commands of a store: what each of them does to the texts of its files.
 //!
 //! What a store has done is a `Session` (specs/Session.antt): the texts of all its files,
-//! and how many commands were accepted and acknowledged. A command is of one `Kind`: an `Executor`
-//! runs one that changes `Files` (`change`), which are edited in memory and put on the disk as one,
-//! and counts it in its `Tally`; or it answers a question (`answer`). One relation says what each
-//! of them does to the session (`Step`, specs/Step.antt).
+//! and how many commands were accepted and acknowledged. A command is of one `Kind`: one that
+//! changes `Files` has a plan (`plan`) of edits in memory, and a question an answer (`answer`). One
+//! relation says what each of them does to the session (`Step`, specs/Step.antt).
 //!
-//! A command reads the files that it names, is planned on their held texts, and is accepted or
-//! refused as a whole (`changing`); the planner of each command stands under `commands`.
+//! A command reads the files that it names, and is planned on their held texts; the planner of each
+//! stands under `commands`. What accepts commands and puts texts on the disk is a store
+//! (org_store).
 #![tactic(auto)]
 
-mod answering;
-mod changing;
 mod command;
 mod commands;
-mod executor;
 mod files;
 mod kind;
 mod searches;
@@ -24,7 +20,7 @@ mod tally;
 pub use command::{
     Archive, Capture, ClockIn, Command, Edit, Refile, Reply, RunFault, TextOf, Todo,
 };
-pub use executor::Executor;
+pub use commands::{answer, plan};
 pub use files::Files;
 pub use kind::{Change, Kind, Question};
 pub use org_fault::Refusal;

@@ -27,7 +27,7 @@ pub struct Tally {
 
 impl Tally {
     /// Whether one more accepted command fills the group.
-    pub(crate) fn fills(&self) -> bool
+    pub fn fills(&self) -> bool
         requires { self.now.accepted + 1 < 2 ^ 64 }
         ensures { result ≡ are_group self.now.group
             (self.now.accepted + 1 - self.now.acknowledged) }

@@ -14,7 +14,7 @@ use Rattle.org_fileset.proofs.Writes.{alone_fewer, alone_then}
 use Rattle.org_commands.specs.declared.command.Command.{Command}
 use Rattle.org_store.specs.History.{Trace}
 use Rattle.org_commands.specs.InOrder.{AreNames, is_name}
-use Rattle.org_commands.specs.Left.{IsApart}
+use Rattle.org_store.specs.Left.{IsApart}
 use Rattle.org_commands.proofs.InOrder.{named}
 use Rattle.org_store.proofs.Own.{KeepsToItsOwn, own_none, own_run, own_settling, own_then}
 use Rattle.org_serve.specs.declared.whole.Setup.{Setup}

@@ -17,7 +17,7 @@ use Rattle.org_commands.specs.Session.{Session, StoreView, Holds}
 use Rattle.org_commands.specs.Outcome.{outcome}
 use Rattle.org_commands.specs.Step.{Step}
 use Rattle.org_store.specs.History.{Trace, Lists, HoldsPrefix}
-use Rattle.org_commands.specs.Runs.{IsOnDisk}
+use Rattle.org_store.specs.Runs.{IsOnDisk}
 use Rattle.org_store.proofs.History.{Begin, Counts, Stands, Texts, adds, begin_adds, further, lists_settling, lists_step, same_or_sound, texts_after, torn}
 use Rattle.org_store.proofs.Runs.{Course, HaveTexts, IsBetween, course_none, course_run, course_settle, falls, holds_back, on_disk_after}
 use Rattle.org_store.specs.Calls.{Call, Machine, StepsBy, model}

@@ -17,10 +17,10 @@ use Rattle.org_commands.specs.declared.command.RunFault.TheVariants.{Refused, Ou
 use Rattle.org_commands.specs.InOrder.{texts_of, with_texts}
 use Rattle.org_store.specs.Calls.{model}
 use Rattle.org_store.specs.Opening.{opened}
-use Rattle.org_commands.specs.Runs.{IsOnDisk}
+use Rattle.org_store.specs.Runs.{IsOnDisk}
 use Rattle.org_commands.specs.Session.{Session, StoreView, Holds}
 use Rattle.org_commands.specs.Step.{Settles}
-use Rattle.org_commands.proofs.Keeping.{others_same}
+use Rattle.org_store.proofs.Keeping.{others_same}
 use Rattle.org_serve.specs.declared.whole.Setup.{Setup}
 use Rattle.org_commands.specs.declared.tally.Group.{Group}
 use Rattle.org_commands.specs.declared.tally.Group.TheVariants.{Of, Whole}

@@ -9,7 +9,7 @@ use Rattle.org_fault.specs.declared.refusal.Refusal.{Refusal}
 use Rattle.org_commands.specs.declared.command.Reply.{Reply}
 use Rattle.org_commands.specs.declared.command.RunFault.{RunFault}
 use Rattle.org_commands.specs.declared.command.RunFault.TheVariants.{Device, Refused}
-use Rattle.org_commands.specs.Left.{IsLeftAlone}
+use Rattle.org_store.specs.Left.{IsLeftAlone}
 use Rattle.org_commands.specs.Outcome.{outcome}
 use Rattle.org_commands.specs.Session.{Session}
 use Rattle.org_store.specs.Calls.Call.{Ran}

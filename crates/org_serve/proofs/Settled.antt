@@ -19,7 +19,7 @@ use Rattle.org_commands.specs.declared.tally.Group.{Group}
 use Rattle.org_commands.specs.declared.tally.Group.TheVariants.{Of, Whole}
 use Rattle.org_commands.specs.InOrder.{with_texts}
 use Rattle.org_commands.specs.Outcome.{AsksToSettle, outcome}
-use Rattle.org_commands.specs.Runs.{IsOnDisk}
+use Rattle.org_store.specs.Runs.{IsOnDisk}
 use Rattle.org_commands.specs.Session.{StoreView, Holds}
 use Rattle.org_store.specs.Calls.{Machine, Traces}
 use Rattle.org_store.specs.Calls.Call.{Ran}

@@ -14,7 +14,7 @@ use Rattle.org_commands.specs.declared.command.RunFault.TheVariants as run
 use Rattle.org_commands.specs.declared.tally.Group.{Group}
 use Rattle.org_commands.specs.declared.tally.Group.TheVariants.{Of, Whole}
 use Rattle.org_commands.specs.InOrder.{with_texts}
-use Rattle.org_commands.specs.Runs.{IsOnDisk}
+use Rattle.org_store.specs.Runs.{IsOnDisk}
 use Rattle.org_commands.specs.Session.{Session, StoreView}
 use Rattle.org_store.specs.Calls.{Machine, model, stores, traces}
 use Rattle.org_store.specs.Calls.Call.{Ran, Settled}

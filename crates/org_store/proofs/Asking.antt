@@ -36,7 +36,7 @@ use Rattle.org_commands.specs.Clocking.{clocked_in, clocked_out, clock_moved}
 use Rattle.org_commands.specs.Files.{has_large}
 use Rattle.org_commands.specs.InOrder.{text_at, with_all}
 use Rattle.org_commands.specs.Refile.{text_within, texts_across}
-use Rattle.org_commands.specs.Left.{PutsOnDisk}
+use Rattle.org_store.specs.Left.{PutsOnDisk}
 use Rattle.org_commands.specs.Session.{Session}
 use Rattle.org_commands.specs.Step.{Step, done, fills}
 use Rattle.org_commands.specs.Outcome.{Accepts, AsksToSettle, Outcome, Refuses, Shows, Tells, changed, with_document, with_entry, capture, refile, with_moved, with_minutes, with_replaced, with_state, time, todo, edit, with_clock_moved, clock_in_beside, clock_in, clock_out, archive_to, archive_at, archive, show, outcome}

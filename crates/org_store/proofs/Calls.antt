@@ -16,15 +16,15 @@ use Rattle.org_commands.specs.declared.command.RunFault.TheVariants.{Refused, Ou
 use Rattle.org_store.specs.Calls.{Call, grouped, MakesAll, MakesOver, Traces, traces}
 use Rattle.org_store.specs.Calls.Call.{Ran, Settled, Grouped}
 use Rattle.org_store.specs.History.{Trace, Lists, HoldsPrefix}
-use Rattle.org_commands.specs.Left.{IsLeftAlone, MayHaveWritten}
+use Rattle.org_store.specs.Left.{IsLeftAlone, MayHaveWritten}
 use Rattle.org_commands.specs.Outcome.{AsksToSettle, outcome}
-use Rattle.org_commands.specs.Runs.{RunsOver, SettlesOver, IsOnDisk}
+use Rattle.org_store.specs.Runs.{RunsOver, SettlesOver, IsOnDisk}
 use Rattle.org_commands.specs.declared.tally.Group.{Group}
 use Rattle.org_commands.specs.Session.{Session, StoreView, Holds}
 use Rattle.org_commands.specs.Step.{Step, Settles}
-use Rattle.org_commands.specs.Dirty.{DirtyAfter, DirtyAfterSettled}
+use Rattle.org_store.specs.Dirty.{DirtyAfter, DirtyAfterSettled}
 use Rattle.org_store.proofs.History.{Begin, Counts, adds, begin_adds, further, lists_settling, lists_step, none_added, same_or_sound, texts_after, torn}
-use Rattle.org_commands.proofs.Keeping.{left_as}
+use Rattle.org_store.proofs.Keeping.{left_as}
 use Rattle.org_store.proofs.Runs.{Course, answers_broken, course_none, course_run, course_leaves, falls, leaves_as, no_settling, settling_ends}
 
 -- A settling, and the command to settle.

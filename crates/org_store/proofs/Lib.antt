@@ -1,5 +1,10 @@
+pub mod Keeping
+pub mod Leaving
+pub mod Dirty
+pub mod Planned
+pub mod Settling
+pub mod Executing
 pub mod Settled
-pub mod Acted
 pub mod Accepted
 pub mod Follows
 pub mod Asking

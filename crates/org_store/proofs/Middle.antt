@@ -9,7 +9,7 @@ use Rattle.org_fileset.specs.Replay.{IsAtRest}
 use Rattle.org_fileset.proofs.Middle.{counts_between, rest_recovers}
 use Rattle.org_commands.specs.declared.command.RunFault.{RunFault}
 use Rattle.org_commands.specs.InOrder.{with_texts}
-use Rattle.org_commands.specs.Left.{IsLeft, PutsOnDisk}
+use Rattle.org_store.specs.Left.{IsLeft, PutsOnDisk}
 use Rattle.org_commands.specs.Outcome.{Outcome}
 use Rattle.org_commands.specs.Session.{Session}
 

@@ -16,12 +16,12 @@ use Rattle.org_store.specs.Calls.{Call, MakesAll, Traces, traces}
 use Rattle.org_store.specs.Calls.Call.{Ran, Settled, Grouped}
 use Rattle.org_store.specs.History.{Trace}
 use Rattle.org_commands.specs.InOrder.{AreNames, is_name}
-use Rattle.org_commands.specs.Left.{IsApart, IsLeftAlone, IsSpared}
+use Rattle.org_store.specs.Left.{IsApart, IsLeftAlone, IsSpared}
 use Rattle.org_commands.specs.Outcome.{Outcome, Accepts, AsksToSettle, Refuses, Shows, Tells, written, outcome}
-use Rattle.org_commands.specs.Runs.{RunsOver, SettlesOver}
+use Rattle.org_store.specs.Runs.{RunsOver, SettlesOver}
 use Rattle.org_commands.specs.Session.{Session, StoreView}
 use Rattle.org_commands.specs.Step.{Settles}
-use Rattle.org_commands.specs.Dirty.{Dirties, DirtyAfter, DirtyAfterSettled, is_listed}
+use Rattle.org_store.specs.Dirty.{Dirties, DirtyAfter, DirtyAfterSettled, is_listed}
 use Rattle.org_store.proofs.Accepted.{written_named}
 use Rattle.org_store.proofs.Follows.{step_setting}
 

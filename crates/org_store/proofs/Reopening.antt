@@ -24,7 +24,7 @@ use Rattle.org_commands.specs.InOrder.{texts_of, with_all, with_text, with_texts
 use Rattle.org_commands.specs.Session.{Session, Holds}
 use Rattle.org_commands.specs.Outcome.{IsAccepted, Outcome, Accepts, Shows, Tells, AsksToSettle, Refuses, outcome}
 use Rattle.org_commands.specs.Step.{Step, fills, done, settled}
-use Rattle.org_commands.specs.Left.{IsLeft, PutsOnDisk}
+use Rattle.org_store.specs.Left.{IsLeft, PutsOnDisk}
 use Rattle.org_store.specs.Reopening.{AreSameNames, IsOpenable, AreSmall}
 use Rattle.org_store.proofs.Accepted.{AreWithin, accepted_puts}
 use Rattle.org_store.proofs.Runs.{falls}

@@ -19,9 +19,9 @@ use Rattle.org_commands.specs.InOrder.{text_at, with_all, with_text, with_texts}
 use Rattle.org_commands.specs.Session.{Session, StoreView, Holds}
 use Rattle.org_commands.specs.Outcome.{IsAccepted, Outcome, Accepts, Shows, Tells, AsksToSettle, Refuses, outcome}
 use Rattle.org_commands.specs.Step.{Steps, Step, Settles, fills, done, settled}
-use Rattle.org_commands.specs.Left.{IsLeft, PutsOnDisk}
+use Rattle.org_store.specs.Left.{IsLeft, PutsOnDisk}
 use Rattle.org_store.proofs.Accepted.{accepted_puts}
-use Rattle.org_commands.specs.Runs.{RunsOver, SettlesOver, IsOnDisk}
+use Rattle.org_store.specs.Runs.{RunsOver, SettlesOver, IsOnDisk}
 
 -- The files with the texts of some names depend on the other files alone.
 

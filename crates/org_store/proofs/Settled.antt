@@ -1,6 +1,7 @@
 -- Where all commands are acknowledged, their texts are on the disk: what a command makes of that.
 use Rattle.std.proofs.Common.{◌≡◌, inl, inr, ℕ, ◌≤◌, true, List, Result, Ok, Err, refl, sym, ap, ◌∙◌, subst, arith}
 use Rattle.std.proofs.lemmas.Bool.{cases_Bool, false≢true}
+use Rattle.org_disk.specs.declared.disk.Disk.{Ghosts}
 use Rattle.org_disk.specs.Disk.{FileState}
 use Rattle.org_outline.specs.States.{Keywords}
 use Rattle.org_texts.specs.Texts.{TextSet, nothing_held}
@@ -10,10 +11,12 @@ use Rattle.org_commands.specs.declared.command.RunFault.{RunFault}
 use Rattle.org_commands.specs.declared.command.RunFault.TheVariants.{Refused, OutOfMemory, Device, Broken}
 use Rattle.org_commands.specs.declared.tally.Tally.{Tally}
 use Rattle.org_commands.specs.Files.{OpenFiles}
-use Rattle.org_commands.specs.Session.{Session, view_over}
+use Rattle.org_commands.specs.Session.{Session, StoreView, view_over}
 use Rattle.org_commands.specs.Outcome.{Outcome}
 use Rattle.org_commands.specs.Step.{Steps, IsSettled, done, fills}
-use Rattle.org_commands.specs.Dirty.{NoneDirty}
+use Rattle.org_store.specs.Dirty.{NoneDirty}
+use Rattle.org_store.specs.Executing.{Executes}
+use Rattle.org_store.proofs.Dirty.{none_dirty_on}
 
 -- a session that is broken
 settled_broken : (s : Session) → s.broken ≡ true → IsSettled s
@@ -48,3 +51,10 @@ settled_new files states opened tally none = (rw none (λ whole all. refl), λ a
 
 pub none_counted : 0 ≤ 0
 none_counted = omega arith
+
+-- behind a command that was executed
+pub executes_sound : {D : Type 0} (g : Ghosts D) (old new : StoreView D) (outcome : Outcome) (answer : Result Reply RunFault) → old.session.acknowledged ≤ old.session.accepted → Executes g old outcome answer new
+    → (g.honest old.disk → IsSettled old.session × NoneDirty old) → g.honest new.disk → IsSettled new.session × NoneDirty new
+executes_sound g old new outcome answer ordered executes sound honest =
+    let was = sound (executes.accounts.was_honest honest) in
+    (settled_on old.session new.session outcome answer (executes.step honest) ordered was.0, none_dirty_on old new outcome answer (executes.step honest) (executes.dirty_files honest) ordered was.1)

@@ -7,7 +7,7 @@ use Rattle.org_commands.specs.declared.command.RunFault.{RunFault}
 use Rattle.org_commands.specs.declared.tally.Group.{Group}
 use Rattle.org_store.specs.History.{Adds, Trace}
 use Rattle.org_commands.specs.Outcome.{outcome}
-use Rattle.org_commands.specs.Runs.{RunsOver, SettlesOver}
+use Rattle.org_store.specs.Runs.{RunsOver, SettlesOver}
 use Rattle.org_commands.specs.Session.{Session, StoreView}
 use Rattle.org_commands.specs.Step.{Settles, Step}
 

@@ -1,3 +1,8 @@
+pub mod Dirty
+pub mod Left
+pub mod Counts
+pub mod Runs
+pub mod Executing
 pub mod History
 pub mod Calls
 pub mod Opening

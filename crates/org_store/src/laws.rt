@@ -28,12 +28,12 @@ ghost use Rattle.org_commands.specs.declared.tally.Group.TheVariants.{Of, Whole}
 ghost use Rattle.org_store.specs.Calls.{Call, MakesAll, MakesOver, Traces, grouped, traces};
 ghost use Rattle.org_store.specs.Calls.Call.{Ran};
 ghost use Rattle.org_store.specs.History.{Trace, Lists, HoldsPrefix};
-ghost use Rattle.org_commands.specs.Left.{IsApart, IsLeft, PutsOnDisk};
+ghost use Rattle.org_store.specs.Left.{IsApart, IsLeft, PutsOnDisk};
 ghost use Rattle.org_store.specs.OnePlace.{ArchivesOne, HaveNodesButFew, HaveSameNodes, HasNodesOf, HasNodesOfPrefix, IsSessionOf, MayMove, MayRefile, OnlyRefiles};
 ghost use Rattle.org_commands.specs.Outcome.{AsksToSettle, IsAccepted, outcome, written};
 ghost use Rattle.org_store.specs.Reopening.{AreSameNames, AreSmall, IsOpenable, CountsFailure};
 ghost use Rattle.org_store.specs.Opening.{opened};
-ghost use Rattle.org_commands.specs.Runs.{RunsOver, SettlesOver, IsOnDisk};
+ghost use Rattle.org_store.specs.Runs.{RunsOver, SettlesOver, IsOnDisk};
 ghost use Rattle.org_commands.specs.InOrder.{AreNames, texts_of, with_texts};
 ghost use Rattle.org_commands.specs.Session.{Session, StoreView, Holds};
 ghost use Rattle.org_commands.specs.Step.{Step, Run, IsReply};

@@ -5,6 +5,7 @@
 //! for `run` and `Settles` for `settle`. `laws` says what one call after another does.
 #![tactic(auto)]
 
+mod changing;
 pub mod laws;
 mod store;
 

@@ -11,10 +11,11 @@ ghost use Rattle.org_fileset.specs.Replay.{files_on};
 ghost use Rattle.org_store.specs.Group.{IsGroup};
 ghost use Rattle.org_store.specs.Opening.{IsOpened, IsTransient, disk_of};
 ghost use Rattle.org_store.specs.Reopening.{IsOpenable};
-ghost use Rattle.org_commands.specs.Runs.{SaysBroken, StaysWhereNeedless, Runs, SettlesAll};
-ghost use Rattle.org_commands.specs.Counts.{Counts, SettledCounts};
+ghost use Rattle.org_store.specs.Runs.{SaysBroken, StaysWhereNeedless, Runs, SettlesAll};
+ghost use Rattle.org_store.specs.Counts.{Counts, SettledCounts};
 
-use org_commands::{Command, Executor, Files, Group, Kind, Reply, RunFault, Tally};
+use crate::changing::{change, commit};
+use org_commands::{Command, Files, Group, Kind, Reply, RunFault, Tally, answer};
 use org_disk::{Disk, FileName};
 use org_fileset::OpenRefused;
 use org_outline::States;
@@ -26,27 +27,33 @@ use std::marker::Model;
 /// A clause sees its disk, its session (`Session` of org_commands) and which of its files are
 /// dirty. What is said of replies, files and crashes is said where the disk is honest after the
 /// call; of crashes in `run` and `settle` also only where it was at rest, as an opening of a
-/// recoverable disk and each call without a failure leave it (`LeavesDisk` of org_commands). A
-/// store that is broken does nothing any more: open its files anew.
+/// recoverable disk and each call without a failure leave it (`LeavesDisk`). A store that is broken
+/// does nothing any more: open its files anew.
 #[derive(Drop)]
 pub struct Store<D: Disk> {
-    executor: Executor<D>,
+    // The files, with what is held of their texts.
+    files: Files<D>,
+    // The words that are TODO keywords.
+    states: States,
+    // How many commands were accepted and acknowledged.
+    tally: Tally,
 }
 
 impl<D: Disk> Model for Store<D> {
-    ghost use Rattle.org_commands.specs.Executing.{IsUnedited, view_of};
-    ghost use Rattle.org_commands.specs.Session.{StoreView};
+    ghost use Rattle.std.specs.Prelude.{◌≡◌};
+    ghost use Rattle.org_commands.specs.Session.{StoreView, view_over};
     ghost use Rattle.org_commands.specs.Step.{IsSettled};
-    ghost use Rattle.org_commands.specs.Dirty.{NoneDirty};
+    ghost use Rattle.org_store.specs.Dirty.{NoneDirty};
 
     ghost Value = { StoreView D };
 
-    ghost view = { λ s. view_of D.Disk s.executor };
+    ghost view = { λ s. view_over D.files s.states s.files s.tally };
 
     // Between commands nothing is edited that isn't kept, and where all commands are acknowledged,
     // none of their texts is dirty, and they are on the disk.
-    ghost invariant = { λ s. IsUnedited s.executor × (D.honest s.executor.files.disk
-        → IsSettled (view_of D.Disk s.executor).session × NoneDirty (view_of D.Disk s.executor)) };
+    ghost invariant = { λ s. (s.files.held.now ≡ s.files.held.before) × (D.honest s.files.disk
+        → IsSettled (view_over D.files s.states s.files s.tally).session
+        × NoneDirty (view_over D.files s.states s.files s.tally)) };
 }
 
 impl<D: Disk> Store<D> {
@@ -72,14 +79,12 @@ impl<D: Disk> Store<D> {
     {
         match Files::open(alloc, disk, names) {
             Ok(files) => Ok(Store {
-                executor: Executor {
-                    files,
-                    states,
-                    tally: Tally {
-                        accepted: 0,
-                        acknowledged: 0,
-                        group: Group::Of(1),
-                    },
+                files,
+                states,
+                tally: Tally {
+                    accepted: 0,
+                    acknowledged: 0,
+                    group: Group::Of(1),
                 },
             }),
             Err(refused) => Err(refused),
@@ -90,28 +95,28 @@ impl<D: Disk> Store<D> {
     pub fn accepted(&self) -> u64
         ensures { result ≡ self.now.session.accepted }
     {
-        self.executor.tally.accepted
+        self.tally.accepted
     }
 
     /// How many of the accepted commands are on the disk for certain.
     pub fn acknowledged(&self) -> u64
         ensures { result ≡ self.now.session.acknowledged }
     {
-        self.executor.tally.acknowledged
+        self.tally.acknowledged
     }
 
     /// Whether the store is broken: a call of its disk failed since it was opened.
     pub fn is_broken(&self) -> bool
         ensures { result ≡ self.now.session.broken }
     {
-        self.executor.files.is_broken()
+        self.files.is_broken()
     }
 
     /// How many accepted commands are settled together.
     pub fn group(&self) -> Group
         ensures { result ≡ self.now.session.group }
     {
-        self.executor.tally.group
+        self.tally.group
     }
 
     /// Sets how many accepted commands are settled together. It settles nothing by itself.
@@ -122,15 +127,14 @@ impl<D: Disk> Store<D> {
               { group = group };
         } }
     {
-        self.executor.tally.group = group;
+        self.tally.group = group;
     }
 
     /// The disk. What is accepted and not acknowledged is given up.
     pub fn into_disk(self) -> D
         ensures { result ≡ self.disk }
     {
-        let Store { executor } = self;
-        let Executor { files, .. } = executor;
+        let Store { files, .. } = self;
         files.into_disk()
     }
 
@@ -154,15 +158,13 @@ impl<D: Disk> Store<D> {
         ensures accounts { CountsFailures D.Disk self.old.disk self.new.disk
             (IsErrOf result RunFault.Device) }
     {
-        if self.executor.files.is_broken() {
+        if self.files.is_broken() {
             return Err(RunFault::Broken);
         }
-        if self.executor.tally.acknowledged == self.executor.tally.accepted {
+        if self.tally.acknowledged == self.tally.accepted {
             return Ok(());
         }
-        self.executor.files.commit()?;
-        self.executor.tally.acknowledged = self.executor.tally.accepted;
-        Ok(())
+        commit(&mut self.files, &mut self.tally)
     }
 
     /// Runs one command, and answers as the model does (`Step` of org_commands). `Settle` does as
@@ -172,7 +174,7 @@ impl<D: Disk> Store<D> {
     /// commands that were acknowledged then, or, where this command settles, to those after all
     /// that are accepted when it ends. It writes only where it settles, and no file then but the
     /// dirty ones, those that it gives new texts, and the journal; where no file is dirty and it
-    /// gives none a new text, it writes nothing (`IsLeftAlone` of org_commands).
+    /// gives none a new text, it writes nothing (`IsLeftAlone`).
     ///
     /// # Errors
     ///
@@ -188,15 +190,15 @@ impl<D: Disk> Store<D> {
         ensures accounts { CountsFailures D.Disk self.old.disk self.new.disk
             (IsErrOf result RunFault.Device) }
     {
-        if self.executor.files.is_broken() {
+        if self.files.is_broken() {
             return Err(RunFault::Broken);
         }
         match command.kind() {
-            Kind::Change(asked) => self.executor.change(&asked),
-            Kind::Question(asked) => self.executor.answer(&asked),
+            Kind::Change(asked) => change(&mut self.files, &self.states, &mut self.tally, &asked),
+            Kind::Question(asked) => answer(&mut self.files, &self.states, &asked),
             Kind::Settle => {
                 self.settle()?;
-                Ok(Reply::Safe(self.executor.tally.acknowledged))
+                Ok(Reply::Safe(self.tally.acknowledged))
             }
         }
     }

@@ -1,17 +1,16 @@
 //! The time clocked at a heading and below it.
 ghost use Rattle.std.specs.Prelude.{◌≡◌, true};
 ghost use Rattle.std.specs.Result.{result_map_both};
-ghost use Rattle.org_commands.specs.Executing.{AnswersQuestion};
 ghost use Rattle.org_commands.specs.Files.{AreReadyForCommand};
-ghost use Rattle.org_commands.specs.InOrder.{is_name, text_at};
-ghost use Rattle.org_commands.specs.Outcome.{time};
+ghost use Rattle.org_commands.specs.InOrder.{is_name};
+ghost use Rattle.org_commands.specs.Outcome.{outcome};
+ghost use Rattle.org_commands.specs.Questions.{AnswersQuestion};
 ghost use Rattle.org_commands.specs.Reading.{OnlyReads};
 ghost use Rattle.org_commands.specs.Session.{BetweenSessions};
 ghost use Rattle.org_commands.specs.Step.{Steps};
 
 use crate::command::{Command, Reply, RunFault};
 use crate::commands::outline::outline_of;
-use crate::executor::Executor;
 use crate::files::Files;
 use org_disk::{Disk, FileName};
 use org_outline::{Path, States};
@@ -28,7 +27,7 @@ fn clocked_in_file<D: Disk>(
     requires name { is_name files.old.names file.now ≡ true }
     requires between { AreReadyForCommand files.old }
     ensures does { BetweenSessions D.Disk states.now files.old files.new
-        (λ old new. Steps old (time old path.now (text_at old.names old.files file.now))
+        (λ old new. Steps old (outcome old (Command.Time file.now path.now))
         (result_map_both Reply.Time (λ fault. fault) result) new) }
     ensures disk { OnlyReads D.Disk files.old files.new result }
 {
@@ -37,19 +36,22 @@ fn clocked_in_file<D: Disk>(
     Ok(clocked(&outline_of(held, states), path.as_slice())?)
 }
 
-impl<D: Disk> Executor<D> {
-    /// Answers the time clocked at a heading and below it. `NoSuchFile` where the file is none of
-    /// the store's; then `NotFound` or `NotUnique` of the path. `Device`, which leaves the files
-    /// broken, comes only where reading the file failed, and `OutOfMemory` where memory ran out.
-    /// All texts stay as they are.
-    pub(crate) fn time(&mut self, file: &FileName, path: &Path) -> Result<Reply, RunFault>
-        requires between { AreReadyForCommand self.old.files }
-        ensures { AnswersQuestion D.Disk self.old (Command.Time file.now path.now) result
-            self.new }
-    {
-        self.files.check_name(file)?;
-        let minutes = clocked_in_file(&mut self.files, &self.states, file, path);
-        self.files.undo();
-        Ok(Reply::Time(minutes?))
-    }
+/// Answers the time clocked at a heading and below it. `NoSuchFile` where the file is none of the
+/// store's; then `NotFound` or `NotUnique` of the path. `Device`, which leaves the files broken,
+/// comes only where reading the file failed, and `OutOfMemory` where memory ran out. All texts stay
+/// as they are.
+pub(crate) fn time<D: Disk>(
+    files: &mut Files<D>,
+    states: &States,
+    file: &FileName,
+    path: &Path,
+) -> Result<Reply, RunFault>
+    requires between { AreReadyForCommand files.old }
+    ensures { AnswersQuestion D.Disk states.now files.old (Command.Time file.now path.now) result
+        files.new }
+{
+    files.check_name(file)?;
+    let minutes = clocked_in_file(files, states, file, path);
+    files.undo();
+    Ok(Reply::Time(minutes?))
 }

@@ -1,5 +1,5 @@
 use Rattle.org_journal.specs.Recovered.{contents}
-use Rattle.org_commands.proofs.Keeping.{others_same}
+use Rattle.org_store.proofs.Keeping.{others_same}
 use Rattle.org_store.proofs.Runs.{on_disk_after}
 use Rattle.org_store.proofs.laws.settled_is_on_disk.Goals as goal
 

@@ -2,13 +2,13 @@ use Rattle.std.proofs.Common.{◌∷◌, [], sym, ap, subst, ◌∙◌}
 use Rattle.org_texts.specs.Texts.{TextSet}
 use Rattle.org_commands.specs.Headings.{HasHeading}
 use Rattle.org_commands.specs.Session.{StoreView}
-use Rattle.org_commands.proofs.Acting.{view_same}
 use Rattle.org_commands.proofs.Clocks.{heading_before}
 use Rattle.org_commands.proofs.Faults.{no_value}
 use Rattle.org_commands.proofs.Handing.{handed_on}
 use Rattle.org_commands.proofs.LookingUp.{look_up_fails, look_up_finds, look_up_unread}
 use Rattle.org_commands.proofs.MadeReady.{one_is_ready, one_ready, sees_one}
 use Rattle.org_commands.proofs.Plans.{one_name}
+use Rattle.org_commands.proofs.Sessions.{view_same}
 use Rattle.org_commands.proofs.commands.clock.look_up_in.Goals as goal
 
 pub returns-in_err-ready-clause-finds : goal.returns-in_err-ready-clause-finds

@@ -7,16 +7,16 @@ use Rattle.org_commands.specs.declared.command.Command.TheVariants.{Settle}
 use Rattle.org_commands.specs.declared.command.Reply.{Reply}
 use Rattle.org_commands.specs.InOrder.{texts_of}
 use Rattle.org_commands.specs.Kinds.{asking, changing, command_of}
-use Rattle.org_commands.specs.Left.{IsLeft, IsLeftAlone}
 use Rattle.org_commands.specs.Outcome.{outcome}
-use Rattle.org_commands.specs.Runs.{RunsOver}
-use Rattle.org_commands.specs.Executing.{view_of}
+use Rattle.org_commands.specs.Session.{view_over}
 use Rattle.org_commands.specs.Step.{Step}
-use Rattle.org_store.proofs.Acted.{no_settling_asks, no_settling_changes, ran, runs_broken, runs_idle}
+use Rattle.org_store.specs.Executing.{Executes}
+use Rattle.org_store.specs.Left.{IsLeft, IsLeftAlone}
+use Rattle.org_store.specs.Runs.{RunsOver}
 use Rattle.org_store.proofs.Calls.{reply_of, settling_runs}
-use Rattle.org_store.proofs.Settled.{settled_on}
-use Rattle.org_commands.proofs.Leaving.{leaves_unwritten}
-use Rattle.org_commands.proofs.Dirty.{none_dirty_on}
+use Rattle.org_store.proofs.Executing.{executes_read, no_settling_asks, no_settling_changes, ran, runs_idle}
+use Rattle.org_store.proofs.Leaving.{leaves_unwritten}
+use Rattle.org_store.proofs.Settled.{executes_sound}
 use Rattle.org_store.proofs.store.Store.run.Goals as goal
 
 pub returns-then-is_broken-clause-did : goal.returns-then-is_broken-clause-did
@@ -49,59 +49,59 @@ returns-in_err-settle-in-Settle-clause-did g c = λ honest.
 
 pub returns-in-Change-clause-did : goal.returns-in-Change-clause-did
 returns-in-Change-clause-did g c =
-    let executes = c.change.ensures.executes in
+    let unbroken : c.self.inside.files.broken ≡ false = search rules in
     let is : changing c.in-Change.asked ≡ c.args.command.now = ap command_of (sym c.in-Change.is) ∙ c.kind.ensures in
-    rw (← c.self.view_is, ← is) (λ honest. ran g.D.Disk _ _ _ _ (no_settling_changes c.in-Change.asked) (executes) c.change.ensures.dirty_files honest)
+    rw (← c.self.view_is, ← is) (ran g.D.Disk _ _ _ _ unbroken (no_settling_changes c.in-Change.asked) c.change.ensures.executes)
 
 pub returns-in-Change-clause-counts : goal.returns-in-Change-clause-counts
-returns-in-Change-clause-counts g c = rw (← c.self.view_is) (c.change.ensures.executes).counts
+returns-in-Change-clause-counts g c =
+    rw (← c.self.view_is) c.change.ensures.executes.counts
 
 pub returns-in-Change-clause-idle : goal.returns-in-Change-clause-idle
 returns-in-Change-clause-idle g c =
+    let unbroken : c.self.inside.files.broken ≡ false = search rules in
     let is : changing c.in-Change.asked ≡ c.args.command.now = ap command_of (sym c.in-Change.is) ∙ c.kind.ensures in
-    rw (← c.self.view_is, ← is) (runs_idle g.D.Disk _ _ _ _ (no_settling_changes c.in-Change.asked) (c.change.ensures.executes))
+    rw (← c.self.view_is, ← is) (runs_idle g.D.Disk _ _ _ _ unbroken (no_settling_changes c.in-Change.asked) c.change.ensures.executes)
 
 pub returns-in-Change-clause-broken : goal.returns-in-Change-clause-broken
 returns-in-Change-clause-broken g c =
-    let unbroken : c.self.inside.executor.files.broken ≡ false = search rules in
-    rw (← c.self.view_is) (runs_broken g.D.Disk _ _ _ _ unbroken (c.change.ensures.executes))
+    rw (← c.self.view_is) c.change.ensures.executes.broken
 
 pub returns-in-Change-clause-accounts : goal.returns-in-Change-clause-accounts
-returns-in-Change-clause-accounts g c = rw (← c.self.view_is) c.change.ensures.accounts
+returns-in-Change-clause-accounts g c =
+    rw (← c.self.view_is) c.change.ensures.executes.accounts
 
 pub returns-in-Question-clause-did : goal.returns-in-Question-clause-did
 returns-in-Question-clause-did g c =
-    let executes = c.answer.ensures.executes in
+    let unbroken : c.self.inside.files.broken ≡ false = search rules in
     let is : asking c.in-Question.asked ≡ c.args.command.now = ap command_of (sym c.in-Question.is) ∙ c.kind.ensures in
-    rw (← c.self.view_is, ← is) (λ honest. ran g.D.Disk _ _ _ _ (no_settling_asks c.in-Question.asked) (executes) (λ honest. c.answer.ensures.dirty_files) honest)
+    rw (← c.self.view_is, ← is) (ran g.D.Disk _ _ _ _ unbroken (no_settling_asks c.in-Question.asked) (executes_read g.D.Disk c.self.inside.states c.self.inside.files c.self.inside.tally (λ honest image left. g.met.D.Disk.only_now c.self.inside.files.disk image honest left) unbroken c.answer.new.files _ c.answer.result c.answer.ensures.uncounted c.answer.ensures.disk (c.answer.ensures.steps c.self.inside.tally)))
 
 pub returns-in-Question-clause-counts : goal.returns-in-Question-clause-counts
-returns-in-Question-clause-counts g c = rw (← c.self.view_is) (c.answer.ensures.executes).counts
+returns-in-Question-clause-counts g c =
+    let unbroken : c.self.inside.files.broken ≡ false = search rules in
+    rw (← c.self.view_is) (executes_read g.D.Disk c.self.inside.states c.self.inside.files c.self.inside.tally (λ honest image left. g.met.D.Disk.only_now c.self.inside.files.disk image honest left) unbroken c.answer.new.files _ c.answer.result c.answer.ensures.uncounted c.answer.ensures.disk (c.answer.ensures.steps c.self.inside.tally)).counts
 
 pub returns-in-Question-clause-idle : goal.returns-in-Question-clause-idle
 returns-in-Question-clause-idle g c =
+    let unbroken : c.self.inside.files.broken ≡ false = search rules in
     let is : asking c.in-Question.asked ≡ c.args.command.now = ap command_of (sym c.in-Question.is) ∙ c.kind.ensures in
-    rw (← c.self.view_is, ← is) (runs_idle g.D.Disk _ _ _ _ (no_settling_asks c.in-Question.asked) (c.answer.ensures.executes))
+    rw (← c.self.view_is, ← is) (runs_idle g.D.Disk _ _ _ _ unbroken (no_settling_asks c.in-Question.asked) (executes_read g.D.Disk c.self.inside.states c.self.inside.files c.self.inside.tally (λ honest image left. g.met.D.Disk.only_now c.self.inside.files.disk image honest left) unbroken c.answer.new.files _ c.answer.result c.answer.ensures.uncounted c.answer.ensures.disk (c.answer.ensures.steps c.self.inside.tally)))
 
 pub returns-in-Question-clause-broken : goal.returns-in-Question-clause-broken
 returns-in-Question-clause-broken g c =
-    let unbroken : c.self.inside.executor.files.broken ≡ false = search rules in
-    rw (← c.self.view_is) (runs_broken g.D.Disk _ _ _ _ unbroken (c.answer.ensures.executes))
+    let unbroken : c.self.inside.files.broken ≡ false = search rules in
+    rw (← c.self.view_is) (executes_read g.D.Disk c.self.inside.states c.self.inside.files c.self.inside.tally (λ honest image left. g.met.D.Disk.only_now c.self.inside.files.disk image honest left) unbroken c.answer.new.files _ c.answer.result c.answer.ensures.uncounted c.answer.ensures.disk (c.answer.ensures.steps c.self.inside.tally)).broken
 
 pub returns-in-Question-clause-accounts : goal.returns-in-Question-clause-accounts
-returns-in-Question-clause-accounts g c = rw (← c.self.view_is) c.answer.ensures.accounts
+returns-in-Question-clause-accounts g c =
+    let unbroken : c.self.inside.files.broken ≡ false = search rules in
+    rw (← c.self.view_is) (executes_read g.D.Disk c.self.inside.states c.self.inside.files c.self.inside.tally (λ honest image left. g.met.D.Disk.only_now c.self.inside.files.disk image honest left) unbroken c.answer.new.files _ c.answer.result c.answer.ensures.uncounted c.answer.ensures.disk (c.answer.ensures.steps c.self.inside.tally)).accounts
+
+pub invariant_of-self : goal.invariant_of-self
+invariant_of-self g c = (c.change.ensures.unedited, executes_sound g.D.Disk _ _ _ c.change.result c.self.inside.tally.ordered c.change.ensures.executes c.self.invariant.1)
 
 pub invariant_of-self-in-Question : goal.invariant_of-self-in-Question
 invariant_of-self-in-Question g c =
-    let old = view_of g.D.Disk c.self.inside.executor in
-    let new = view_of g.D.Disk c.answer.new.self in
-    let told = outcome old.session (asking c.in-Question.asked) in
-    let ordered = c.self.inside.executor.tally.ordered in (
-      c.answer.ensures.unedited,
-      λ honest.
-          let was = c.self.invariant.1 (c.answer.ensures.accounts.was_honest honest) in
-          let does = c.answer.ensures.executes.does honest in (
-            settled_on old.session new.session told c.answer.result does ordered was.0,
-            none_dirty_on old new told c.answer.result does c.answer.ensures.dirty_files ordered was.1,
-          ),
-    )
+    let unbroken : c.self.inside.files.broken ≡ false = search rules in
+    (c.answer.ensures.unedited, executes_sound g.D.Disk _ _ _ c.answer.result c.self.inside.tally.ordered (executes_read g.D.Disk c.self.inside.states c.self.inside.files c.self.inside.tally (λ honest image left. g.met.D.Disk.only_now c.self.inside.files.disk image honest left) unbroken c.answer.new.files _ c.answer.result c.answer.ensures.uncounted c.answer.ensures.disk (c.answer.ensures.steps c.self.inside.tally)) c.self.invariant.1)

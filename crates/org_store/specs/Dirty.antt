@@ -1,9 +1,8 @@
 -- Which files of a store are dirty: those that accepted commands gave new texts since all
 -- was settled.
-use Rattle.std.specs.Prelude.{◌≡◌, ℕ, Bool, true, List, [], ◌++◌, Result, Ok, Err, IsTrue, if◌then◌else◌}
+use Rattle.std.specs.Prelude.{◌≡◌, ℕ, Bool, true, List, [], ◌++◌, Result, Ok, Err, IsTrue}
 use Rattle.std.specs.List.{list_any}
 use Rattle.std.specs.Str.{bytes_eq}
-use Rattle.org_texts.specs.Texts.{Holding}
 use Rattle.org_commands.specs.declared.command.Reply.{Reply}
 use Rattle.org_commands.specs.declared.command.Reply.TheVariants.{Done, Safe, Text, Time}
 use Rattle.org_commands.specs.declared.command.RunFault.{RunFault}
@@ -41,16 +40,3 @@ NoneDirty kept = kept.session.acknowledged ≡ kept.session.accepted → kept.di
 abbrev pub DirtyAfterSettled : List (List ℕ) → Result (Unit {0}) RunFault → List (List ℕ) → Type 0
 DirtyAfterSettled old (Ok _) new = new ≡ []
 DirtyAfterSettled old (Err fault) new = new ≡ old
-
--- Which texts are dirty once a command that edited them was counted: none where it fills the group,
--- else all dirty ones as they are; where it isn't counted, those of before the command.
-abbrev pub DirtyAfterCounted : {A : Type 0} → Bool → Holding → Result A RunFault → Holding → Type 0
-DirtyAfterCounted full old (Ok _) new = new.before.dirty ≡ (if full then [] else old.now.dirty)
-DirtyAfterCounted full old (Err fault) new = new.before.dirty ≡ old.before.dirty
-
--- The same of a command that was planned to give these files new texts.
-abbrev pub DirtyAfterAccepted : {A : Type 0} → Bool → List (List ℕ) → Holding → Result A RunFault
-    → Holding → Type 0
-DirtyAfterAccepted full names old (Ok _) new =
-    (IsTrue full → new.before.dirty ≡ []) × Dirties old.before.dirty names new.before.dirty
-DirtyAfterAccepted full names old (Err fault) new = new.before.dirty ≡ old.before.dirty

@@ -17,8 +17,8 @@ use Rattle.org_commands.specs.Outcome.{changed, counted}
 use Rattle.org_commands.specs.Session.{session_over}
 use Rattle.org_commands.proofs.Held.{plan_held, plan_other}
 use Rattle.org_commands.proofs.InOrder.{texts_same, texts_with}
-use Rattle.org_commands.proofs.Keeping.{counts_small}
-use Rattle.org_commands.proofs.Dirty.{names_in}
+use Rattle.org_store.proofs.Keeping.{counts_small}
+use Rattle.org_store.proofs.Dirty.{names_in}
 
 -- one file with a text of a set
 abbrev with_one : TextSet → List ℕ → Image → Image

@@ -9,21 +9,10 @@ use Rattle.org_fileset.proofs.Writes.{alone_fewer, alone_looks, alone_then}
 use Rattle.org_commands.specs.InOrder.{texts_of, with_texts}
 use Rattle.org_commands.proofs.Committing.{leaves_as}
 use Rattle.org_commands.specs.Session.{StoreView, Holds}
-use Rattle.org_commands.specs.Runs.{LeavesDisk}
-use Rattle.org_commands.proofs.Keeping.{left_at_rest, others_unwritten}
+use Rattle.org_store.specs.Runs.{LeavesDisk}
+use Rattle.org_store.proofs.Keeping.{left_at_rest, others_unwritten}
 
 module _ {D : Type 0} (g : Ghosts D) where
-  -- less is said of what a crash leaves, and of failures
-  pub leaves_weaker : (old new : StoreView D) (Was Left : Image → Type 0) (Under Alone : List ℕ → Type 0) (Fell Failed : Type 0) → LeavesDisk g old new Was Under Fell → ((image : Image) → Was image → Left image)
-      → ((name : List ℕ) → Alone name → Under name) → (Fell → Failed) → LeavesDisk g old new Left Alone Failed
-  leaves_weaker old new Was Left Under Alone Fell Failed leaves weaker fewer failed = record {
-    any_moment = λ rest. leaves_as (leaves.any_moment rest) weaker;
-    others = λ fine. leaves.others (λ fell. fine (failed fell));
-    rest = λ fine. leaves.rest (λ fell. fine (failed fell));
-    recoverable = leaves.recoverable;
-    alone = alone_fewer g Alone Under old.disk new.disk leaves.alone fewer;
-  }
-
   -- The settled texts are those of the disk's files, and a crash at the start leaves an image of
   -- these. What is left then recovers to what is settled, and that is allowed.
   module _ (old : StoreView D) (Left : Image → Type 0) (Alone : List ℕ → Type 0) (Failed : Type 0) (start : (image : Image) → g.left_since old.disk (g.instant old.disk) image → AreImages (g.files old.disk) image)

@@ -16,7 +16,7 @@ use Rattle.org_commands.specs.Session.{session_over}
 use Rattle.org_commands.proofs.Faults.{fine_is_no_fault}
 use Rattle.org_commands.proofs.Reading.{only_reads_fault, only_reads_fine}
 use Rattle.org_commands.proofs.Sessions.{some_planned}
-use Rattle.org_commands.proofs.changing.plan.Goals as goal
+use Rattle.org_commands.proofs.commands.plan.Goals as goal
 
 -- a planner that always has a plan, as one of those that may have none: the plan fits ..
 some_fits : (P : Plan → Type 0) (first : Result Plan RunFault) (answer : Result (Option Plan) RunFault) → MatchResult first (λ plan. IsOkAnd answer (λ given. given ≡ Some plan)) (λ fault. answer ≡ Err fault)

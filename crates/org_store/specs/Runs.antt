@@ -15,8 +15,8 @@ use Rattle.org_commands.specs.InOrder.{with_texts}
 use Rattle.org_commands.specs.Session.{Session, StoreView}
 use Rattle.org_commands.specs.Outcome.{AsksToSettle, outcome}
 use Rattle.org_commands.specs.Step.{Step, Settles}
-use Rattle.org_commands.specs.Left.{IsLeft, IsLeftAlone}
-use Rattle.org_commands.specs.Dirty.{DirtyAfter, DirtyAfterSettled}
+use Rattle.org_store.specs.Left.{IsLeft, IsLeftAlone}
+use Rattle.org_store.specs.Dirty.{DirtyAfter, DirtyAfterSettled}
 
 -- What a call of a store leaves of its disk, where the disk is honest after it. `Left` is what a
 -- crash may leave while the call runs, `Alone` are the files that it leaves alone, and `Failed`

@@ -12,8 +12,8 @@ use Rattle.org_commands.specs.InOrder.{texts_of, with_all, with_texts}
 use Rattle.org_commands.specs.Session.{Session, Holds}
 use Rattle.org_commands.specs.Step.{fills}
 use Rattle.org_commands.specs.Outcome.{Outcome, Refuses, changed, counted}
-use Rattle.org_commands.specs.Counts.{SameCounts}
-use Rattle.org_commands.specs.Left.{IsLeft, MayHaveWritten}
+use Rattle.org_store.specs.Counts.{SameCounts}
+use Rattle.org_store.specs.Left.{IsLeft, MayHaveWritten}
 use Rattle.org_commands.proofs.InOrder.{told_by_texts, holds_told}
 
 -- what a crash leaves of files at rest
@@ -44,14 +44,3 @@ counts_small s changes small = rw small refl
 
 pub refuses_large : (s : Session) (changes : List (List ℕ × List ℕ)) → has_large changes ≡ true → changed s changes ≡ Refuses TooLarge
 refuses_large s changes large = rw large refl
-
-pub same_fault : (fault other : RunFault) → ◌≡◌ {A = Result (Unit {0}) RunFault} (Err fault) (Err other) → ◌≡◌ {A = Result Reply RunFault} (Err fault) (Err other)
-same_fault fault other same = let one : fault ≡ other = cc in ap (λ (f : RunFault). Err f) one
-
--- the counts after a plan that left them and an accepted command
-pub counts_done : (old mid new : Session) (n : ℕ) → SameCounts old mid → n ≡ new.accepted → (new.accepted ≡ mid.accepted + 1) × (new.acknowledged ≡ (if fills mid then mid.accepted + 1 else mid.acknowledged)) × (new.group ≡ mid.group)
-    → (n ≡ old.accepted + 1) × (new.accepted ≡ n) × (new.acknowledged ≡ (if fills old then n else old.acknowledged)) × (new.group ≡ old.group)
-counts_done old mid new n same is made =
-    let more : n ≡ old.accepted + 1 = is ∙ made.0 ∙ ap (λ (k : ℕ). k + 1) same.accepted in
-    let settled : (if fills mid then mid.accepted + 1 else mid.acknowledged) ≡ (if fills old then old.accepted + 1 else old.acknowledged) = rw (same.accepted, same.acknowledged, same.group) refl in
-    (more, sym is, made.1 ∙ settled ∙ ap (λ (k : ℕ). if fills old then k else old.acknowledged) (sym more), made.2 ∙ same.group)
