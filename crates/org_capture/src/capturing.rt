@@ -69,6 +69,20 @@ fn below_head(
 ///   heading made with the title would read back with another title, a keyword, a priority or tags.
 /// - `NotUnique`: several headings have the title of a step without a number.
 /// - `OutOfMemory`.
+///
+/// # Examples
+///
+/// `now` is 2026-07-01 10:00, and the headings of its day are made:
+///
+/// ```
+/// let outline = Outline::read(alloc, b"* 2027\n", &states)?;
+/// let day = Target::Date(Path::new(Vec::new(alloc)));
+/// let entry = entry(b"* N".to_vec(alloc)?)?;
+/// let edit = capture(alloc, &outline, &day, Place::Last, now, entry)?;
+/// let made = b"* 2026\n** 2026-07 July\n*** 2026-07-01 Wednesday\n**** N\n";
+/// assert_eq!(rt; edit.at, 0);
+/// assert_eq!(rt; edit.bytes.as_slice(), made.as_slice());
+/// ```
 pub fn capture(
     alloc: Global,
     outline: &Outline<'_>,

@@ -74,6 +74,15 @@ impl FileName {
     ///
     /// - `BadName`: exactly where `accepts` refuses the text; the journal's name is one of those.
     /// - `OutOfMemory`.
+    ///
+    /// # Examples
+    ///
+    /// ```
+    /// let name = FileName::new(alloc, "work.org")?;
+    /// assert_eq!(rt; name.as_str(), "work.org");
+    /// assert!(rt; FileName::new(alloc, "notes/work.org").is_err());
+    /// assert!(rt; FileName::new(alloc, "orgstore.journal").is_err());
+    /// ```
     pub fn new(alloc: Global, text: &str) -> Result<FileName, NameFault>
         ensures name { IfOk result (λ name. name ≡ text.now) }
         ensures accepted { OnOk result (IsTrue (is_file_name text.now)) }

@@ -24,6 +24,18 @@ const MOST_FIELDS: usize = 7;
 ///
 /// - `BadLine`: exactly where it is none.
 /// - `OutOfMemory`.
+///
+/// # Examples
+///
+/// ```
+/// let line = b"edit\ta.org\t2\tA\tC";
+/// let Command::Edit(edit) = read_command(alloc, line)? else {
+///     panic!(rt; "another command")
+/// };
+/// assert_eq!(rt; edit.at, 2);
+/// assert_eq!(rt; edit.new.as_slice(), b"C".as_slice());
+/// assert!(rt; read_command(alloc, b"edit\ta.org").is_err());
+/// ```
 pub fn read_command(alloc: Global, line: &[u8]) -> Result<Command<'_>, Fault<BadLine>>
     ensures { Parses result (command_of line.now) }
 {

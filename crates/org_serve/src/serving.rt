@@ -58,6 +58,19 @@ enum Next {
 /// `crashes_leave_a_prefix`, a law. A store that was broken is left as it is; one that wasn't is
 /// broken only where its disk counted a failure, and where it isn't, none was counted. It is broken
 /// where this ends with `Device`, and isn't where it ends with `End` or `Unsettled`.
+///
+/// # Examples
+///
+/// Over a store whose a.org is `* TODO A`:
+///
+/// ```
+/// let mut input = Counted::new(b"todo\ta.org\tA\tDONE\t2026-07-01 10:00\n".as_slice());
+/// let mut output = Counted::new(Vec::new(alloc));
+/// let end = serve(alloc, &mut store, &mut input, &mut output, 1_000);
+/// assert!(rt; matches!(end, ServeEnd::End));
+/// let replies = output.into_inner();
+/// assert_eq!(rt; replies.as_slice(), b"ok 1\nsafe 1\n".as_slice());
+/// ```
 pub fn serve<D: Disk, R: Source, W: Sink>(
     alloc: Global,
     store: &mut Store<D>,

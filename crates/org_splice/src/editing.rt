@@ -91,6 +91,18 @@ impl Editing {
     /// # Errors
     ///
     /// `AllocError`: the text stays as it is.
+    ///
+    /// # Examples
+    ///
+    /// ```
+    /// let mut text = Editing::new(b"* A\n* B\n".to_vec(alloc)?);
+    /// text.splice(2, 1, b"C")?;
+    /// text.splice(6, 1, b"D")?;
+    /// assert_eq!(rt; text.bytes(), b"* C\n* D\n".as_slice());
+    /// assert_eq!(rt; text.patches()?.len(), 2);
+    /// text.undo();
+    /// assert_eq!(rt; text.bytes(), b"* A\n* B\n".as_slice());
+    /// ```
     pub fn splice(&mut self, at: usize, removed: usize, bytes: &[u8]) -> Result<(), AllocError>
         requires { at + removed ≤ length self.old.text.bytes }
         ensures ok { OnOk result

@@ -212,6 +212,20 @@ impl Change<'_> {
 /// In this order: `NotFound` or `NotUnique` of `path`; `UnknownState`; for an entry that turns done
 /// or back, `OddPlanning` where its planning line isn't well formed; for one that is repeated,
 /// `BadRepeat` or `DateRange`, of several the first entry's; and `OutOfMemory`.
+///
+/// # Examples
+///
+/// `path` leads to `A`, and `now` is 2026-07-01 10:00:
+///
+/// ```
+/// let outline = Outline::read(alloc, b"* TODO A\n", &states)?;
+/// let edits = todo(alloc, &outline, &path, b"DONE", now)?;
+/// assert_eq!(rt; edits.len(), 2);
+/// let mut text = Editing::new(outline.text().to_vec(alloc)?);
+/// text.apply_near(&edits[0], &edits[1..])?;
+/// let done = b"* DONE A\nCLOSED: [2026-07-01 Wed 10:00]\n";
+/// assert_eq!(rt; text.bytes(), done.as_slice());
+/// ```
 pub fn todo(
     alloc: Global,
     outline: &Outline<'_>,

@@ -65,6 +65,20 @@ impl<D: Disk> Store<D> {
     ///
     /// Those of `FileSet::open`, with the disk handed back. On a disk that recovers to files of
     /// these names, none past the limit, `Device` and `OutOfMemory` alone.
+    ///
+    /// # Examples
+    ///
+    /// Over a disk in memory that has no file:
+    ///
+    /// ```
+    /// let names = vec![in alloc; org_file(alloc, "a.org")?]?;
+    /// let states = States::new(alloc, &["TODO"], &["DONE"])?;
+    /// let Ok(store) = Store::open(alloc, MemoryDisk::new(alloc), names, states) else {
+    ///     panic!(rt; "not opened")
+    /// };
+    /// assert_eq!(rt; store.accepted(), 0);
+    /// assert_eq!(rt; store.acknowledged(), 0);
+    /// ```
     pub fn open(
         alloc: Global,
         disk: D,
@@ -150,6 +164,18 @@ impl<D: Disk> Store<D> {
     /// - `Broken`: exactly where the store was broken before.
     /// - `OutOfMemory`: files and counts are as they were.
     /// - `Device`: the disk counted a failure in this call; the store is broken.
+    ///
+    /// # Examples
+    ///
+    /// In groups of 1,000 the command `todo` is pending once it is accepted:
+    ///
+    /// ```
+    /// store.set_group(Group::Of(1_000));
+    /// assert!(rt; store.run(&todo).is_ok());
+    /// assert_eq!(rt; (store.accepted(), store.acknowledged()), (1, 0));
+    /// assert!(rt; store.settle().is_ok());
+    /// assert_eq!(rt; (store.accepted(), store.acknowledged()), (1, 1));
+    /// ```
     pub fn settle(&mut self) -> Result<(), RunFault>
         ensures did { SettlesAll D.Disk self.old result self.new }
         ensures counts { SettledCounts self.old.session result self.new.session }
@@ -182,6 +208,19 @@ impl<D: Disk> Store<D> {
     /// - `Refused`, `OutOfMemory`: files and counts are as they were; where a settling finds no
     ///   memory, this command is undone, and those before it stay pending.
     /// - `Device`: the disk counted a failure in this call; the store is broken.
+    ///
+    /// # Examples
+    ///
+    /// In a store whose a.org is `* TODO A`, where no clock runs:
+    ///
+    /// ```
+    /// let line = b"todo\ta.org\tA\tDONE\t2026-07-01 10:00";
+    /// let todo = read_command(alloc, line).expect(&rt, "a command");
+    /// assert!(rt; matches!(store.run(&todo), Ok(Reply::Done(1))));
+    /// let clock_out = Command::ClockOut { moment: now };
+    /// assert!(rt; store.run(&clock_out).is_err());
+    /// assert_eq!(rt; store.accepted(), 1);
+    /// ```
     pub fn run(&mut self, command: &Command<'_>) -> Result<Reply, RunFault>
         ensures did { Runs D.Disk self.old command.now result self.new }
         ensures counts { Counts self.old.session result self.new.session }
