@@ -139,9 +139,11 @@ class Found(FolderTest):
 
 class Loaded(FolderTest):
     def loaded(self, *words: str) -> Set[str]:
-        """The modules that a run of orgs loads."""
+        """The modules that a run of orgs loads, where an earlier one has made the folder of the log of `undo`."""
+        state = os.path.join(self.room, "state")
+        os.makedirs(os.path.join(state, "orgstore"), exist_ok=True)
         ended = subprocess.run([sys.executable, "-ISXutf8", "-Ximporttime", ORGS, *words], capture_output=True,
-                               text=True, check=True, timeout=60)
+                               text=True, check=True, timeout=60, env={**os.environ, "XDG_STATE_HOME": state})
         return {line.rpartition("|")[2].strip() for line in ended.stderr.splitlines()}
 
     def test_slow_modules(self) -> None:

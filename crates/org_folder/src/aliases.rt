@@ -1,12 +1,13 @@
 //! That each two of a store's names lead to two files.
 //!
 //! Two names of one file (links) would be written as two. It looks and changes nothing.
-ghost use Rattle.std.specs.Prelude.{◌≡◌, ◌⊎◌, ◌<◌, ℕ, length, IfOk, IfErr, IfSome, IfNone, IsTrue, IsFalse};
+ghost use Rattle.std.specs.Prelude.{◌≡◌, ◌<◌, ℕ, length, IfOk, IfErr, IfSome, IfNone, IsTrue, IsFalse};
 ghost use Rattle.std.specs.List.{list_any};
 ghost use Rattle.org_folder.specs.Aliases.{is_again, is_same, MayReport};
 ghost use Rattle.org_folder.specs.Right.{HaveNoFiles};
 ghost use Rattle.org_folder.specs.Calls.{IsHeld, OnlyLooks};
-ghost use Rattle.org_folder.specs.declared.aliases.AliasFault.TheVariants.{Device, OutOfMemory, SameFile};
+ghost use Rattle.org_folder.specs.declared.aliases.AliasFault.TheVariants.{SameFile, Unseen};
+ghost use Rattle.org_folder.specs.declared.list.ListFault.TheVariants.{OutOfMemory};
 
 use crate::list::ListFault;
 use crate::system::System;
@@ -21,30 +22,24 @@ pub enum AliasFault {
     /// This name leads to the file of one before it.
     #[error("the file of {0} has another name")]
     SameFile(FileName),
-    /// A name can't be looked at.
-    #[error("a name can't be looked at")]
-    Device,
-    /// There was no memory for the names' paths.
-    #[error("out of memory")]
-    OutOfMemory,
+    /// A name can't be looked at, or there was no memory for that.
+    #[error("a name can't be looked at: {0}")]
+    Unseen(ListFault),
 }
 
 impl From<AllocError> for AliasFault {
-    ghost from_gives = { λ _ fault. fault ≡ OutOfMemory };
+    ghost from_gives = { λ _ fault. fault ≡ Unseen OutOfMemory };
 
     fn from(_: AllocError) -> AliasFault {
-        AliasFault::OutOfMemory
+        AliasFault::Unseen(ListFault::OutOfMemory)
     }
 }
 
 impl From<ListFault> for AliasFault {
-    ghost from_gives = { λ _ fault. (fault ≡ Device) ⊎ (fault ≡ OutOfMemory) };
+    ghost from_gives = { λ cause fault. fault ≡ Unseen cause };
 
     fn from(fault: ListFault) -> AliasFault {
-        match fault {
-            ListFault::Device => AliasFault::Device,
-            ListFault::OutOfMemory => AliasFault::OutOfMemory,
-        }
+        AliasFault::Unseen(fault)
     }
 }
 
@@ -81,8 +76,7 @@ impl Node {
 /// # Errors
 ///
 /// - `SameFile`: the first name that leads to the file of one before it.
-/// - `Device`: a name can't be looked at.
-/// - `OutOfMemory`.
+/// - `Unseen`: a name can't be looked at, or there was no memory for that.
 #[tactic(auto, using(crate::proofs::Looked::held_on))]
 pub fn check_aliases<S: System>(
     alloc: Global,

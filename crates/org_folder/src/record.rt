@@ -1,12 +1,13 @@
 //! The record of the calls, which stands in proofs alone and takes no memory.
 //!
-//! Its two functions are proved by hand, since no code can set it: it is to be read, and no other
+//! `new` and `note` are proved by hand, since no code can set it: it is to be read, and no other
 //! proof by hand may set a record.
 ghost use Rattle.std.specs.Prelude.{◌≡◌, List, [], ◌∷◌};
 ghost use Rattle.std.specs.Borrow.{ftrue};
 ghost use Rattle.org_folder.specs.Calls.{Event};
 ghost use Rattle.org_folder.specs.Note.{event_of};
 
+use org_disk::FileName;
 use std::marker::{Model, PhantomData};
 
 /// A call with its answer, but for the file's name and the bytes. A write, a cut and a sync say
@@ -54,4 +55,11 @@ impl Record {
     pub(crate) fn note(&mut self, _call: Call, _name: &[u8], _bytes: &[u8])
         ensures { self.new.events ≡ event_of _call _name.now _bytes.now ∷ self.old.events }
     {}
+
+    // Notes a call on the file of this name, which read or wrote these bytes.
+    pub(crate) fn note_file(&mut self, call: Call, name: &FileName, bytes: &[u8])
+        ensures { self.new.events ≡ event_of call name.now bytes.now ∷ self.old.events }
+    {
+        self.note(call, name.as_str().as_bytes(), bytes);
+    }
 }

@@ -3,7 +3,7 @@
 //! Code that is generic over `System` has no other way to the folder. The record stands in proofs
 //! alone. Whether its answers were right is the premise under which a folder is an honest disk.
 ghost use Rattle.std.specs.Prelude.{◌≡◌, List, ◌∷◌, is_ok, map, string_bytes, IsTrue, IsFalse, IfOk, IfSome, IfNone, OnOk, OnErr};
-ghost use Rattle.org_folder.specs.Calls.{Event, HasEntered, IsWithin, World, with_entries};
+ghost use Rattle.org_folder.specs.Calls.{Event, HasEntered, IsWithin, World, is_held, with_entries};
 ghost use Rattle.org_folder.specs.Calls.Event.{Absent, Cut, Entered, Filled, Length, Listed, Locked, Made, Read, Sync, There, Unseen, Write};
 
 use crate::aliases::Node;
@@ -24,6 +24,7 @@ pub use host::{HostSystem, Locks};
 #[derive(Drop)]
 struct Reached<F> {
     file: F,
+    is_writable: bool,
     // no link led to it, and it wasn't made
     is_own: bool,
     seen: Seen,
@@ -35,6 +36,8 @@ struct Reached<F> {
 pub struct Opened<F> {
     name: FileName,
     file: F,
+    // it was opened for writing too
+    is_writable: bool,
     // it was found in the folder itself: no link led to it, and it wasn't made
     is_own: bool,
     // its entry in the folder is known to be on the device
@@ -52,6 +55,7 @@ impl<F: Drop> Opened<F> {
             Ok(name) => Ok(Opened {
                 name,
                 file: file.file,
+                is_writable: file.is_writable,
                 is_own: file.is_own,
                 is_entered: false,
                 seen: Cell::new(file.seen),
@@ -110,8 +114,9 @@ pub trait System {
         ensures err { OnErr result (history self.new ≡ history self.old) };
 
     /// Locks the folder at a path, as far as the system locks it, until this is dropped or its
-    /// process ends. It is the folder of all calls that follow.
+    /// process ends. It is the folder of all calls that follow: no other one is locked behind it.
     fn lock(&mut self, path: &str) -> Result<(), LockFault>
+        requires { IsFalse (is_held (history self.old)) }
         ensures ok { OnOk result (history self.new ≡ Locked path.now ∷ history self.old) }
         ensures err { OnErr result (history self.new ≡ history self.old) };
 
@@ -184,7 +189,8 @@ pub trait System {
 
     /// Puts a file on the device. Its entry in the folder was put there before.
     fn sync(&mut self, opened: &Opened<Self::File>) -> Result<(), DiskFault>
-        requires { HasEntered opened.now.name (history self.old) }
+        requires this { IsTrue opened.now.is_entered }
+        requires named { HasEntered opened.now.name (history self.old) }
         ensures { history self.new ≡ Sync opened.now.name (is_ok result) ∷ history self.old };
 
     /// Puts the entry of a file in its folder on the device. A call that fails leaves it as little

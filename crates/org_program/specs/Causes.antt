@@ -45,8 +45,7 @@ locking lock.OutOfMemory = Open refused.OutOfMemory
 -- why names couldn't be shown to lead to files of their own
 abbrev pub sharing : AliasFault → Fault
 sharing (alias.SameFile name) = SameFile name
-sharing alias.Device = Open refused.Device
-sharing alias.OutOfMemory = Open refused.OutOfMemory
+sharing (alias.Unseen cause) = listing cause
 
 -- why the states couldn't be had
 abbrev pub stating : StatesFault → Fault
@@ -74,8 +73,8 @@ pub record MayBeShared (names : List (List ℕ)) (name : List ℕ) : Type 0 wher
 -- what may be reported of where the names of a store lead; of too many names nothing is
 abbrev pub MayShare : List (List ℕ) → AliasFault → Type 0
 MayShare names (alias.SameFile name) = MayBeShared names name
-MayShare names alias.Device = AreFew names
-MayShare names alias.OutOfMemory = Unit {0}
+MayShare names (alias.Unseen list.Device) = AreFew names
+MayShare names (alias.Unseen list.OutOfMemory) = Unit {0}
 
 -- the names and the states of the arguments are a store's
 abbrev pub NameAStore : Arguments → Type 0

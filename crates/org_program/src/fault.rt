@@ -89,8 +89,7 @@ impl From<AliasFault> for Fault {
     fn from(fault: AliasFault) -> Fault {
         match fault {
             AliasFault::SameFile(name) => Fault::SameFile(name),
-            AliasFault::Device => Fault::Open(OpenFault::Device),
-            AliasFault::OutOfMemory => Fault::Open(OpenFault::OutOfMemory),
+            AliasFault::Unseen(cause) => Fault::from(cause),
         }
     }
 }

@@ -2,10 +2,10 @@
 //!
 //! The order is fixed: words, names, states, lock, listing, two names of one file, opening. The
 //! folder isn't listed where the words name the only files of the store.
-ghost use Rattle.std.specs.Prelude.{◌≡◌, ◌∷◌, ◌++◌, map, string_bytes, IfOk, IfErr, OnOk, All};
+ghost use Rattle.std.specs.Prelude.{◌≡◌, ◌∷◌, ◌++◌, map, string_bytes, IfOk, IfErr, IsFalse, OnOk, All};
 ghost use Rattle.org_disk.specs.Names.{IsOrgFile};
 ghost use Rattle.org_folder.specs.Right.{HaveNoFiles};
-ghost use Rattle.org_folder.specs.Calls.{OnlyLooks};
+ghost use Rattle.org_folder.specs.Calls.{OnlyLooks, is_held};
 ghost use Rattle.org_folder.specs.Calls.Event.{Filled};
 ghost use Rattle.org_serve.specs.Writes.{exchange};
 ghost use Rattle.org_store.specs.Group.{IsGroup};
@@ -54,8 +54,9 @@ pub struct Unserved<S> {
 /// first being the program's name, and writes their replies to a writer.
 ///
 /// It has no way to the folder but the calls of `S`, each of which is in the record of `S`, with
-/// its answer. What is said of a step is said where each answer in the record was right up to the
-/// end of that step (`is_right`): a wrong one later takes nothing from it.
+/// its answer. `S` has locked no folder yet; the one that the words name is the only one that is
+/// locked. What is said of a step is said where each answer in the record was right up to the end
+/// of that step (`is_right`): a wrong one later takes nothing from it.
 ///
 /// The store is set up as the arguments say (`IsSetUp`), and over the folder's files it is run as
 /// `serve_synced` does: what a user is promised of that is one record (`Promises`), and all that is
@@ -77,6 +78,7 @@ pub fn run<S: System + Drop, R: Source, W: Sink>(
 ) -> Result<Ran<CallsDisk<S>>, Unserved<S>>
 where
     S::File: Drop,
+    requires { IsFalse (is_held (S.history system)) }
     ensures words { IfOk result (λ ran. Say (map string_bytes words.now) ran.arguments) }
     ensures runs { IfOk result (λ ran. RunsFolder S.System system ran.arguments ran.disk ran.end
         (exchange R.Source W.Sink reader.old reader.new writer.old writer.new)) }
@@ -118,6 +120,7 @@ fn start<S: System>(
     system: &mut S,
     words: &[String],
 ) -> Result<(Arguments, Setup, IndexSet<FileName>), Fault>
+    requires { IsFalse (is_held (S.history system.old)) }
     ensures words { IfOk result (λ made. Say (map string_bytes words.now) made.0) }
     ensures sets_up { IfOk result (λ made. IsSetUp made.0 made.1
         (Filled (string_bytes made.0.folder) ∷ S.history system.old) (S.history system.new)
@@ -140,7 +143,8 @@ fn setup<S: System>(
     system: &mut S,
     arguments: &Arguments,
 ) -> Result<(Setup, IndexSet<FileName>), Fault>
-    requires { IsGroup arguments.now.group }
+    requires unlocked { IsFalse (is_held (S.history system.old)) }
+    requires group { IsGroup arguments.now.group }
     ensures sets_up { IfOk result (λ made. IsSetUp arguments.now made.0
         (S.history system.old) (S.history system.new)
         × HaveNoFiles S.System system.new made.1.keys) }

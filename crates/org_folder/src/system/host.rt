@@ -5,12 +5,11 @@
 //! calls: no contract says what a system does.
 ghost use Rattle.std.specs.Prelude.{◌≡◌, [], ◌∷◌, map, string_bytes, IfOk, IsFalse};
 ghost use Rattle.std.specs.Path.{path_buf_bytes, path_join};
-ghost use Rattle.org_folder.specs.Calls.{with_entries};
+ghost use Rattle.org_folder.specs.Calls.{path_in, with_entries};
 ghost use Rattle.org_folder.specs.Calls.Event.{Listed};
-ghost use Rattle.org_folder.specs.Note.{event_of};
 
 use super::access::{Access, OWNER, is_shared};
-use super::seen::Seen;
+use super::seen::{Change, Seen};
 use super::{Found, Opened, Reached, System};
 use crate::aliases::Node;
 use crate::list::ListFault;
@@ -54,10 +53,12 @@ pub struct HostSystem<R: Files, S: Start> {
     streams: [Option<R::File>; 3],
     // the folder was synced, and this has made no file since
     is_synced: bool,
-    // the folder as it was when the journal was found in it, where any later change of it shows
-    unchanged: Cell<Option<Seen>>,
+    // the folder's last change when the journal was found in it, where any later one shows
+    unchanged: Cell<Option<Change>>,
     pub(crate) log: Record,
     start: PhantomData<S>,
+    // the files are those of the folder that was locked
+    ghost at: { string_bytes path ≡ path_in log.events },
 }
 
 impl<R: Files + AllocGlobal + Clone + Drop, S: Start> HostSystem<R, S>
@@ -127,22 +128,24 @@ where
         if !metadata.is_file() {
             return Err(Error::from(ErrorKind::Unsupported));
         }
-        let file = self.open_file(path)?;
+        let (file, is_writable) = self.open_file(path)?;
         if is_journal(name) && is_shared(&metadata) {
             self.access_to_journal()?.limit(&file, &file.metadata()?);
         }
         Ok(Reached {
             file,
+            is_writable,
             is_own,
             seen: Seen::of(&metadata),
         })
     }
 
-    // A file that may not be written is opened for reading alone: writes to it fail then.
-    fn open_file(&self, path: Path<'_>) -> io::Result<R::File> {
+    // The file, and whether it may be written. One that may not is opened for reading alone.
+    fn open_file(&self, path: Path<'_>) -> io::Result<(R::File, bool)> {
         match File::options().read(true).write(true).open(&self.rt, path) {
-            Err(error) if is_refused(error.kind()) => File::open(&self.rt, path),
-            found => found,
+            Ok(file) => Ok((file, true)),
+            Err(error) if is_refused(error.kind()) => Ok((File::open(&self.rt, path)?, false)),
+            Err(error) => Err(error),
         }
     }
 
@@ -171,6 +174,7 @@ where
         }
         Ok(Reached {
             file,
+            is_writable: true,
             is_own: false,
             seen: Seen::of(&metadata),
         })
@@ -206,7 +210,9 @@ where
 
     // A file that may be written, and to which its name leads; it is as the calls so far left it.
     fn try_file(&self, opened: &Opened<R::File>) -> io::Result<()> {
-        opened.file.write_at(&[], 0)?;
+        if !opened.is_writable {
+            return Err(Error::from(ErrorKind::PermissionDenied));
+        }
         if is_journal(&opened.name) {
             return self.try_journal(opened);
         }
@@ -218,31 +224,24 @@ where
     // still. So the journal isn't looked at before each write: many systems note times at greater
     // cost where these were looked at.
     fn try_journal(&self, opened: &Opened<R::File>) -> io::Result<()> {
-        let folder = Seen::of(&fs::metadata(&self.rt, Path::new(self.path.as_str()))?);
+        let folder = Change::of(&fs::metadata(&self.rt, Path::new(self.path.as_str()))?);
         if self.is_unchanged(&folder) {
             return Ok(());
         }
         let path = self.path_of(&opened.name)?;
         only_same(opened, &fs::metadata(&self.rt, path.as_path())?)?;
         let entry = fs::symlink_metadata(&self.rt, path.as_path())?;
-        let is_later = entry.is_file() && Seen::of(&entry).is_later_than(&folder);
+        let is_shown = entry.is_file() && Change::of(&entry).is_later_than(&folder);
         self.unchanged
-            .set(if is_later { Some(folder) } else { None });
+            .set(if is_shown { Some(folder) } else { None });
         Ok(())
     }
 
-    fn is_unchanged(&self, folder: &Seen) -> bool {
+    fn is_unchanged(&self, folder: &Change) -> bool {
         match self.unchanged.get() {
             Some(before) => before.is_still(folder),
             None => false,
         }
-    }
-
-    // Notes a call that was made on the file of this name, which read or wrote these bytes.
-    pub(crate) fn note(&mut self, call: Call, name: &FileName, bytes: &[u8])
-        ensures { self.new.log.events ≡ event_of call name.now bytes.now ∷ self.old.log.events }
-    {
-        self.log.note(call, name.as_str().as_bytes(), bytes);
     }
 
     fn path_of(&self, name: &FileName) -> Result<PathBuf, AllocError>
@@ -321,7 +320,7 @@ where
     }
 
     fn lock(&mut self, path: &str) -> Result<(), LockFault> {
-        self.path = String::from_str(self.rt.alloc(), path)?;
+        let folder = String::from_str(self.rt.alloc(), path)?;
         self.lock = match self.open_folder(path)? {
             Some(folder) => {
                 let tried = folder.try_lock();
@@ -329,6 +328,7 @@ where
             }
             None => None,
         };
+        self.path = folder;
         self.log.note(Call::Locked, path.as_bytes(), &[]);
         Ok(())
     }
@@ -343,15 +343,15 @@ where
         match self.found(name) {
             Ok(found) => {
                 let call = Call::There(found.node.device(), found.node.number(), found.is_plain);
-                self.note(call, name, &[]);
+                self.log.note_file(call, name, &[]);
                 Ok(Some(found))
             }
             Err(error) if error.kind() == ErrorKind::NotFound => {
-                self.note(Call::Absent, name, &[]);
+                self.log.note_file(Call::Absent, name, &[]);
                 Ok(None)
             }
             Err(error) => {
-                self.note(Call::Unseen, name, &[]);
+                self.log.note_file(Call::Unseen, name, &[]);
                 Err(ListFault::from(error))
             }
         }
@@ -361,7 +361,7 @@ where
         match self.find(name) {
             Ok(file) => Ok(Some(Opened::new(name, file)?)),
             Err(error) if error.kind() == ErrorKind::NotFound => {
-                self.note(Call::Absent, name, &[]);
+                self.log.note_file(Call::Absent, name, &[]);
                 Ok(None)
             }
             Err(_) => Err(DiskFault),
@@ -371,13 +371,13 @@ where
     fn make(&mut self, name: &FileName) -> Result<Opened<R::File>, DiskFault> {
         self.is_synced = false;
         let answer = self.made(name);
-        self.note(Call::Made(answer.is_ok()), name, &[]);
+        self.log.note_file(Call::Made(answer.is_ok()), name, &[]);
         answer
     }
 
     fn length(&mut self, opened: &Opened<R::File>) -> Result<u64, DiskFault> {
         let length = answered(measured(opened))?;
-        self.note(Call::Length(length), &opened.name, &[]);
+        self.log.note_file(Call::Length(length), &opened.name, &[]);
         Ok(length)
     }
 
@@ -388,7 +388,7 @@ where
         into: &mut [u8],
     ) -> Result<(), DiskFault> {
         answered(opened.file.read_exact_at(into, from))?;
-        self.note(Call::Read(from), &opened.name, into);
+        self.log.note_file(Call::Read(from), &opened.name, into);
         Ok(())
     }
 
@@ -404,19 +404,22 @@ where
             opened.seen.set(opened.seen.get().written());
             opened.file.write_all_at(bytes, from)
         });
-        self.note(Call::Write(from, answer.is_ok()), &opened.name, bytes);
+        self.log
+            .note_file(Call::Write(from, answer.is_ok()), &opened.name, bytes);
         answer
     }
 
     fn cut(&mut self, opened: &Opened<R::File>, to: u64) -> Result<(), DiskFault> {
         let answer = answered(cut_off(opened, to));
-        self.note(Call::Cut(to, answer.is_ok()), &opened.name, &[]);
+        self.log
+            .note_file(Call::Cut(to, answer.is_ok()), &opened.name, &[]);
         answer
     }
 
     fn sync(&mut self, opened: &Opened<R::File>) -> Result<(), DiskFault> {
         let answer = answered(opened.file.sync_data());
-        self.note(Call::Sync(answer.is_ok()), &opened.name, &[]);
+        self.log
+            .note_file(Call::Sync(answer.is_ok()), &opened.name, &[]);
         answer
     }
 
@@ -428,7 +431,8 @@ where
         } else {
             answered(self.sync_folder_of(&opened.name))
         };
-        self.note(Call::Entered(answer.is_ok()), &opened.name, &[]);
+        self.log
+            .note_file(Call::Entered(answer.is_ok()), &opened.name, &[]);
         answer?;
         self.is_synced = self.is_synced || opened.is_own;
         opened.is_entered = true;

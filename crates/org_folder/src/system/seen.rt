@@ -52,16 +52,40 @@ impl Seen {
         };
         is_left && self.device == now.device && self.number == now.number
     }
+}
 
-    // Whether this was changed last behind the last change of the other one: then a change of that
-    // which follows gets another time, however seldom the system's clock goes on.
-    pub(super) fn is_later_than(&self, other: &Seen) -> bool {
-        match (&self.left, &other.left) {
-            (Some(own), Some(other)) => {
-                own.seconds > other.seconds
-                    || own.seconds == other.seconds && own.nanoseconds > other.nanoseconds
-            }
-            _ => false,
+/// Which file or folder it was, and when the system last changed anything of it. Another program
+/// can set the time of a file's last change, but not this one.
+#[derive(Clone, Copy)]
+pub(super) struct Change {
+    device: u64,
+    number: u64,
+    seconds: i64,
+    nanoseconds: i64,
+}
+
+impl Change {
+    pub(super) fn of(metadata: &Metadata) -> Change {
+        Change {
+            device: metadata.dev(),
+            number: metadata.ino(),
+            seconds: metadata.ctime(),
+            nanoseconds: metadata.ctime_nsec(),
         }
+    }
+
+    // Whether this is the last change still.
+    pub(super) fn is_still(&self, now: &Change) -> bool {
+        self.device == now.device
+            && self.number == now.number
+            && self.seconds == now.seconds
+            && self.nanoseconds == now.nanoseconds
+    }
+
+    // Whether this came after the other one: then whatever changes the other one's file from here
+    // on gets another time, however seldom the system's clock goes on.
+    pub(super) fn is_later_than(&self, other: &Change) -> bool {
+        self.seconds > other.seconds
+            || self.seconds == other.seconds && self.nanoseconds > other.nanoseconds
     }
 }
