@@ -14,4 +14,4 @@ pub mod laws;
 mod name;
 
 pub use disk::{Disk, DiskFault};
-pub use name::{FileName, NameFault};
+pub use name::{BadName, FileName};

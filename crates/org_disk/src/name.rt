@@ -10,8 +10,10 @@ ghost use Rattle.std.specs.Cmp.Lexicographic.{pointwise, slice_cmp, nat_list_eq_
 ghost use Rattle.std.specs.Cmp.{partial_equiv_from_equiv};
 ghost use Rattle.std.specs.Cmp.Rules.{hashing};
 ghost use Rattle.std.proofs.Common.{rules};
+ghost use Rattle.org_disk.specs.Faults.{bad_name};
 ghost use Rattle.org_disk.specs.Names.{is_name_byte, is_org_name, is_archive_name, archive_name, base_name, is_file_name, journal_name, IsDiskName};
 
+use org_fault::Fault;
 use std::alloc::{AllocError, Global};
 use std::cmp::Ordering;
 use std::fmt;
@@ -45,27 +47,10 @@ impl Model for FileName {
     ghost invariant = { λ f. IsDiskName (string_bytes f.text) };
 }
 
-/// Why a text was not made a file name.
+/// The text is no file name.
 #[derive(Clone, Copy, Debug, PartialEq, Eq, Error)]
-pub enum NameFault {
-    /// The text is no file name.
-    #[error("bad name")]
-    BadName,
-    /// The allocator had no memory.
-    #[error("out of memory")]
-    OutOfMemory,
-}
-
-impl From<AllocError> for NameFault {
-    ghost use Rattle.std.specs.Prelude.{◌≡◌};
-    ghost use Rattle.org_disk.specs.declared.name.NameFault.TheVariants.{OutOfMemory};
-
-    ghost from_gives = { λ _ e. e ≡ OutOfMemory };
-
-    fn from(_e: AllocError) -> NameFault {
-        NameFault::OutOfMemory
-    }
-}
+#[error("bad name")]
+pub struct BadName;
 
 impl FileName {
     /// The name that this text is.
@@ -83,13 +68,13 @@ impl FileName {
     /// assert!(rt; FileName::new(alloc, "notes/work.org").is_err());
     /// assert!(rt; FileName::new(alloc, "orgstore.journal").is_err());
     /// ```
-    pub fn new(alloc: Global, text: &str) -> Result<FileName, NameFault>
+    pub fn new(alloc: Global, text: &str) -> Result<FileName, Fault<BadName>>
         ensures name { IfOk result (λ name. name ≡ text.now) }
         ensures accepted { OnOk result (IsTrue (is_file_name text.now)) }
-        ensures bad { IsErrOf result NameFault.BadName ↔ IsFalse (is_file_name text.now) }
+        ensures bad { IsErrOf result bad_name ↔ IsFalse (is_file_name text.now) }
     {
         if !FileName::accepts(text) {
-            return Err(NameFault::BadName);
+            return Err(Fault::Refused(BadName));
         }
         let text = String::from_str(alloc, text)?;
         Ok(FileName { text })

@@ -22,6 +22,6 @@ mod system;
 pub use aliases::{AliasFault, Node, check_aliases};
 pub use disk::{CallsDisk, FolderDisk};
 pub use list::{ListFault, org_file, org_files};
-pub use lock::LockFault;
+pub use lock::Locked;
 pub use start::{Start, Unknown};
 pub use system::{Found, HostSystem, Locks, Opened, System};

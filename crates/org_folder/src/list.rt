@@ -4,6 +4,7 @@
 //! listing.
 ghost use Rattle.std.specs.Prelude.{◌≡◌, ◌↔◌, [], ◌∷◌, filter, map, string_bytes, IsTrue, IsFalse, IfOk, IfSome, IsErrOf, All};
 ghost use Rattle.std.specs.IoError.{error_kind};
+ghost use Rattle.org_disk.specs.Faults.{bad_name};
 ghost use Rattle.org_disk.specs.Names.{IsOrgFile};
 ghost use Rattle.org_folder.specs.Faults.{IsReportedAs};
 ghost use Rattle.org_folder.specs.Listing.{as_list, Lists, LooksAt};
@@ -12,7 +13,8 @@ ghost use Rattle.org_folder.specs.Calls.{OnlyLooks};
 ghost use Rattle.org_folder.specs.declared.list.ListFault.TheVariants.{Device, OutOfMemory};
 
 use crate::system::System;
-use org_disk::{FileName, NameFault};
+use org_disk::{BadName, FileName};
+use org_fault::Fault;
 use std::alloc::{AllocError, AllocFailed, Global};
 use std::io::{self, ErrorKind};
 use thiserror::Error;
@@ -62,13 +64,13 @@ impl<T: Drop> From<AllocFailed<T>> for ListFault {
 /// - `BadName`: exactly where it is none, or an archive file's.
 /// - `OutOfMemory`.
 #[tactic(auto, using(crate::proofs::Names::org_file_is))]
-pub fn org_file(alloc: Global, text: &str) -> Result<FileName, NameFault>
+pub fn org_file(alloc: Global, text: &str) -> Result<FileName, Fault<BadName>>
     ensures name { IfOk result (λ name. (name ≡ text.now) × IsTrue (is_org_file text.now)) }
     ensures org_file { IfOk result IsOrgFile }
-    ensures bad { IsErrOf result NameFault.BadName ↔ IsFalse (is_org_file text.now) }
+    ensures bad { IsErrOf result bad_name ↔ IsFalse (is_org_file text.now) }
 {
     if !is_org_file(text) {
-        return Err(NameFault::BadName);
+        return Err(Fault::Refused(BadName));
     }
     FileName::new(alloc, text)
 }
@@ -121,8 +123,8 @@ fn name_of(alloc: Global, entry: &str) -> Result<Option<FileName>, ListFault>
 {
     match org_file(alloc, entry) {
         Ok(name) => Ok(Some(name)),
-        Err(NameFault::BadName) => Ok(None),
-        Err(NameFault::OutOfMemory) => Err(ListFault::OutOfMemory),
+        Err(Fault::Refused(BadName)) => Ok(None),
+        Err(Fault::OutOfMemory) => Err(ListFault::OutOfMemory),
     }
 }
 

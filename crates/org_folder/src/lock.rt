@@ -4,41 +4,26 @@
 //! has none. It keeps off this program alone.
 ghost use Rattle.std.specs.Prelude.{◌≡◌};
 ghost use Rattle.org_folder.specs.Locks.{held};
-ghost use Rattle.org_folder.specs.declared.lock.LockFault.TheVariants.{OutOfMemory};
 
-use std::alloc::AllocError;
+use org_fault::Fault;
 use std::fs::TryLockError;
 use thiserror::Error;
 
-/// Why a folder isn't to be looked at.
-#[derive(Clone, Copy, Debug, Error)]
-pub enum LockFault {
-    /// Another store is open on it.
-    #[error("another store is open on the folder")]
-    Locked,
-    /// There was no memory for its path.
-    #[error("out of memory")]
-    OutOfMemory,
-}
-
-impl From<AllocError> for LockFault {
-    ghost from_gives = { λ _ fault. fault ≡ OutOfMemory };
-
-    fn from(_: AllocError) -> LockFault {
-        LockFault::OutOfMemory
-    }
-}
+/// Another store is open on the folder.
+#[derive(Clone, Copy, Debug, PartialEq, Eq, Error)]
+#[error("another store is open on the folder")]
+pub struct Locked;
 
 // What is held of a folder that was opened, by what the system answered to the try to lock it.
 pub(crate) fn held<F: Drop>(
     folder: F,
     tried: Result<(), TryLockError>,
-) -> Result<Option<F>, LockFault>
+) -> Result<Option<F>, Fault<Locked>>
     ensures { result ≡ held folder tried }
 {
     match tried {
         Ok(()) => Ok(Some(folder)),
-        Err(TryLockError::WouldBlock) => Err(LockFault::Locked),
+        Err(TryLockError::WouldBlock) => Err(Fault::Refused(Locked)),
         Err(TryLockError::Error(_)) => Ok(None),
     }
 }

@@ -8,8 +8,9 @@ ghost use Rattle.org_folder.specs.Calls.Event.{Absent, Cut, Entered, Filled, Len
 
 use crate::aliases::Node;
 use crate::list::ListFault;
-use crate::lock::LockFault;
+use crate::lock;
 use org_disk::{DiskFault, FileName};
+use org_fault::Fault;
 use seen::Seen;
 use std::alloc::AllocError;
 use std::cell::Cell;
@@ -115,7 +116,7 @@ pub trait System {
 
     /// Locks the folder at a path, as far as the system locks it, until this is dropped or its
     /// process ends. It is the folder of all calls that follow: no other one is locked behind it.
-    fn lock(&mut self, path: &str) -> Result<(), LockFault>
+    fn lock(&mut self, path: &str) -> Result<(), Fault<lock::Locked>>
         requires { IsFalse (is_held (history self.old)) }
         ensures ok { OnOk result (history self.new ≡ Locked path.now ∷ history self.old) }
         ensures err { OnErr result (history self.new ≡ history self.old) };

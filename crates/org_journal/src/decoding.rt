@@ -14,7 +14,7 @@ use crate::fault::Malformed;
 use crate::fields::{head_at, old_entry_at, patch_at};
 use crate::reading::{count_at, header_at, well_formed};
 use crate::record::{Entry, Patches, Record, Version};
-use org_disk::{FileName, NameFault};
+use org_disk::{BadName, FileName};
 use org_fault::Fault;
 use org_splice::{Bytes, Patch};
 use std::alloc::Global;
@@ -54,8 +54,8 @@ fn name_of(alloc: Global, text: &str) -> Result<FileName, Fault<Malformed>>
 {
     match FileName::new(alloc, text) {
         Ok(name) => Ok(name),
-        Err(NameFault::BadName) => Err(Fault::Refused(Malformed)),
-        Err(NameFault::OutOfMemory) => Err(Fault::OutOfMemory),
+        Err(Fault::Refused(BadName)) => Err(Fault::Refused(Malformed)),
+        Err(Fault::OutOfMemory) => Err(Fault::OutOfMemory),
     }
 }
 

@@ -17,7 +17,7 @@ use crate::destination::Location;
 use crate::inherited::{nearest, nonempty};
 use memchr::memmem::Finder;
 use memchr::memrchr;
-use org_disk::{FileName, NameFault};
+use org_disk::{BadName, FileName};
 use org_fault::{Fault, Refusal};
 use org_headings::heading_level;
 use org_meta::first_line;
@@ -229,8 +229,8 @@ fn file_name(alloc: Global, bytes: &[u8]) -> Result<FileName, Fault<Refusal>>
     };
     match FileName::new(alloc, text) {
         Ok(name) => Ok(name),
-        Err(NameFault::BadName) => Err(Fault::Refused(Refusal::NoSuchFile)),
-        Err(NameFault::OutOfMemory) => Err(Fault::OutOfMemory),
+        Err(Fault::Refused(BadName)) => Err(Fault::Refused(Refusal::NoSuchFile)),
+        Err(Fault::OutOfMemory) => Err(Fault::OutOfMemory),
     }
 }
 

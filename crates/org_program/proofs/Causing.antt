@@ -1,11 +1,12 @@
 -- Causes of faults, passed on.
 use Rattle.std.proofs.Common.{◌≡◌, ◌⊎◌, inl, inr, ℕ, List, Some, None, string_bytes, subst, sym}
 use Rattle.std.specs.Prelude.{IsFalse, Result, Ok, Err, IfErr, IsErrAnd}
+use Rattle.org_fault.specs.declared.fault.Fault as call
+use Rattle.org_fault.specs.declared.fault.Fault.TheVariants as why
 use Rattle.org_fileset.specs.declared.open.OpenFault.TheVariants as refused
 use Rattle.org_folder.specs.declared.list.ListFault.{ListFault}
 use Rattle.org_folder.specs.declared.list.ListFault.TheVariants as list
-use Rattle.org_folder.specs.declared.lock.LockFault.{LockFault}
-use Rattle.org_folder.specs.declared.lock.LockFault.TheVariants as lock
+use Rattle.org_folder.specs.declared.lock.Locked as lock
 use Rattle.org_outline.specs.States.{Keywords, are_states}
 use Rattle.org_program.specs.Causes.{listing, locking, IsCause, IsCauseOfNames, NameAStore, first_bad}
 use Rattle.org_program.specs.Lists.{names_in, states_in}
@@ -53,9 +54,9 @@ module _ (arguments : Arguments) where
   of_states given fault good is (inl bad) = subst (IsCause arguments) (sym bad.0) (good, subst (λ s. IsFalse (are_states s)) is bad.1)
   of_states given fault good is (inr memory) = subst (IsCause arguments) (sym memory) tt
 
-  pub of_lock : (fault : LockFault) → NameAStore arguments → IsCause arguments (locking fault)
-  of_lock lock.Locked good = good
-  of_lock lock.OutOfMemory good = tt
+  pub of_lock : (why : call.Fault lock.Locked) → NameAStore arguments → IsCause arguments (locking why)
+  of_lock (why.Refused _) good = good
+  of_lock why.OutOfMemory good = tt
 
   pub of_listing : (fault : ListFault) → NameAStore arguments → IsCause arguments (listing fault)
   of_listing list.Device good = good

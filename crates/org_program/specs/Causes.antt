@@ -1,6 +1,8 @@
 -- Where each fault of the program comes from.
 use Rattle.std.specs.Prelude.{◌≡◌, ℕ, List, ◌∷◌, ◌++◌, drop, Option, Some, None, Result, Ok, Err, IsTrue, IsFalse, find, not, string_bytes}
 use Rattle.std.specs.List.{Contains}
+use Rattle.org_fault.specs.declared.fault.Fault as call
+use Rattle.org_fault.specs.declared.fault.Fault.TheVariants as why
 use Rattle.org_disk.specs.Names.{journal_name}
 use Rattle.org_fileset.specs.declared.open.OpenFault.{OpenFault}
 use Rattle.org_fileset.specs.declared.open.OpenFault.TheVariants as refused
@@ -10,11 +12,9 @@ use Rattle.org_folder.specs.declared.aliases.AliasFault.{AliasFault}
 use Rattle.org_folder.specs.declared.aliases.AliasFault.TheVariants as alias
 use Rattle.org_folder.specs.declared.list.ListFault.{ListFault}
 use Rattle.org_folder.specs.declared.list.ListFault.TheVariants as list
-use Rattle.org_folder.specs.declared.lock.LockFault.{LockFault}
-use Rattle.org_folder.specs.declared.lock.LockFault.TheVariants as lock
+use Rattle.org_folder.specs.declared.lock.Locked as lock
 use Rattle.org_outline.specs.States.{are_states}
-use Rattle.org_outline.specs.declared.states.StatesFault.{StatesFault}
-use Rattle.org_outline.specs.declared.states.StatesFault.TheVariants as states
+use Rattle.org_outline.specs.declared.states.BadStates as states
 use Rattle.org_serve.specs.declared.end.ServeEnd.{ServeEnd}
 use Rattle.org_serve.specs.declared.end.ServeEnd.TheVariants.{End, Unsettled, Device, Read, Write}
 use Rattle.org_program.specs.declared.arguments.Arguments.{Arguments}
@@ -38,9 +38,9 @@ listing list.Device = Open refused.Device
 listing list.OutOfMemory = Open refused.OutOfMemory
 
 -- why a folder couldn't be locked
-abbrev pub locking : LockFault → Fault
-locking lock.Locked = Locked
-locking lock.OutOfMemory = Open refused.OutOfMemory
+abbrev pub locking : call.Fault lock.Locked → Fault
+locking (why.Refused _) = Locked
+locking why.OutOfMemory = Open refused.OutOfMemory
 
 -- why names couldn't be shown to lead to files of their own
 abbrev pub sharing : AliasFault → Fault
@@ -48,9 +48,9 @@ sharing (alias.SameFile name) = SameFile name
 sharing (alias.Unseen cause) = listing cause
 
 -- why the states couldn't be had
-abbrev pub stating : StatesFault → Fault
-stating states.BadStates = BadStates
-stating states.OutOfMemory = Open refused.OutOfMemory
+abbrev pub stating : call.Fault states.BadStates → Fault
+stating (why.Refused _) = BadStates
+stating why.OutOfMemory = Open refused.OutOfMemory
 
 -- the first of the names that is no Org file's
 abbrev pub first_bad : List (List ℕ) → Option (List ℕ)

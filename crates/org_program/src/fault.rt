@@ -8,8 +8,8 @@ ghost use Rattle.org_program.specs.Causes.{listing, locking, sharing, stating};
 ghost use Rattle.org_program.specs.declared.fault.Fault.TheVariants.{Open};
 
 use org_disk::FileName;
-use org_folder::{AliasFault, ListFault, LockFault};
-use org_outline::StatesFault;
+use org_folder::{AliasFault, ListFault, Locked};
+use org_outline::BadStates;
 use org_serve::ServeEnd;
 use org_store::OpenFault;
 use std::alloc::{AllocError, AllocFailed};
@@ -72,13 +72,13 @@ impl From<ListFault> for Fault {
     }
 }
 
-impl From<LockFault> for Fault {
+impl From<org_fault::Fault<Locked>> for Fault {
     ghost from_gives = { λ cause fault. fault ≡ locking cause };
 
-    fn from(fault: LockFault) -> Fault {
+    fn from(fault: org_fault::Fault<Locked>) -> Fault {
         match fault {
-            LockFault::Locked => Fault::Locked,
-            LockFault::OutOfMemory => Fault::Open(OpenFault::OutOfMemory),
+            org_fault::Fault::Refused(Locked) => Fault::Locked,
+            org_fault::Fault::OutOfMemory => Fault::Open(OpenFault::OutOfMemory),
         }
     }
 }
@@ -94,13 +94,13 @@ impl From<AliasFault> for Fault {
     }
 }
 
-impl From<StatesFault> for Fault {
+impl From<org_fault::Fault<BadStates>> for Fault {
     ghost from_gives = { λ cause fault. fault ≡ stating cause };
 
-    fn from(fault: StatesFault) -> Fault {
+    fn from(fault: org_fault::Fault<BadStates>) -> Fault {
         match fault {
-            StatesFault::BadStates => Fault::BadStates,
-            StatesFault::OutOfMemory => Fault::Open(OpenFault::OutOfMemory),
+            org_fault::Fault::Refused(BadStates) => Fault::BadStates,
+            org_fault::Fault::OutOfMemory => Fault::Open(OpenFault::OutOfMemory),
         }
     }
 }

@@ -7,7 +7,7 @@ ghost use Rattle.org_program.specs.Lists.{names_in};
 
 use crate::arguments::Arguments;
 use crate::fault::Fault;
-use org_disk::{FileName, NameFault};
+use org_disk::{BadName, FileName};
 use org_folder::org_file;
 use org_store::OpenFault;
 use std::alloc::Global;
@@ -50,7 +50,10 @@ fn org_name(alloc: Global, text: &str) -> Result<FileName, Fault>
 {
     match org_file(alloc, text) {
         Ok(name) => Ok(name),
-        Err(NameFault::BadName) => Err(Fault::BadName(String::from_str(alloc, text)?)),
-        Err(NameFault::OutOfMemory) => Err(Fault::Open(OpenFault::OutOfMemory)),
+        Err(org_fault::Fault::Refused(BadName)) => {
+            let text = String::from_str(alloc, text)?;
+            Err(Fault::BadName(text))
+        }
+        Err(org_fault::Fault::OutOfMemory) => Err(Fault::Open(OpenFault::OutOfMemory)),
     }
 }

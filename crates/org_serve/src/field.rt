@@ -8,7 +8,7 @@ ghost use Rattle.org_serve.specs.Grammar.{digits_of, escape, leads_with_zero, ma
 
 use crate::fault::BadLine;
 use org_capture::Target;
-use org_disk::{FileName, NameFault};
+use org_disk::{BadName, FileName};
 use org_fault::Fault;
 use org_outline::{Path, Place, Step};
 use org_splice::Bytes;
@@ -106,8 +106,8 @@ fn named(alloc: Global, bytes: &[u8]) -> Result<FileName, Fault<BadLine>>
     };
     match FileName::new(alloc, name) {
         Ok(name) => Ok(name),
-        Err(NameFault::BadName) => Err(Fault::Refused(BadLine)),
-        Err(NameFault::OutOfMemory) => Err(Fault::OutOfMemory),
+        Err(Fault::Refused(BadName)) => Err(Fault::Refused(BadLine)),
+        Err(Fault::OutOfMemory) => Err(Fault::OutOfMemory),
     }
 }
 

@@ -1,21 +1,22 @@
 //! The Org files of a folder.
 use super::{Entry, locked, make_folder, remove};
 use crate::disk::{are_texts, hold, hold_row};
-use org_disk::{FileName, NameFault};
+use org_disk::{BadName, FileName};
+use org_fault::Fault;
 use org_folder::{HostSystem, Unknown, org_file, org_files};
 use std::alloc::Global;
 use std::process::Abort;
 
 // Why a text isn't the name of an Org file, if it isn't.
-fn fault_of(alloc: Global, text: &str) -> Option<NameFault> {
+fn fault_of(alloc: Global, text: &str) -> Option<Fault<BadName>> {
     org_file(alloc, text).err()
 }
 
 // Texts, and why each isn't the name of an Org file.
-const NAMES: &[(&str, Option<NameFault>)] = &[
+const NAMES: &[(&str, Option<Fault<BadName>>)] = &[
     ("a.org", None),
-    ("a.txt", Some(NameFault::BadName)),
-    ("a.org_archive", Some(NameFault::BadName)),
+    ("a.txt", Some(Fault::Refused(BadName))),
+    ("a.org_archive", Some(Fault::Refused(BadName))),
 ];
 
 #[test]

@@ -13,10 +13,11 @@ use super::seen::{Change, Seen};
 use super::{Found, Opened, Reached, System};
 use crate::aliases::Node;
 use crate::list::ListFault;
-use crate::lock::{LockFault, held};
+use crate::lock::{Locked, held};
 use crate::record::{Call, Record};
 use crate::start::Start;
 use org_disk::{DiskFault, FileName};
+use org_fault::Fault;
 use std::alloc::{AllocError, Global};
 use std::cell::Cell;
 use std::fs::{File, Files, Metadata, OpenFile, OpenOptions, TryLockError};
@@ -319,7 +320,7 @@ where
         Ok(())
     }
 
-    fn lock(&mut self, path: &str) -> Result<(), LockFault> {
+    fn lock(&mut self, path: &str) -> Result<(), Fault<Locked>> {
         let folder = String::from_str(self.rt.alloc(), path)?;
         self.lock = match self.open_folder(path)? {
             Some(folder) => {

@@ -1,5 +1,6 @@
 //! Which states are accepted.
-use org_outline::{States, StatesFault};
+use org_fault::Fault;
+use org_outline::{BadStates, States};
 
 const SIXTEEN: &[&str] = &[
     "a", "b", "c", "d", "e", "f", "g", "h", "i", "j", "k", "l", "m", "n", "o", "p",
@@ -13,10 +14,10 @@ const SEVENTEEN_DONE: &[&str] = &[
     "A", "B", "C", "D", "E", "F", "G", "H", "I", "J", "K", "L", "M", "N", "O", "P", "Q",
 ];
 
-const BAD: Option<StatesFault> = Some(StatesFault::BadStates);
+const BAD: Option<Fault<BadStates>> = Some(Fault::Refused(BadStates));
 
 /// Active states, done states, and why they are refused, if they are.
-const ROWS: &[(&[&str], &[&str], Option<StatesFault>)] = &[
+const ROWS: &[(&[&str], &[&str], Option<Fault<BadStates>>)] = &[
     (&["abcdefghijklmnopqrstuvwx"], &["D-1", "_"], None),
     (SIXTEEN, SIXTEEN_DONE, None),
     (SIXTEEN, SEVENTEEN_DONE, BAD),
