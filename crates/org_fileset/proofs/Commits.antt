@@ -17,7 +17,7 @@ use Rattle.org_journal.specs.Record.{BeginsWith}
 use Rattle.org_journal.proofs.Fitting.{opens}
 use Rattle.org_journal.proofs.Journal.{begins_again}
 use Rattle.org_journal.specs.Recovered.{Image, SameFiles, RecoversTo, replayed, contents}
-use Rattle.org_fileset.specs.Replay.{TakesTo, AreApplicableTo, EachTakes, IsOpenOver, IsAtRest, IsBeforeOrAfter, WritesRecord}
+use Rattle.org_fileset.specs.Replay.{TakesTo, AreApplicableTo, EachTakes, IsOpenOver, IsAtRest, IsBeforeOrAfter}
 use Rattle.org_fileset.specs.Writes.{LeavesAlone, IsUnwritten}
 use Rattle.org_fileset.proofs.OpenGate.{on_ok_both}
 use Rattle.org_fileset.proofs.Writes.{alone_journal, alone_then}
@@ -97,6 +97,14 @@ module _ (entries : List Entry) (files : List ℕ → FileState) (can : AreAppli
             | inl opened ↦ inr (recovers_open entries after image can.applicable opened (told (image journal_name) left.body) (λ name not. takes name (image name) (other_is name not)))
             | inr closed ↦ inl (recovers_closed (contents files) image closed other_is)
           ]
+
+-- What calls do that write a record behind a closed gate and open the gate over it, where the disk is honest after them. The journal alone is written; where all was on the disk, a crash leaves
+-- what recovers to the files before, or to those that the record makes of them.
+pub record WritesRecord {D : Type 0} (g : Ghosts D) (entries : List Entry) (old new : D) (result : Result (Unit {0}) DiskFault) : Type 0 where
+  pub opened : OnOk result (IsOpenOver entries (g.files new))
+  pub any_moment : IsAtRest (g.files old) → PassesOver g old new (IsBeforeOrAfter (contents (g.files old)) (replayed entries (contents (g.files old))))
+  pub others : (name : List ℕ) → name ≢ journal_name → g.files new name ≡ g.files old name
+  pub alone : LeavesAlone g (IsUnwritten entries) old new
 
 -- What a call did that wrote a record behind the closed gate, or failed there; and what one that opened the gate then.
 module _ {D : Type 0} (g : Ghosts D) (old : D) (journal : List ℕ) (name_is : journal ≡ journal_name) (entries : List Entry)

@@ -1,5 +1,5 @@
 -- Files that were tried, by writes of no bytes, and a commit that begins with that.
-use Rattle.std.proofs.Common.{◌≡◌, ◌≢◌, ◌⊎◌, inl, inr, ⊎_elim, ℕ, suc, ◌+◌, ◌<◌, ◌++◌, List, [], ◌∷◌, length, get_or, take, set, Result, Ok, Err, OnOk, IsErr, refl, sym, ◌∙◌, ap, subst, arith}
+use Rattle.std.proofs.Common.{◌≡◌, ◌≢◌, ◌⊎◌, inl, inr, ⊎_elim, ℕ, suc, ◌+◌, ◌<◌, ◌++◌, List, [], ◌∷◌, length, drop, get_or, take, set, Result, Ok, Err, IsErr, refl, sym, ◌∙◌, ap, subst, arith}
 use Rattle.std.proofs.lemmas.Bool.{cases_lt}
 use Rattle.std.proofs.lemmas.Result.{on_ok_weaker}
 use Rattle.std.proofs.lemmas.List.{get_or-take, get_or_append_left, get_or-set_same, get_or-set_other, length-append, length-set, length-take-le}
@@ -14,12 +14,13 @@ use Rattle.org_disk.proofs.Moments.{Image, leaves_only, passes_as, passes_then}
 use Rattle.org_disk.proofs.Names.{name_cases}
 use Rattle.org_disk.proofs.Ranges.{nothing_written}
 use Rattle.org_journal.specs.declared.record.Entry.{Entry}
-use Rattle.org_journal.specs.Gate.{is_open}
+use Rattle.org_journal.specs.Gate.{is_open, HasClosedGate}
+use Rattle.org_journal.specs.Reading.{journal_at}
 use Rattle.org_journal.specs.Recovered.{RecoversTo, SameFiles, contents, replayed}
-use Rattle.org_fileset.specs.Replay.{CommitsEntriesOver, IsAtRest, IsBeforeOrAfter, IsClosedOver, IsCommitted}
+use Rattle.org_fileset.specs.Replay.{AreApplicableTo, CommitsEntriesOver, IsAtRest, IsBeforeOrAfter, IsClosedOver, IsCommitted, IsReplayable, ReplaysOver}
 use Rattle.org_fileset.specs.Writes.{IsUnwritten, TriesOver}
 use Rattle.org_fileset.proofs.OpenGate.{on_ok_never}
-use Rattle.org_fileset.proofs.Commits.{at_rest_recovers, shut}
+use Rattle.org_fileset.proofs.Commits.{WritesRecord, at_rest_recovers, shut, still_made, still_takes}
 use Rattle.org_fileset.proofs.Recovers.{recovers_closed}
 use Rattle.org_fileset.proofs.Writes.{alone_looks, alone_then}
 
@@ -158,6 +159,26 @@ module _ {D : Type 0} (g : Ghosts D) (entries : List Entry) where
     others = tries.others;
   }
 
+-- A record that is written once its files were tried: they are as at the start.
+
+module _ {D : Type 0} (g : Ghosts D) (entries : List Entry) (old tried : D) (looks : LooksOver g old tried) where
+  pub applicable_tried : AreApplicableTo entries (g.files old) → AreApplicableTo entries (g.files tried)
+  applicable_tried can = subst (λ (f : List ℕ → FileState). AreApplicableTo entries f) (sym looks.same) can
+
+  pub gate_tried : HasClosedGate (g.files old journal_name) → HasClosedGate (g.files tried journal_name)
+  gate_tried gate = subst (λ (f : List ℕ → FileState). HasClosedGate (f journal_name)) (sym looks.same) gate
+
+  pub writes_tried : (new : D) (result : Result (Unit {0}) DiskFault) → WritesRecord g entries tried new result → WritesRecord g entries old new result
+  writes_tried new result writes = record {
+    opened = writes.opened;
+    any_moment = λ rest. passes_then
+        (passes_as looks.time (λ image left. inl (at_rest_recovers (g.files old) rest image left)))
+        (writes.any_moment (subst IsAtRest (sym looks.same) rest))
+        (λ image stands. subst (λ (f : List ℕ → FileState). IsBeforeOrAfter (contents f) (replayed entries (contents f)) image) looks.same stands);
+    others = λ n not. writes.others n not ∙ ap (λ (f : List ℕ → FileState). f n) looks.same;
+    alone = alone_then g (IsUnwritten entries) old tried new (alone_looks g (IsUnwritten entries) old tried looks) writes.alone;
+  }
+
 -- The commit whose files were tried
 
 -- a disk at rest recovers to the files that were made on it
@@ -181,21 +202,47 @@ module _ {D : Type 0} (g : Ghosts D) (entries : List Entry) (old : D) (only_now 
     closed = on_ok_never _ result failed;
   }
 
-  -- none failed: the files were as at the start
-  pub commits_after : (mid new : D) → LooksOver g old mid → (result : Result (Unit {0}) DiskFault) → CommitsEntriesOver g entries mid new result → CommitsEntriesOver g entries old new result
-  commits_after mid new looks result commits = record {
+  -- no record was written, or the gate wasn't opened over it
+  pub commits_unwritten : (new : D) (answer : Result (Unit {0}) DiskFault) → WritesRecord g entries old new answer → (result : Result (Unit {0}) DiskFault) → IsErr result
+      → CommitsEntriesOver g entries old new result
+  commits_unwritten new answer written result failed = record {
     commits = record {
-      done = subst (λ (f : List ℕ → FileState). OnOk result (IsCommitted (replayed entries (contents f)) f (g.files new))) looks.same commits.commits.done;
-      any_moment = λ rest. leaves_only (passes_then
-          (passes_as looks.time (λ image left. inl (at_rest_recovers (g.files old) rest image left)))
-          (commits.commits.any_moment (subst IsAtRest (sym looks.same) rest)).passes
-          (λ image stands. subst (λ (f : List ℕ → FileState). IsBeforeOrAfter (contents f) (replayed entries (contents f)) image) looks.same stands))
-          (λ image left. inl (at_rest_recovers (g.files old) rest image (only_now image left)));
-      recoverable = λ rest. commits.commits.recoverable (subst IsAtRest (sym looks.same) rest);
-      alone = alone_then g (IsUnwritten entries) old mid new (alone_looks g (IsUnwritten entries) old mid looks) commits.commits.alone;
+      done = on_ok_never _ result failed;
+      any_moment = λ rest. leaves_only (written.any_moment rest) (λ image left. inl (at_rest_recovers (g.files old) rest image (only_now image left)));
+      recoverable = λ rest. inl (λ n not. subst IsStable (sym (written.others n not)) (rest.stable n));
+      alone = written.alone;
     };
-    closed = commits.closed;
+    closed = on_ok_never _ result failed;
   }
+
+  -- the gate was opened over the record, which was applied to its files
+  pub commits_written : AreApplicableTo entries (g.files old) → (mid new : D) (done : Unit {0}) → WritesRecord g entries old mid (Ok done)
+      → (result : Result (Unit {0}) DiskFault) → ReplaysOver g entries mid new result → CommitsEntriesOver g entries old new result
+  commits_written can mid new done written result replays =
+      let files = g.files old in
+      let last = g.files mid in
+      let replayable : IsAtRest files → IsReplayable entries last = λ rest. record {
+        others = λ n not none. subst IsStable (sym (written.others n not)) (rest.stable n);
+        texts = replayed entries (contents files);
+        takes = still_takes entries files can last written.others rest;
+      } in
+      record {
+        commits = record {
+          done = on_ok_weaker result (λ made. record {
+            made = λ n not. made.made n not ∙ still_made entries files can last written.others n not;
+            rest = λ rest. made.rest (replayable rest);
+          }) replays.done;
+          any_moment = λ rest. leaves_only (passes_then (written.any_moment rest) (replays.any_moment (replayable rest)) (λ image stands. inr stands))
+              (λ image left. inl (at_rest_recovers files rest image (only_now image left)));
+          recoverable = λ rest. replays.recoverable (replayable rest);
+          alone = alone_then g (IsUnwritten entries) old mid new written.alone replays.alone;
+        };
+        -- the record stays behind the gate
+        closed = on_ok_weaker result (λ made. record {
+          gate = made.gate;
+          found = ap (λ (l : List ℕ). journal_at (drop 1 l)) made.journal ∙ written.opened.found;
+        }) replays.done;
+      }
 
   -- the commit failed, and so does the call that made it
   pub commits_err : (new : D) (answer result : Result (Unit {0}) DiskFault) → CommitsEntriesOver g entries old new answer → IsErr result → CommitsEntriesOver g entries old new result

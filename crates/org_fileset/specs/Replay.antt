@@ -141,17 +141,6 @@ pub record ReplaysOver {D : Type 0} (g : Ghosts D) (entries : List Entry) (old n
   pub recoverable : IsReplayable entries (g.files old) → IsRecoverable (g.files new)
   pub alone : LeavesAlone g (IsUnwritten entries) old new
 
--- What a call does that writes a record behind a closed gate and opens the gate over it, where the
--- disk is honest after it. The journal alone is written; where all was on the disk, a crash leaves
--- what recovers to the files before, or to those that the record makes of them.
-pub record WritesRecord {D : Type 0} (g : Ghosts D) (entries : List Entry) (old new : D)
-    (result : Result (Unit {0}) DiskFault) : Type 0 where
-  pub opened : OnOk result (IsOpenOver entries (g.files new))
-  pub any_moment : IsAtRest (g.files old) → PassesOver g old new
-      (IsBeforeOrAfter (contents (g.files old)) (replayed entries (contents (g.files old))))
-  pub others : (name : List ℕ) → name ≢ journal_name → g.files new name ≡ g.files old name
-  pub alone : LeavesAlone g (IsUnwritten entries) old new
-
 -- The files are these now; what was at rest is at rest.
 pub record IsCommitted (after : Image) (old new : List ℕ → FileState) : Type 0 where
   pub made : SameFiles (contents new) after

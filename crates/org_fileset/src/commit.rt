@@ -3,13 +3,12 @@
 //! The order is that of FORMATS: tries, record, sync, gate, sync, files, syncs, gate, sync, tries.
 //! What a commit has to do it does for any entries that fit their files; that they are changes of a
 //! set is `set`'s matter.
-ghost use Rattle.std.specs.Prelude.{◌≡◌, List, IsErr};
+ghost use Rattle.std.specs.Prelude.{◌≡◌, IsErr};
 ghost use Rattle.org_disk.specs.CountsFailures.{CountsFailures};
 ghost use Rattle.org_disk.specs.Names.{journal_name};
 ghost use Rattle.org_journal.specs.Gate.{HasClosedGate};
 ghost use Rattle.org_journal.specs.Record.{BeginsWith};
-ghost use Rattle.org_journal.specs.declared.record.Entry.{Entry};
-ghost use Rattle.org_fileset.specs.Replay.{AreApplicableTo, CommitsEntriesOver, IsOpenOver, ReplaysOver, WritesRecord};
+ghost use Rattle.org_fileset.specs.Replay.{AreApplicableTo, CommitsEntriesOver, IsOpenOver, ReplaysOver};
 
 use crate::apply::{apply_all, sync_all};
 use crate::trying::{try_all, try_files};
@@ -33,39 +32,6 @@ pub fn replay<D: Disk>(disk: &mut D, journal: &FileName, entries: &[Entry]) -> R
     apply_all(disk, entries)?;
     sync_all(disk, entries)?;
     close_gate(disk, journal)
-}
-
-/// Writes a record behind the closed gate, and opens the gate over it. The body is the record, from
-/// the journal's second byte on.
-fn write_record<D: Disk>(disk: &mut D, journal: &FileName, body: &[u8]) -> Result<(), DiskFault>
-    requires journal { journal.now ≡ journal_name }
-    requires gate { D.honest disk.old → HasClosedGate (D.files disk.old journal_name) }
-    ensures writes { D.honest disk.new → (entries : List Entry) → BeginsWith body.now entries
-        → AreApplicableTo entries (D.files disk.old)
-        → WritesRecord D.Disk entries disk.old disk.new result }
-    ensures accounts { CountsFailures D.Disk disk.old disk.new (IsErr result) }
-{
-    arm(disk, journal, body)?;
-    open_gate(disk, journal)
-}
-
-/// Writes the record of entries that fit their files, and does what it says.
-fn write_and_replay<D: Disk>(
-    disk: &mut D,
-    journal: &FileName,
-    entries: &[Entry],
-    body: &[u8],
-) -> Result<(), DiskFault>
-    requires journal { journal.now ≡ journal_name }
-    requires applicable { D.honest disk.old → AreApplicableTo entries.now (D.files disk.old) }
-    requires body { BeginsWith body.now entries.now }
-    requires gate { D.honest disk.old → HasClosedGate (D.files disk.old journal_name) }
-    ensures commits { D.honest disk.new
-        → CommitsEntriesOver D.Disk entries.now disk.old disk.new result }
-    ensures accounts { CountsFailures D.Disk disk.old disk.new (IsErr result) }
-{
-    write_record(disk, journal, body)?;
-    replay(disk, journal, entries)
 }
 
 /// Commits entries that fit their files. The body is their record, from the journal's second byte
@@ -95,6 +61,8 @@ pub fn commit_entries<D: Disk>(
     ensures accounts { CountsFailures D.Disk disk.old disk.new (IsErr result) }
 {
     try_all(disk, journal, entries)?;
-    write_and_replay(disk, journal, entries, body)?;
+    arm(disk, journal, body)?;
+    open_gate(disk, journal)?;
+    replay(disk, journal, entries)?;
     try_files(disk, entries)
 }

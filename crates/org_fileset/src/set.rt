@@ -2,7 +2,7 @@
 //!
 //! Between two calls the journal's gate is closed, but after a failure of the disk: from then on
 //! the set is broken, and makes no call. It holds no text; what files held is the caller's to keep.
-ghost use Rattle.std.specs.Prelude.{◌≡◌, ◌≢◌, [], true, false, IsFalse, IfOk, IsErrOf, IsOk};
+ghost use Rattle.std.specs.Prelude.{◌≡◌, [], true, false, IsFalse, IfOk, IsErrOf, IsOk};
 ghost use Rattle.std.specs.List.{All};
 ghost use Rattle.org_disk.specs.CountsFailures.{CountsFailures, Looks};
 ghost use Rattle.org_disk.specs.Names.{IsOrgFile};
@@ -165,16 +165,6 @@ impl<D: Disk> FileSet<D> {
         if changes.len() == 0 {
             return Ok(());
         }
-        self.commit_changes(changes)
-    }
-
-    // Commits changes, of which there are some, where no call of the disk has failed.
-    fn commit_changes<C: Changes<FileName>>(&mut self, changes: &C) -> Result<(), SetFault>
-        requires whole { IsFalse self.old.broken }
-        requires some { C.pairs changes.now ≢ [] }
-        requires can { CanCommit D.Disk self.old (C.pairs changes.now) }
-        ensures { CommitsSet D.Disk self.old (C.pairs changes.now) result self.new }
-    {
         let alloc = *self.names.allocator();
         let record = Record::new(entries_of(alloc, changes)?);
         let body = record.encode(alloc)?;

@@ -2,7 +2,7 @@
 ghost use Rattle.std.specs.Prelude.{◌≡◌, ◌⊎◌, ℕ, List, [], ◌∷◌, Some, false, map, string_bytes, IfOk, IfErr, SomeIff};
 ghost use Rattle.std.specs.Str.Parse.{digits_value};
 ghost use Rattle.clap.specs.Words.{kind_of, app_of, fault_of, found_of, new_rule, rows_of, rule_of};
-ghost use Rattle.org_program.specs.Words.{command_line, folder_argument as folder_rule, given, group_argument as group_rule, group_in, group_of, names_argument as names_rule, whole_argument as whole_rule, whole_in, AreTaken, Say, IsGroupGiven, IsGroupText, IsFaultBy, IsFaultOfWords};
+ghost use Rattle.org_program.specs.Words.{command_line, folder_argument as folder_rule, given, group_in, group_of, names_argument as names_rule, whole_in, AreTaken, Say, IsGroupGiven, IsGroupText, IsFaultBy, IsFaultOfWords};
 
 use crate::fault::Fault;
 use clap::error::ErrorKind;
@@ -20,6 +20,8 @@ const ACTIVE: &str = "The active states, with commas between them";
 const DONE: &str = "The done states, with commas between them";
 
 const GROUP: &str = "How many commands are settled together, from 1 to 1000 [default: 1]";
+
+const WHOLE: &str = "Settle at the line settle alone, and stop at a line that isn't done";
 
 const WHOLE_AND_GROUP: &str = "the argument '--whole' cannot be used with '--group <K>'";
 
@@ -141,61 +143,36 @@ fn folder_argument<'a>(alloc: Global) -> Arg<'a>
         .help("The folder of Org files")
 }
 
+// An option, which takes no value as yet.
+fn option<'a>(alloc: Global, name: &'a str, help: &'a str) -> Arg<'a>
+    ensures rule { rule_of result ≡ record (new_rule name.now) { long = Some name.now } }
+    ensures own { result.global ≡ false }
+{
+    Arg::new(alloc, name).long(name).help(help)
+}
+
 // Any number of names.
 fn names_argument<'a>(alloc: Global, name: &'a str, help: &'a str) -> Arg<'a>
     ensures rule { rule_of result ≡ names_rule name.now }
     ensures own { result.global ≡ false }
 {
-    Arg::new(alloc, name)
-        .long(name)
+    option(alloc, name, help)
         .value_name("NAME")
-        .help(help)
         .action(ArgAction::Append)
 }
 
-// An option with one value, which is this one where it isn't there.
-fn option<'a>(
-    alloc: Global,
-    name: &'a str,
-    value: &'a str,
-    help: &'a str,
-    default: &'a str,
-) -> Arg<'a>
+// States, which are these where the option isn't there.
+fn states_argument<'a>(alloc: Global, name: &'a str, help: &'a str, default: &'a str) -> Arg<'a>
     ensures rule { rule_of result ≡ record (new_rule name.now)
         { long = Some name.now; value_names = 1; defaults = default.now ∷ [] } }
     ensures own { result.global ≡ false }
 {
-    Arg::new(alloc, name)
-        .long(name)
-        .value_name(value)
-        .help(help)
+    option(alloc, name, help)
+        .value_name("LIST")
         .default_value(default)
 }
 
-// The number of commands that are settled together. It has no default for clap, which then says
-// whether it was given.
-fn group_argument<'a>(alloc: Global) -> Arg<'a>
-    ensures rule { rule_of result ≡ group_rule }
-    ensures own { result.global ≡ false }
-{
-    Arg::new(alloc, "group")
-        .long("group")
-        .value_name("K")
-        .help(GROUP)
-}
-
-// An option without a value.
-fn whole_argument<'a>(alloc: Global) -> Arg<'a>
-    ensures rule { rule_of result ≡ whole_rule }
-    ensures own { result.global ≡ false }
-{
-    Arg::new(alloc, "whole")
-        .long("whole")
-        .help("Settle at the line settle alone, and stop at a line that isn't done")
-        .action(ArgAction::SetTrue)
-}
-
-// The command line, for clap.
+// The command line, for clap. It knows no default of the group, so it says whether one was given.
 fn command<'a>(alloc: Global) -> Result<Command<'a>, AllocError>
     ensures { IfOk result (λ command. app_of command ≡ command_line) }
 {
@@ -203,10 +180,10 @@ fn command<'a>(alloc: Global) -> Result<Command<'a>, AllocError>
         .arg(folder_argument(alloc))?
         .arg(names_argument(alloc, "new", NEW))?
         .arg(names_argument(alloc, "only", ONLY))?
-        .arg(option(alloc, "todo", "LIST", ACTIVE, "TODO"))?
-        .arg(option(alloc, "done", "LIST", DONE, "DONE"))?
-        .arg(group_argument(alloc))?
-        .arg(whole_argument(alloc))
+        .arg(states_argument(alloc, "todo", ACTIVE, "TODO"))?
+        .arg(states_argument(alloc, "done", DONE, "DONE"))?
+        .arg(option(alloc, "group", GROUP).value_name("K"))?
+        .arg(option(alloc, "whole", WHOLE).action(ArgAction::SetTrue))
 }
 
 fn owned(alloc: Global, words: &[&str]) -> Result<Vec<String>, AllocError>

@@ -1,15 +1,17 @@
 -- A run over a disk whose files were synced first.
 use Rattle.std.proofs.Common.{◌≡◌, ◌≤◌, inl, inr, ⊎_elim, ℕ, List, None, Result, Ok, Err, IfErr, refl, sym, ◌∙◌, ap, subst, arith}
 use Rattle.org_disk.specs.declared.disk.Disk.{Ghosts}
-use Rattle.std.specs.Prelude.{IsSomeAnd, IsTrue, is_some}
-use Rattle.org_disk.specs.CountsFailures.{LeavesOver}
+use Rattle.std.specs.Prelude.{IsErrOf, IsSomeAnd, IsTrue, is_some}
+use Rattle.std.proofs.lemmas.Result.{IfOk-weaker}
+use Rattle.org_disk.specs.CountsFailures.{CountsFailures, LeavesOver}
 use Rattle.org_disk.specs.Disk.{FileState, IsImage, AreImages, HasRisen, LeavesOnly}
 use Rattle.org_disk.specs.Names.{journal_name}
 use Rattle.org_disk.proofs.Moments.{Image, passes_as, passes_then, leaves_only}
 use Rattle.org_journal.specs.Recovered.{SameFiles, IsRecoverable, recovered, contents}
+use Rattle.org_journal.proofs.Accounted.{accounts_after}
 use Rattle.org_fileset.specs.declared.open.OpenFault.{OpenFault}
 use Rattle.org_fileset.specs.declared.open.OpenFault.TheVariants as open_fault
-use Rattle.org_fileset.specs.Opening.{IsRecovered, IsReason}
+use Rattle.org_fileset.specs.Opening.{IsRecovered, IsReason, IsRefusedFor}
 use Rattle.org_fileset.specs.Recovery.{EachRecovers, IsReopened, RecoversAsBefore, closed_journal, is_closed}
 use Rattle.org_fileset.specs.Writes.{LeavesAlone}
 use Rattle.org_fileset.proofs.Recovering.{as_before}
@@ -18,11 +20,13 @@ use Rattle.org_serve.specs.declared.whole.Setup.{Setup}
 use Rattle.org_serve.specs.Pipes.{Exchange}
 use Rattle.org_serve.specs.declared.end.ServeEnd.{ServeEnd}
 use Rattle.org_store.specs.History.{Trace}
-use Rattle.org_serve.specs.Syncing.{AreSynced, IsNotStored, OutsideStable, IsAsFound, IsSyncFault, stored}
-use Rattle.org_serve.specs.Whole.{ServesOver, BreaksByCount, IsForeign, IsIntermediate, IsIntermediateTo, IsDurable, DurableFrom, LeavesDiskOfRun, LeavesSyncedDisk}
-use Rattle.org_serve.proofs.Foreign.{synced_alone}
+use Rattle.org_store.proofs.Sortings.{few_or_many}
+use Rattle.org_serve.specs.Syncing.{AnswersSync, AreSynced, IsNotStored, OutsideStable, IsAsFound, IsSyncFault, Syncs, stored}
+use Rattle.org_serve.specs.Whole.{ServesOver, BreaksByCount, IsForeign, IsIntermediate, IsIntermediateTo, IsDurable, DurableFrom, LeavesDiskOfRun, LeavesSyncedDisk, RunsAs, RunsSynced, SaysFailure, ServesDisk}
+use Rattle.org_serve.proofs.Foreign.{leaves_foreign, synced_alone}
 use Rattle.org_serve.proofs.Honest.{sound_traced, up_to}
-use Rattle.org_serve.proofs.Syncs.{all_images, each_image, some_or_none, still_recoverable, still_recovers, still_outside, as_at_first, as_read, now_recoverable, now_recovers, some_recovers}
+use Rattle.org_serve.proofs.Places.{lists_files}
+use Rattle.org_serve.proofs.Syncs.{all_images, each_image, ok_apart, some_or_none, still_recoverable, still_recovers, still_outside, as_at_first, as_read, now_recoverable, now_recovers, some_recovers}
 
 pub if_err : {A E : Type 0} {P Q : E → Type 0} (r : Result A E) → ((e : E) → P e → Q e) → IfErr r P → IfErr r Q
 if_err (Ok x) more held = tt
@@ -219,4 +223,47 @@ module _ {D : Type 0} (g : Ghosts D)
             let kept = each_image own_now (λ image left. bad.1.each image (counts_now (g.instant mid) image bad.1.passes.later left)) in
             inr (bad.0, still_outside (g.files mid) (g.files now) own_now kept setup.names.items (still_outside (g.files disk) (g.files mid) (own h) (images h) setup.names.items outside))
       ];
+    }
+
+-- what is said of a run over a disk as it is
+abbrev pub RunsDisk : {D : Type 0} → Ghosts D → Setup → ℕ → D → D → Result ServeEnd OpenFault → Exchange → Type 0
+RunsDisk g setup max_reads disk now end io = RunsAs g setup max_reads disk now end io (λ end. ServesDisk g setup disk now end io) (LeavesDiskOfRun g setup disk now end)
+
+-- the files were synced, and this is said of the run behind that
+pub runs_synced : {D : Type 0} (g : Ghosts D)
+    → ((disk : D) (name : List ℕ) → g.honest disk → IsImage (g.files disk name) (g.files disk name).content)
+    → ((disk : D) (t : ℕ) (image : Image) → g.honest disk → t ≤ g.instant disk → AreImages (g.files disk) image → g.left_since disk t image)
+    → (setup : Setup) {max_reads : ℕ} (disk mid now : D) (end : Result ServeEnd OpenFault) {io : Exchange} {done : Unit {0}}
+    → Syncs {A = Unit {0}} {E = OpenFault} g (stored setup.names.items) disk mid (Ok done) → AnswersSync {A = Unit {0}} setup.names.items disk mid (Ok done)
+    → CountsFailures g disk mid (IsErrOf {T = Unit {0}} {E = OpenFault} (Ok done) open_fault.Device)
+    → RunsDisk g setup max_reads mid now end io → RunsSynced g setup max_reads disk now end io
+runs_synced g own counts_now setup disk mid now end syncs answers counts run =
+    let given = setup.names.items in
+    let began = counts.was_honest in
+    let own_mid = λ (h : g.honest mid) (name : List ℕ). own mid name h in
+    let done = λ (h : g.honest mid). (syncs h).done in
+    let images = λ (h : g.honest mid). (syncs h).images in
+    let others = λ (h : g.honest mid). (syncs h).others in
+    let time = λ (h : g.honest mid). (syncs h).any_moment in
+    record {
+      served = IfOk-weaker end _ _ (λ end had. record {
+        serves = record {
+          served = served_from g setup disk mid began own_mid done images others time had.served;
+          breaks = breaks_from g setup disk mid began own_mid done images others time had.served (counts.equal ok_apart) had.breaks;
+          alone = leaves_foreign (served_from g setup disk mid began own_mid done images others time had.served);
+          lists = lists_files (served_from g setup disk mid began own_mid done images others time had.served);
+          lasts = lasts_recoverable g setup disk mid began own_mid done images others time had.served had.lasts;
+        };
+        lasts_found = lasts_found g setup disk mid began own_mid done images others time had.served had.lasts;
+      }) run.served;
+      leaves_disk = λ honest. synced_leaves_disk g setup disk mid began own_mid done images others time
+          (run.accounts.was_honest honest) (run.leaves_disk honest) (λ name. own now name honest) (λ t image within left. counts_now now t image honest within left);
+      refused = if_err end (λ fault (had : IsRefusedFor g given mid now fault). record {
+        reason = reason_before given (g.honest now) (contents (g.files disk)) (contents (g.files mid)) (contents (g.files now))
+            (λ h. (done (run.accounts.was_honest h)).same) fault had.reason;
+        unused = λ is. absurd (few_or_many given answers.few (subst (IsReason given (g.honest now) (contents (g.files mid)) (contents (g.files now))) is had.reason));
+      }) run.refused;
+      unserved = run.unserved;
+      causes = run.causes;
+      accounts = accounts_after counts (subst (λ (n : ℕ). CountsFailures g mid now (SaysFailure end n (g.failures now))) (counts.equal ok_apart) run.accounts);
     }

@@ -284,14 +284,6 @@ abbrev pub FinishesGroups : {S : Type 0} → Machine S → S → ServeEnd → Li
 FinishesGroups m old end out new =
     let s = m.session old in EndsBy m s.broken (nat_lt s.acknowledged s.accepted) old end out new
 
--- What stands behind the last newline is answered, and then the settling.
-abbrev pub EndsGroupsWith : {S : Type 0} → Machine S → List ℕ → S → ServeEnd → S → Output → Type 0
-EndsGroupsWith m part old end new output =
-    (last : List ℕ) × (tail : List ℕ)
-    × AnswersRest part last
-    × FinishesGroups m old end tail new
-    × Adds output (last ++ tail)
-
 -- Serving ends at the end of an input behind whose last newline this stands. Commands of a group
 -- are settled then; where they are to be done whole, nothing is.
 abbrev pub Finishes : {S : Type 0} → Group → Machine S → List ℕ → S → ServeEnd → List ℕ → S
@@ -310,14 +302,11 @@ EndsWith group m part old end new output =
 
 -- What is written at the end of the input, where so many commands are acknowledged then: for what
 -- stands behind the last newline, and for the settling.
-abbrev pub EndsGroupsText : List ℕ → ℕ → List ℕ → Type 0
-EndsGroupsText rest acknowledged text =
+abbrev pub EndsText : Group → List ℕ → ℕ → List ℕ → Type 0
+EndsText (Of size) rest acknowledged text =
     (last : List ℕ) × (answer : Result (Unit {0}) RunFault)
     × AnswersRest rest last
     × (text ≡ last ++ settled_text answer acknowledged)
-
-abbrev pub EndsText : Group → List ℕ → ℕ → List ℕ → Type 0
-EndsText (Of size) rest acknowledged text = EndsGroupsText rest acknowledged text
 EndsText Whole rest acknowledged text = AnswersRest rest text
 
 -- the settling at the end was made or wasn't; where commands are to be done whole, it wasn't

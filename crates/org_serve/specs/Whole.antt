@@ -256,14 +256,7 @@ pub record RunsAs {D : Type 0} (g : Ghosts D) (setup : Setup) (max_reads : ℕ) 
   pub causes : EndsForCause max_reads end io
   pub accounts : CountsFailures g disk now (SaysFailure end (g.failures disk) (g.failures now))
 
--- .. of one over a disk as it is
-abbrev pub RunsDisk : {D : Type 0} → Ghosts D → Setup → ℕ → D → D → Result ServeEnd OpenFault
-    → Exchange → Type 0
-RunsDisk g setup max_reads disk now end io =
-    RunsAs g setup max_reads disk now end io
-    (λ end. ServesDisk g setup disk now end io) (LeavesDiskOfRun g setup disk now end)
-
--- .. and of one that syncs the store's files before it opens the store
+-- .. of one that syncs the store's files before it opens the store
 abbrev pub RunsSynced : {D : Type 0} → Ghosts D → Setup → ℕ → D → D → Result ServeEnd OpenFault
     → Exchange → Type 0
 RunsSynced g setup max_reads disk now end io =

@@ -78,7 +78,7 @@ pub fn spelled_command_reads_back()
 
 /// A reply that says `safe a` ends with that line, and a commands are acknowledged as it is
 /// written, by a store that isn't broken. What a crash leaves from then on is said of such a store:
-/// `serve_disk`.
+/// `serve_synced`.
 pub fn safe_is_acknowledged()
     ensures written { (answer : Result Reply RunFault) (old new a : ℕ)
         → reported_safe answer old new ≡ Some a
@@ -141,7 +141,7 @@ pub fn every_image_opens<D: Disk>()
         → All (AreSmall first.store.session.names) first.texts → D.honest last.store.disk
         → RunsLines (traces_while_honest D.Disk) first last end io
         → HoldsPrefix first.store.session others last.texts least image → IsOpenable given image }
-    // `IsDurable` of `serve_disk`, behind the opening
+    // `IsDurable` of `serve_synced`, behind the opening
     ensures whole { (setup : Setup) (disk now : D) (end : ServeEnd) (io : Exchange)
         (served : ServesOver D.Disk setup disk now end io) (here : Trace D) (least : ℕ)
         (image : Image) → IsIntermediate served here → D.honest here.store.disk

@@ -26,4 +26,4 @@ pub use pipes::{PipeFault, Sink, Source};
 pub use reading::read_command;
 pub use serving::serve;
 pub use syncing::sync_files;
-pub use whole::{Served, Setup, serve_disk, serve_synced};
+pub use whole::{Served, Setup, serve_synced};

@@ -44,9 +44,9 @@ impl Pending {
         }
     }
 
-    /// Whether these bytes are a whole line by themselves: nothing of it is kept, and they are
-    /// within the limit.
-    pub fn is_whole(&self, last: &[u8]) -> bool
+    // Whether these bytes are a whole line by themselves: nothing of it is kept, and they are within
+    // the limit.
+    fn is_whole(&self, last: &[u8]) -> bool
         ensures exact { (part : List ℕ) → Stands self.now part
             → IsTrue result ↔ ((part ≡ []) × (length last.now ≤ limit)) }
         ensures none { IsTrue result → Stands self.now [] }
@@ -54,12 +54,18 @@ impl Pending {
         self.fault.is_none() && self.bytes.is_empty() && last.len() <= LIMIT
     }
 
-    /// The line, now that its newline has come.
-    pub fn line(&self) -> Result<&[u8], Fault<BadLine>>
-        ensures { (part : List ℕ) → Stands self.now part
-            → MatchResult result (λ line. (line.now ≡ part) × (length part ≤ limit))
-            (λ fault. IsCause fault part) }
+    /// The line, now that its newline has come and it ends with these bytes. Most lines lie whole in
+    /// one piece, and are read where they stand; of another all is kept.
+    pub fn line<'a>(&'a mut self, last: &'a [u8]) -> Result<&'a [u8], Fault<BadLine>>
+        ensures { (part : List ℕ) → Stands self.old part
+            → MatchResult result
+            (λ line. (line.now ≡ part ++ last.now) × (length (part ++ last.now) ≤ limit))
+            (λ fault. IsCause fault (part ++ last.now)) }
     {
+        if self.is_whole(last) {
+            return Ok(last);
+        }
+        self.add(last);
         match self.fault {
             None => Ok(self.bytes.as_slice()),
             Some(fault) => Err(fault),

@@ -3,14 +3,14 @@
 //! A line is answered before the next one is run. In a store whose commands are settled in groups,
 //! what isn't settled at the end of the input is settled. In one whose group is whole, a line that
 //! isn't done is the last one, and what isn't settled then is given up.
-ghost use Rattle.std.specs.Prelude.{◌≡◌, ◌≢◌, ◌⊎◌, ◌++◌, List, ℕ, [], IsTrue, Result, Ok};
+ghost use Rattle.std.specs.Prelude.{◌≡◌, ◌≢◌, ◌++◌, List, ℕ, [], IsTrue, Result, Ok};
 ghost use Rattle.org_disk.specs.Disk.{IsCounted};
 ghost use Rattle.org_disk.specs.CountsFailures.{CountsFailures};
 ghost use Rattle.org_commands.specs.declared.command.RunFault.{RunFault};
 ghost use Rattle.org_serve.specs.Lines.{cut, Stands};
 ghost use Rattle.org_serve.specs.Pipes.{Adds, AddsSome, EndsForCause};
 ghost use Rattle.org_serve.specs.Replies.{settled_text};
-ghost use Rattle.org_serve.specs.Serving.{AnswersRest, EndSaysBroken, EndsGroupsText, EndsGroupsWith, EndsLine, EndsText, EndsWith, Feeds, FinishesGroups, HasBroken, HasSettled, IsReadAs, LeavesServedDisk, MayHaveSettled, ReadOutcome, RunsAndWrites, Serves, behind, end_of, refused_end, stores_while_honest, unrefused_end, whole_end};
+ghost use Rattle.org_serve.specs.Serving.{AnswersRest, EndSaysBroken, EndsLine, EndsText, EndsWith, Feeds, FinishesGroups, HasBroken, HasSettled, IsReadAs, LeavesServedDisk, MayHaveSettled, ReadOutcome, RunsAndWrites, Serves, behind, end_of, refused_end, stores_while_honest, unrefused_end, whole_end};
 ghost use Rattle.org_serve.specs.Writes.{CountsFailure, Writes, exchange, output};
 
 use crate::end::ServeEnd;
@@ -148,45 +148,23 @@ fn answer<D: Disk, W: Sink>(
         writer.old writer.new }
     ensures cleared { Stands pending.new [] }
 {
-    // Most lines lie whole in one piece, and are read where they stand.
-    if !pending.is_whole(last) {
-        return answer_kept(alloc, store, group, pending, last, writer);
-    }
-    let read = read_command(alloc, last);
+    let read = read_line(alloc, pending, last);
     let answered = answer_read(store, group, &read, writer);
     // By name, or all fields of each command would be dropped here, one by one.
-    drop(read);
-    answered
-}
-
-// `answer` where the line began in an earlier piece, or is too long.
-#[cold]
-#[inline(never)]
-fn answer_kept<D: Disk, W: Sink>(
-    alloc: Global,
-    store: &mut Store<D>,
-    group: Group,
-    pending: &mut Pending,
-    last: &[u8],
-    writer: &mut W,
-) -> Result<Next, PipeFault>
-    ensures answers { EndsLine D.Disk W.Sink group pending.old last.now result store.old store.new
-        writer.old writer.new }
-    ensures cleared { Stands pending.new [] }
-{
-    pending.add(last);
-    let read = read_kept(alloc, pending);
-    let answered = answer_read(store, group, &read, writer);
     drop(read);
     pending.clear();
     answered
 }
 
-// What a line that was kept is read as.
-fn read_kept(alloc: Global, pending: &Pending) -> Result<Command<'_>, Fault<BadLine>>
-    ensures { (line : List ℕ) → Stands pending.now line → IsReadAs line result }
+// What the line that ends with these bytes is read as.
+fn read_line<'a>(
+    alloc: Global,
+    pending: &'a mut Pending,
+    last: &'a [u8],
+) -> Result<Command<'a>, Fault<BadLine>>
+    ensures { (part : List ℕ) → Stands pending.old part → IsReadAs (part ++ last.now) result }
 {
-    match pending.line() {
+    match pending.line(last) {
         Ok(line) => read_command(alloc, line),
         Err(fault) => Err(fault),
     }
@@ -250,29 +228,23 @@ fn finish<D: Disk, W: Sink>(
     ensures accounts { CountsFailures D.Disk store.old.disk store.new.disk
         (HasBroken store.old.session store.new.session) }
 {
-    match group {
-        Group::Of(_) => finish_groups(store, pending, writer),
-        Group::Whole => finish_whole(store, pending, writer),
-    }
-}
-
-// Ends an input that is to be done whole: nothing is settled, and a line without its newline isn't
-// done.
-fn finish_whole<D: Disk, W: Sink>(store: &Store<D>, pending: &Pending, writer: &mut W) -> ServeEnd
-    ensures never { result ≢ ServeEnd.Read }
-    ensures reported { result ≢ ServeEnd.Write → (W.failures writer.new ≡ W.failures writer.old)
-        × ((part : List ℕ) → Stands pending.now part → (last : List ℕ)
-        × AnswersRest part last × (result ≡ whole_end part store.now.session)
-        × Adds (output W.Sink writer.old writer.new) last) }
-    ensures write { result ≡ ServeEnd.Write
-        → IsCounted (W.failures writer.old) (W.failures writer.new)
-        × ((part : List ℕ) → Stands pending.now part → (last : List ℕ)
-        × AnswersRest part last × AddsSome (output W.Sink writer.old writer.new) last) }
-    ensures broken { EndSaysBroken result store.now.session }
-{
     if let Err(PipeFault) = answer_rest(pending, writer) {
         return ServeEnd::Write;
     }
+    match group {
+        Group::Of(_) => settle(store, writer),
+        Group::Whole => whole_end(store, pending),
+    }
+}
+
+// How an input ends that is to be done whole: nothing is settled, and a line without its newline
+// isn't done.
+fn whole_end<D: Disk>(store: &Store<D>, pending: &Pending) -> ServeEnd
+    ensures value { (part : List ℕ) → Stands pending.now part
+        → result ≡ whole_end part store.now.session }
+    ensures never { (result ≢ ServeEnd.Read) × (result ≢ ServeEnd.Write) }
+    ensures broken { EndSaysBroken result store.now.session }
+{
     match pending.unended() {
         None => unrefused_end(store),
         Some(_) => refused_end(store),
@@ -299,34 +271,6 @@ fn unrefused_end<D: Disk>(store: &Store<D>) -> ServeEnd
         return refused_end(store);
     }
     ServeEnd::End
-}
-
-// Ends an input whose commands are settled in groups.
-fn finish_groups<D: Disk, W: Sink>(
-    store: &mut Store<D>,
-    pending: &Pending,
-    writer: &mut W,
-) -> ServeEnd
-    ensures never { result ≢ ServeEnd.Read }
-    ensures reported { result ≢ ServeEnd.Write → (W.failures writer.new ≡ W.failures writer.old)
-        × ((part : List ℕ) → Stands pending.now part
-        → EndsGroupsWith (stores_while_honest D.Disk) part store.old result store.new
-        (output W.Sink writer.old writer.new)) }
-    ensures write { result ≡ ServeEnd.Write → ((store.new ≡ store.old)
-        ⊎ HasSettled (stores_while_honest D.Disk) store.old store.new)
-        × IsCounted (W.failures writer.old) (W.failures writer.new)
-        × ((part : List ℕ) → Stands pending.now part
-        → (text : List ℕ) × EndsGroupsText part store.new.session.acknowledged text
-        × AddsSome (output W.Sink writer.old writer.new) text) }
-    ensures broken { EndSaysBroken result store.new.session }
-    ensures untouched { IsTrue store.old.session.broken → store.new ≡ store.old }
-    ensures accounts { CountsFailures D.Disk store.old.disk store.new.disk
-        (HasBroken store.old.session store.new.session) }
-{
-    match answer_rest(pending, writer) {
-        Err(PipeFault) => ServeEnd::Write,
-        Ok(()) => settle(store, writer),
-    }
 }
 
 // Answers what stands behind the last newline.

@@ -3,7 +3,7 @@ ghost use Rattle.std.specs.Prelude.{◌≡◌, All, IfErr};
 ghost use Rattle.org_disk.specs.Names.{IsOrgFile};
 ghost use Rattle.org_store.specs.Group.{IsGroup};
 ghost use Rattle.org_serve.specs.Promises.{Promises};
-ghost use Rattle.org_serve.specs.Whole.{RunsDisk, RunsSynced};
+ghost use Rattle.org_serve.specs.Whole.{RunsSynced};
 ghost use Rattle.org_serve.specs.Writes.{exchange};
 
 use crate::end::ServeEnd;
@@ -36,9 +36,10 @@ pub struct Served<D> {
     pub end: Result<ServeEnd, OpenFault>,
 }
 
-/// Opens a store over the files of a disk, answers the lines of a reader by it as `serve` does, and
-/// gives the disk back. For proofs alone there is each intermediate store, and one list: the texts
-/// of all files as they were opened, and after each accepted command.
+/// Syncs the files of a store, opens it over them, answers the lines of a reader by it as `serve`
+/// does, and gives the disk back. The files are the journal, those of the names, and their archive
+/// files. For proofs alone there is each intermediate store, and one list: the texts of all files as
+/// they were opened, and after each accepted command.
 ///
 /// What is said of a step is said where the disk is honest after it: a wrong answer later takes
 /// nothing from it. Up to each intermediate store the replies to the lines so far are the model's.
@@ -55,6 +56,13 @@ pub struct Served<D> {
 /// recovers to the files after all of them. The disk is as recoverable at the end, so that all this
 /// may be done again.
 ///
+/// Only the other files have to be on the disk at first: where they are, whatever the store's own
+/// files held that wasn't on the disk, a crash at any moment since this began leaves one image of
+/// the files as they were found, or what recovers to what they read as, or to the files after one
+/// prefix of the commands accepted by then; from each intermediate store on, what it leaves is as
+/// above. The disk is then left recoverable, and each image of it recovers to files; or the store
+/// wasn't opened, and the other files are on the disk as before.
+///
 /// Where the group is whole, that prefix is the commands that were acknowledged, or all that were
 /// accepted as a line `settle` was run (`HoldsSettled`): nothing of a step that no line settled is
 /// ever on the disk.
@@ -63,61 +71,13 @@ pub struct Served<D> {
 /// names: up to an intermediate store, and at the end, each other file is as it was, and a crash
 /// leaves of it what it might have left before, on any disk (`LeavesForeign`).
 ///
-/// The faults are those of `Store::open`, and then nothing is read or written; the ends, when each
-/// comes, and what is written then, those of `serve`. The store at the end is broken where the disk
-/// counted a failure, and isn't where it counted none. Too many names leave the disk unused. Where
-/// the journal is bad, as it reads, a crash leaves what it might have left before, whatever fault
-/// is reported. With `Device`, or an opening that is refused so, it ends only where the disk
-/// counted a failure, and with `End` or `Unsettled` only where it counted none.
-pub fn serve_disk<D: Disk, R: Source, W: Sink>(
-    alloc: Global,
-    disk: D,
-    setup: Setup,
-    reader: &mut R,
-    writer: &mut W,
-    max_reads: u64,
-) -> Served<D>
-    requires names { All IsOrgFile setup.names.items }
-    requires group { IsGroup setup.group }
-    ensures runs { RunsDisk D.Disk setup max_reads disk result.disk result.end
-        (exchange R.Source W.Sink reader.old reader.new writer.old writer.new) }
-    ensures unserved { IfErr result.end (λ _. (reader.new ≡ reader.old)
-        × (writer.new ≡ writer.old)) }
-{
-    let Setup {
-        names,
-        states,
-        group,
-    } = setup;
-    match Store::open(alloc, disk, names, states) {
-        Ok(mut store) => {
-            store.set_group(group);
-            let end = serve(alloc, &mut store, reader, writer, max_reads);
-            Served {
-                disk: store.into_disk(),
-                end: Ok(end),
-            }
-        }
-        Err(OpenRefused { disk, fault }) => Served {
-            disk,
-            end: Err(fault),
-        },
-    }
-}
-
-/// `serve_disk` over files that are synced first: the journal, the files of the names, and their
-/// archive files.
-///
-/// All that `serve_disk` says of a run holds of this one. But only the other files have to be on
-/// the disk at first: where they are, whatever the store's own files held that wasn't on the disk,
-/// a crash at any moment since this began leaves one image of the files as they were found, or what
-/// recovers to what they read as, or to the files after one prefix of the commands accepted by
-/// then; from each intermediate store on, what it leaves is as after `serve_disk`. The disk is then
-/// left recoverable, and each image of it recovers to files; or the store wasn't opened, and the
-/// other files are on the disk as before.
-///
-/// A sync that fails is an opening that is refused with `Device`. Too many names leave the disk
-/// unused.
+/// The faults are those of `Store::open`, and then nothing is read or written; a sync that fails is
+/// an opening that is refused with `Device`. The ends, when each comes, and what is written then,
+/// are those of `serve`. The store at the end is broken where the disk counted a failure, and isn't
+/// where it counted none. Too many names leave the disk unused. Where the journal is bad, as it
+/// reads, a crash leaves what it might have left before, whatever fault is reported. With `Device`,
+/// or an opening that is refused so, it ends only where the disk counted a failure, and with `End`
+/// or `Unsettled` only where it counted none.
 ///
 /// What a user is promised of all this is said once more in one record (`promises`).
 pub fn serve_synced<D: Disk, R: Source, W: Sink>(
@@ -137,10 +97,28 @@ pub fn serve_synced<D: Disk, R: Source, W: Sink>(
     ensures unserved { IfErr result.end (λ _. (reader.new ≡ reader.old)
         × (writer.new ≡ writer.old)) }
 {
+    let Setup {
+        names,
+        states,
+        group,
+    } = setup;
     let mut disk = disk;
-    match sync_files(alloc, &mut disk, &setup.names) {
-        Ok(()) => serve_disk(alloc, disk, setup, reader, writer, max_reads),
-        Err(fault) => Served {
+    if let Err(fault) = sync_files(alloc, &mut disk, &names) {
+        return Served {
+            disk,
+            end: Err(fault),
+        };
+    }
+    match Store::open(alloc, disk, names, states) {
+        Ok(mut store) => {
+            store.set_group(group);
+            let end = serve(alloc, &mut store, reader, writer, max_reads);
+            Served {
+                disk: store.into_disk(),
+                end: Ok(end),
+            }
+        }
+        Err(OpenRefused { disk, fault }) => Served {
             disk,
             end: Err(fault),
         },

@@ -20,7 +20,7 @@ use crate::shared::must;
 use org_disk::Disk;
 use org_fixtures::org_names;
 use org_outline::States;
-use org_serve::{Counted, ServeEnd, Served, Setup, Sink, Source, serve_disk, serve_synced};
+use org_serve::{Counted, ServeEnd, Served, Setup, Sink, Source, serve_synced};
 use org_store::{Group, OpenFault};
 use org_test_disks::MemoryDisk;
 use std::process::Abort;
@@ -32,6 +32,10 @@ struct Ended<D> {
     end: Result<ServeEnd, OpenFault>,
     disk: D,
 }
+
+// How many calls of the disk sync the files before an opening: three names, their archive files, and
+// the journal. What is on the disk already they leave as it is; other files are for `syncs`.
+pub const SYNCS: u64 = 7;
 
 // A store of a.org, of b.org and of inbox.org, which is absent.
 fn setup(rt: &(impl Abort + AllocGlobal), group: Group) -> Setup
@@ -57,7 +61,7 @@ fn serve_over<D: Disk, R: Source, W: Sink>(
     writer: &mut W,
     max_reads: u64,
 ) -> Served<D> {
-    serve_disk(
+    serve_synced(
         rt.alloc(),
         disk,
         setup(rt, group),

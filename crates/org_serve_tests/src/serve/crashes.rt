@@ -6,7 +6,7 @@ use super::steps::{
     TO_ANOTHER_FILE, TO_THE_ARCHIVE, TWO_ARCHIVES, WITHIN_TWINS, all_of, count_of, files,
     may_be_done, safe_in,
 };
-use super::{Ended, calls, disk_of, run, served};
+use super::{Ended, SYNCS, calls, disk_of, run, served};
 use crate::shared::image;
 use org_disk::Disk;
 use org_fixtures::OUTCOMES;
@@ -70,9 +70,9 @@ pub fn calls_of_opening(rt: &(impl Abort + AllocGlobal), disk: &MemoryDisk) -> u
     calls(rt, image(rt, disk), 1, b"")
 }
 
-// A crash at each call of an opening leaves what the disk recovered to.
+// A crash at each call of an opening behind its syncs leaves what the disk recovered to.
 fn crash_each_opening(rt: &(impl Abort + AllocGlobal), disk: &MemoryDisk, step: &Step, done: u64) {
-    for number in 0..ways(calls_of_opening(rt, disk)) {
+    for number in ways(SYNCS)..ways(calls_of_opening(rt, disk)) {
         let again = done_stopped(rt, image(rt, disk), way(number), step);
         assert!(rt; again == done, "opening stopped in way {number}");
     }
@@ -94,12 +94,12 @@ fn crash(rt: &(impl Abort + AllocGlobal), group: u32, step: &Step, number: u64) 
     drop(left);
 }
 
-// Crashes in each way. Where no call is stopped all lines are done.
+// Crashes in each way behind the syncs. Where no call is stopped all lines are done.
 fn crash_in_each_way(rt: &(impl Abort + AllocGlobal), group: u32, step: &Step) {
     let lines = step.lines.as_bytes();
     let disk = disk_of(run(rt, files(rt, step), group, lines));
     assert!(rt; done_in(rt, disk, step) == all_of(step));
-    for number in 0..ways(calls(rt, files(rt, step), group, lines)) {
+    for number in ways(SYNCS)..ways(calls(rt, files(rt, step), group, lines)) {
         crash(rt, group, step, number);
     }
 }

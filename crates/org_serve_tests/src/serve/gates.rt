@@ -1,7 +1,7 @@
 //! The gate of a journal, as a crash leaves it.
 use super::crashes::{calls_of_opening, done_in, left, way, ways};
 use super::steps::{FIRST, Step, TO_THE_ARCHIVE, files};
-use super::{calls, disk_of, run};
+use super::{SYNCS, calls, disk_of, run};
 use crate::shared::{image, must};
 use org_fixtures::{OUTCOMES, bytes_of, disk_with, file_name};
 use org_test_disks::{MemoryDisk, Outcome};
@@ -74,7 +74,7 @@ fn keeps_gate(rt: &(impl Abort + AllocGlobal), disk: MemoryDisk) -> bool {
 // A byte that closes the gate is left alone, also where its opening is stopped.
 fn leave_gate_alone(rt: &(impl Abort + AllocGlobal), disk: &MemoryDisk) {
     assert!(rt; keeps_gate(rt, image(rt, disk)));
-    for number in 0..ways(calls_of_opening(rt, disk)) {
+    for number in ways(SYNCS)..ways(calls_of_opening(rt, disk)) {
         let again = left(rt, image(rt, disk), "", way(number));
         assert!(rt; keeps_gate(rt, again));
     }

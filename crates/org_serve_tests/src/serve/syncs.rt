@@ -1,18 +1,13 @@
 //! Files that were written and not synced, and a store that syncs them before it is opened.
 use super::crashes::{way, ways};
-use super::{Ended, is_refused, served, setup};
+use super::{SYNCS, calls, is_refused, run, served};
 use crate::shared::{image, must, two};
 use org_disk::Disk;
 use org_fixtures::file_name;
-use org_serve::{Counted, Served, serve_synced};
-use org_store::Group;
 use org_test_disks::{MemoryDisk, Outcome};
 use std::process::Abort;
 
-// The files of the store: three names, their archive files, and the journal.
-const FILES: u64 = 7;
-
-const CAPTURE: &str = "capture\tb.org\ttop\tlast\t2026-07-01 10:00\t* K\t\n";
+const CAPTURE: &[u8] = b"capture\tb.org\ttop\tlast\t2026-07-01 10:00\t* K\t\n";
 
 const SHOW: &[u8] = b"show\ta.org\nshow\tb.org\n";
 
@@ -23,25 +18,6 @@ fn unsynced(rt: &(impl Abort + AllocGlobal)) -> MemoryDisk {
     let is_written = disk.write_at(&name, 0, b"* A\n* B\n").is_ok();
     assert!(rt; is_written);
     disk
-}
-
-// Serves the capture in groups of one over a disk whose files are synced first.
-fn run_synced(rt: &(impl Abort + AllocGlobal), disk: MemoryDisk) -> Ended<MemoryDisk> {
-    let mut reader = Counted::new(CAPTURE.as_bytes());
-    let mut writer = Counted::new(Vec::new(rt.alloc()));
-    let Served { disk, end } = serve_synced(
-        rt.alloc(),
-        disk,
-        setup(rt, Group::Of(1)),
-        &mut reader,
-        &mut writer,
-        10_000_000,
-    );
-    Ended {
-        written: writer.into_inner(),
-        end,
-        disk,
-    }
 }
 
 // A crash may take what wasn't synced until its file is synced, which is the first call; nothing
@@ -57,7 +33,7 @@ fn is_right(call: u64, written: &[u8], shown: &[u8]) -> bool {
 // A run over a disk that is stopped or fails at this call, of which what a crash leaves is right:
 // whether it was opened.
 fn is_opened(rt: &(impl Abort + AllocGlobal), disk: MemoryDisk, call: u64) -> bool {
-    let ended = run_synced(rt, disk);
+    let ended = run(rt, disk, 1, CAPTURE);
     let shown = served(rt, image(rt, &ended.disk), SHOW);
     assert!(rt; is_right(call, &ended.written, &shown), "after {call}");
     let is_opened = !is_refused(&ended);
@@ -73,9 +49,7 @@ fn crash_at(rt: &(impl Abort + AllocGlobal), call: u64, outcome: Outcome) {
 
 #[test]
 fn crashed_over_files_that_were_not_synced(rt: HostRuntime) {
-    let ended = run_synced(&rt, unsynced(&rt));
-    let all = ended.disk.calls();
-    drop(ended);
+    let all = calls(&rt, unsynced(&rt), 1, CAPTURE);
     // the write that wasn't synced is the first call of the disk
     for number in 0..ways(all.saturating_sub(1)) {
         let (call, outcome) = way(number);
@@ -92,7 +66,7 @@ fn fail_at(rt: &(impl Abort + AllocGlobal), call: u64) {
 
 #[test]
 fn a_sync_that_fails(rt: HostRuntime) {
-    for call in 1..=FILES {
+    for call in 1..=SYNCS {
         fail_at(&rt, call);
     }
 }

@@ -3,7 +3,7 @@ use super::crashes::{done_in, done_stopped, way, ways};
 use super::steps::{
     BETWEEN_TWINS, CAPTURES, LINE_MOVED, Step, TWO_LINES, WITHIN_TWINS, all_of, files,
 };
-use super::{Ended, disk_of, run_in};
+use super::{Ended, SYNCS, disk_of, run_in};
 use crate::shared::image;
 use org_fixtures::OUTCOMES;
 use org_serve::ServeEnd;
@@ -186,15 +186,15 @@ fn crash(rt: &(impl Abort + AllocGlobal), row: &(&Step, &str, &str), all: u64, n
         "crashed in way {number}"
     );
     for outcome in &OUTCOMES {
-        let again = done_stopped(rt, image(rt, &left), (1, *outcome), step);
+        let again = done_stopped(rt, image(rt, &left), (SYNCS + 1, *outcome), step);
         assert!(rt; again == done, "opening stopped behind way {number}");
     }
     drop(left);
 }
 
-// It crashes at each call.
+// It crashes at each call behind the syncs.
 fn crash_at_each_call(rt: &(impl Abort + AllocGlobal), row: &(&Step, &str, &str), all: u64) {
-    for number in 0..ways(calls_of(rt, row.0, row.1)) {
+    for number in ways(SYNCS)..ways(calls_of(rt, row.0, row.1)) {
         crash(rt, row, all, number);
     }
 }

@@ -1,12 +1,29 @@
-use Rattle.std.proofs.Common.{ℕ, List, Ok, sym, subst}
-use Rattle.org_disk.specs.Disk.{FileState}
-use Rattle.org_disk.specs.Names.{journal_name}
+use Rattle.std.proofs.Common.{List, ℕ, Ok, sym, subst}
 use Rattle.org_disk.proofs.Accounting.{accounts_then, accounts_ok}
 use Rattle.org_journal.proofs.Accounted.{accounts_failed}
 use Rattle.org_journal.specs.Gate.{HasClosedGate}
-use Rattle.org_fileset.specs.Replay.{AreApplicableTo}
-use Rattle.org_fileset.proofs.Tried.{commits_failed, commits_after, commits_err, commits_tried}
+use Rattle.org_fileset.proofs.OpenGate.{on_ok_never}
+use Rattle.org_fileset.proofs.Commits.{WritesRecord, open_writes, opened_writes, still_can}
+use Rattle.org_fileset.proofs.Tried.{applicable_tried, gate_tried, writes_tried, commits_failed, commits_unwritten, commits_written, commits_err, commits_tried}
+use Rattle.org_fileset.proofs.commit.commit_entries.Given.{Over}
 use Rattle.org_fileset.proofs.commit.commit_entries.Goals as goal
+use Rattle.org_fileset.proofs.commit.commit_entries.Goals.{In_ok-open_gate}
+
+-- the gate is open over the record
+written : (g : Over) (c : In_ok-open_gate g) → g.D.Disk.honest c.open_gate.new.disk
+    → WritesRecord g.D.Disk c.args.entries.now c.args.disk.now c.open_gate.new.disk (Ok tt)
+written g c ended =
+    let d = g.D.Disk in
+    let armed = c.open_gate.ensures.put.accounts.was_honest ended in
+    let tried = c.arm.ensures.accounts.was_honest armed in
+    let honest = c.try_all.ensures.accounts.was_honest tried in
+    let entries = c.args.entries.now in
+    let disk = c.args.disk.now in
+    let same = (c.in_ok-try_all.ensures.tries tried).ok in
+    writes_tried d entries disk c.try_all.new.disk same c.open_gate.new.disk (Ok tt)
+    (opened_writes d c.try_all.new.disk c.args.journal.now c.requires.journal entries (applicable_tried d entries disk c.try_all.new.disk same (c.requires.applicable honest))
+    (gate_tried d entries disk c.try_all.new.disk same (c.requires.gate honest)) c.args.body.now c.requires.body c.arm.new.disk c.open_gate.new.disk (Ok tt)
+    (c.arm.ensures.any_moment armed) (c.in_ok-arm.ensures.puts armed) (c.open_gate.ensures.put.any_moment ended) (c.in_ok-open_gate.ensures.put.puts ended))
 
 pub returns-in_err-try_all : goal.returns-in_err-try_all
 returns-in_err-try_all g c = record {
@@ -18,36 +35,89 @@ returns-in_err-try_all g c = record {
   accounts = accounts_failed c.from_residual.ensures.0 c.in_err-try_all.ensures.accounts;
 }
 
-pub write_and_replay-requires-clause-applicable : goal.write_and_replay-requires-clause-applicable
-write_and_replay-requires-clause-applicable g c ended =
-    let looks = (c.in_ok-try_all.ensures.tries ended).ok in
-    subst (λ (f : List ℕ → FileState). AreApplicableTo c.args.entries.now f) (sym looks.same) (c.requires.applicable (c.try_all.ensures.accounts.was_honest ended))
+pub arm-requires : goal.arm-requires
+arm-requires g c tried =
+    let P : List ℕ → Type 0 = λ n. HasClosedGate (g.D.Disk.files c.try_all.new.disk n) in
+    subst P (sym c.requires.journal)
+    (gate_tried g.D.Disk c.args.entries.now c.args.disk.now c.try_all.new.disk (c.in_ok-try_all.ensures.tries tried).ok (c.requires.gate (c.try_all.ensures.accounts.was_honest tried)))
 
-pub write_and_replay-requires-clause-gate : goal.write_and_replay-requires-clause-gate
-write_and_replay-requires-clause-gate g c ended =
-    let looks = (c.in_ok-try_all.ensures.tries ended).ok in
-    subst (λ (f : List ℕ → FileState). HasClosedGate (f journal_name)) (sym looks.same) (c.requires.gate (c.try_all.ensures.accounts.was_honest ended))
-
-pub returns-in_err-write_and_replay : goal.returns-in_err-write_and_replay
-returns-in_err-write_and_replay g c = record {
+pub returns-in_err-arm : goal.returns-in_err-arm
+returns-in_err-arm g c = record {
   commits = λ ended.
-      let mid = c.write_and_replay.ensures.accounts.was_honest ended in
-      let honest = c.try_all.ensures.accounts.was_honest mid in
-      commits_err g.D.Disk c.args.entries.now c.args.disk.now (λ image left. g.met.D.Disk.only_now c.args.disk.now image honest left) c.write_and_replay.new.disk c.write_and_replay.result c.from_residual-in_err-write_and_replay.result
-      (commits_after g.D.Disk c.args.entries.now c.args.disk.now (λ image left. g.met.D.Disk.only_now c.args.disk.now image honest left) c.try_all.new.disk c.write_and_replay.new.disk (c.in_ok-try_all.ensures.tries mid).ok
-      c.write_and_replay.result (c.write_and_replay.ensures.commits ended))
-      c.from_residual-in_err-write_and_replay.ensures.0;
-  accounts = accounts_then (accounts_ok c.in_ok-try_all.ensures.accounts) (accounts_failed c.from_residual-in_err-write_and_replay.ensures.0 c.in_err-write_and_replay.ensures.accounts);
+      let d = g.D.Disk in
+      let tried = c.arm.ensures.accounts.was_honest ended in
+      let honest = c.try_all.ensures.accounts.was_honest tried in
+      let entries = c.args.entries.now in
+      let disk = c.args.disk.now in
+      let same = (c.in_ok-try_all.ensures.tries tried).ok in
+      let result = c.from_residual-in_err-arm.result in
+      let failed = c.from_residual-in_err-arm.ensures.0 in
+      commits_unwritten d entries disk (λ image left. g.met.D.Disk.only_now disk image honest left) c.arm.new.disk result
+      (writes_tried d entries disk c.try_all.new.disk same c.arm.new.disk result
+      (open_writes d c.try_all.new.disk c.args.journal.now c.requires.journal entries (applicable_tried d entries disk c.try_all.new.disk same (c.requires.applicable honest))
+      c.arm.new.disk c.arm.result result (c.arm.ensures.any_moment ended) (c.arm.ensures.puts ended) (on_ok_never _ result failed)))
+      result failed;
+  accounts = accounts_then (accounts_ok c.in_ok-try_all.ensures.accounts) (accounts_failed c.from_residual-in_err-arm.ensures.0 c.in_err-arm.ensures.accounts);
+}
+
+pub returns-in_err-open_gate : goal.returns-in_err-open_gate
+returns-in_err-open_gate g c = record {
+  commits = λ ended.
+      let d = g.D.Disk in
+      let armed = c.open_gate.ensures.put.accounts.was_honest ended in
+      let tried = c.arm.ensures.accounts.was_honest armed in
+      let honest = c.try_all.ensures.accounts.was_honest tried in
+      let entries = c.args.entries.now in
+      let disk = c.args.disk.now in
+      let same = (c.in_ok-try_all.ensures.tries tried).ok in
+      commits_unwritten d entries disk (λ image left. g.met.D.Disk.only_now disk image honest left) c.open_gate.new.disk c.open_gate.result
+      (writes_tried d entries disk c.try_all.new.disk same c.open_gate.new.disk c.open_gate.result
+      (opened_writes d c.try_all.new.disk c.args.journal.now c.requires.journal entries (applicable_tried d entries disk c.try_all.new.disk same (c.requires.applicable honest))
+      (gate_tried d entries disk c.try_all.new.disk same (c.requires.gate honest)) c.args.body.now c.requires.body c.arm.new.disk c.open_gate.new.disk c.open_gate.result
+      (c.arm.ensures.any_moment armed) (c.in_ok-arm.ensures.puts armed) (c.open_gate.ensures.put.any_moment ended) (c.open_gate.ensures.put.puts ended)))
+      c.from_residual-in_err-open_gate.result c.from_residual-in_err-open_gate.ensures.0;
+  accounts = accounts_then (accounts_ok c.in_ok-try_all.ensures.accounts) (accounts_then (accounts_ok c.in_ok-arm.ensures.accounts)
+      (accounts_failed c.from_residual-in_err-open_gate.ensures.0 c.in_err-open_gate.ensures.put.accounts));
+}
+
+pub replay-requires-clause-applicable : goal.replay-requires-clause-applicable
+replay-requires-clause-applicable g c ended =
+    let tried = c.arm.ensures.accounts.was_honest (c.open_gate.ensures.put.accounts.was_honest ended) in
+    let can = c.requires.applicable (c.try_all.ensures.accounts.was_honest tried) in
+    still_can c.args.entries.now (g.D.Disk.files c.args.disk.now) can (g.D.Disk.files c.open_gate.new.disk) (written g (goal.at.replay-requires-clause-applicable g c).In_ok-open_gate ended).others
+
+pub replay-requires-clause-opened : goal.replay-requires-clause-opened
+replay-requires-clause-opened g c ended = (written g (goal.at.replay-requires-clause-opened g c).In_ok-open_gate ended).opened
+
+pub returns-in_err-replay : goal.returns-in_err-replay
+returns-in_err-replay g c = record {
+  commits = λ ended.
+      let d = g.D.Disk in
+      let opened = c.replay.ensures.accounts.was_honest ended in
+      let tried = c.arm.ensures.accounts.was_honest (c.open_gate.ensures.put.accounts.was_honest opened) in
+      let honest = c.try_all.ensures.accounts.was_honest tried in
+      let disk = c.args.disk.now in
+      commits_err d c.args.entries.now disk (λ image left. g.met.D.Disk.only_now disk image honest left) c.replay.new.disk c.replay.result c.from_residual-in_err-replay.result
+      (commits_written d c.args.entries.now disk (λ image left. g.met.D.Disk.only_now disk image honest left) (c.requires.applicable honest) c.open_gate.new.disk c.replay.new.disk tt
+      (written g (goal.at.returns-in_err-replay g c).In_ok-open_gate opened) c.replay.result (c.replay.ensures.replays ended))
+      c.from_residual-in_err-replay.ensures.0;
+  accounts = accounts_then (accounts_ok c.in_ok-try_all.ensures.accounts) (accounts_then (accounts_ok c.in_ok-arm.ensures.accounts)
+      (accounts_then (accounts_ok c.in_ok-open_gate.ensures.put.accounts) (accounts_failed c.from_residual-in_err-replay.ensures.0 c.in_err-replay.ensures.accounts)));
 }
 
 pub returns : goal.returns
 returns g c = record {
   commits = λ ended.
-      let mid = c.write_and_replay.ensures.accounts.was_honest (c.try_files.ensures.accounts.was_honest ended) in
-      let honest = c.try_all.ensures.accounts.was_honest mid in
-      commits_tried g.D.Disk c.args.entries.now c.args.disk.now (λ image left. g.met.D.Disk.only_now c.args.disk.now image honest left) c.write_and_replay.new.disk c.try_files.new.disk tt c.try_files.result
-      (commits_after g.D.Disk c.args.entries.now c.args.disk.now (λ image left. g.met.D.Disk.only_now c.args.disk.now image honest left) c.try_all.new.disk c.write_and_replay.new.disk (c.in_ok-try_all.ensures.tries mid).ok
-      (Ok tt) (c.in_ok-write_and_replay.ensures.commits (c.try_files.ensures.accounts.was_honest ended)))
+      let d = g.D.Disk in
+      let replayed = c.try_files.ensures.accounts.was_honest ended in
+      let opened = c.replay.ensures.accounts.was_honest replayed in
+      let tried = c.arm.ensures.accounts.was_honest (c.open_gate.ensures.put.accounts.was_honest opened) in
+      let honest = c.try_all.ensures.accounts.was_honest tried in
+      let disk = c.args.disk.now in
+      commits_tried d c.args.entries.now disk (λ image left. g.met.D.Disk.only_now disk image honest left) c.replay.new.disk c.try_files.new.disk tt c.try_files.result
+      (commits_written d c.args.entries.now disk (λ image left. g.met.D.Disk.only_now disk image honest left) (c.requires.applicable honest) c.open_gate.new.disk c.replay.new.disk tt
+      (written g (goal.at.returns g c).In_ok-open_gate opened) (Ok tt) (c.in_ok-replay.ensures.replays replayed))
       (c.try_files.ensures.tries ended) (λ n. g.met.D.Disk.content_is_image c.try_files.new.disk n ended);
-  accounts = accounts_then (accounts_ok c.in_ok-try_all.ensures.accounts) (accounts_then (accounts_ok c.in_ok-write_and_replay.ensures.accounts) c.try_files.ensures.accounts);
+  accounts = accounts_then (accounts_ok c.in_ok-try_all.ensures.accounts) (accounts_then (accounts_ok c.in_ok-arm.ensures.accounts)
+      (accounts_then (accounts_ok c.in_ok-open_gate.ensures.put.accounts) (accounts_then (accounts_ok c.in_ok-replay.ensures.accounts) c.try_files.ensures.accounts)));
 }

@@ -1,75 +1,103 @@
-use Rattle.std.proofs.Common.{◌≡◌, ℕ, List, refl, rules, subst}
-use Rattle.std.proofs.lemmas.Result.{IfOk-weaker}
-use Rattle.org_disk.specs.CountsFailures.{CountsFailures}
-use Rattle.org_journal.specs.Recovered.{contents}
-use Rattle.org_journal.proofs.Accounted.{accounts_after}
-use Rattle.org_fileset.specs.Names.{AreFew}
-use Rattle.org_fileset.specs.Opening.{IsReason, IsRefusedFor}
-use Rattle.org_store.proofs.Sortings.{few_or_many}
-use Rattle.org_serve.specs.Syncing.{AreSynced, IsNotStored, stored}
-use Rattle.org_serve.specs.Whole.{SaysFailure}
+use Rattle.std.proofs.Common.{◌≡◌, ℕ, List, Option, Ok, Err, refl, rules, subst}
+use Rattle.std.specs.Prelude.{IsSomeAnd}
+use Rattle.org_disk.specs.CountsFailures.{CountsFailures, LeavesOver}
+use Rattle.org_disk.specs.Names.{journal_name}
+use Rattle.org_journal.specs.Recovered.{Image, SameFiles, contents}
+use Rattle.org_fileset.specs.declared.open.OpenFault.{OpenFault}
+use Rattle.org_fileset.specs.Recovery.{IsReopened, RecoversAsBefore}
+use Rattle.org_fileset.specs.Replay.{IsAtRest}
+use Rattle.org_fileset.specs.Writes.{LeavesAlone, IsUnconcerned}
+use Rattle.org_fileset.proofs.Writes.{alone_fewer}
+use Rattle.org_serve.specs.Syncing.{AnswersSync, IsNotStored, Syncs, stored}
+use Rattle.org_serve.specs.Whole.{IsForeign}
 use Rattle.org_serve.specs.Writes.{pipes}
+use Rattle.org_serve.proofs.Breaking.{breaks_by_count, served_accounts}
 use Rattle.org_serve.proofs.Counting.{ended_unserved}
+use Rattle.org_serve.proofs.Foreign.{given_back_alone}
+use Rattle.org_serve.proofs.Opened.{of_disk, is_sound, serves_lasting, left_recovers, each_recovers}
 use Rattle.org_serve.proofs.Promised.{promises}
-use Rattle.org_serve.proofs.Syncs.{ok_apart}
-use Rattle.org_serve.proofs.Foreign.{leaves_foreign}
-use Rattle.org_serve.proofs.Places.{lists_files}
-use Rattle.org_serve.proofs.Synced.{if_err, reason_before, served_from, breaks_from, lasts_recoverable, lasts_found, synced_leaves_disk, unsynced_leaves_disk}
+use Rattle.org_serve.proofs.Synced.{runs_synced, unsynced_leaves_disk}
 use Rattle.org_serve.proofs.whole.serve_synced.Goals as goal
 
 pub returns-in-Ok-clause-runs : goal.returns-in-Ok-clause-runs
-returns-in-Ok-clause-runs g c = record {
-  served = let d = g.D.Disk in
-      let disk = c.args.disk in
-      let mid = c.sync_files.new.disk in
-      let setup = c.args.setup in
-      let began = c.sync_files.ensures.accounts.was_honest in
-      let own = λ (h : d.honest mid) (name : List ℕ). g.met.D.Disk.content_is_image mid name h in
-      let synced = λ (h : d.honest mid). subst (λ (names : List (List ℕ)). AreSynced (stored names) (d.files disk) (d.files mid)) c.deref.ensures.value (c.in-Ok.ensures.syncs h).done in
-      let images = λ (h : d.honest mid). (c.sync_files.ensures.syncs h).images in
-      let others = λ (h : d.honest mid). subst (λ (names : List (List ℕ)). (name : List ℕ) → IsNotStored names name → d.files mid name ≡ d.files disk name) c.deref.ensures.value (c.sync_files.ensures.syncs h).others in
-      let time = λ (h : d.honest mid). (c.sync_files.ensures.syncs h).any_moment in
-      IfOk-weaker c.serve_disk.result.end _ _ (λ end had. record {
-        serves = record {
-          served = served_from d setup disk mid began own synced images others time had.served;
-          breaks = breaks_from d setup disk mid began own synced images others time had.served (c.in-Ok.ensures.accounts.equal (λ failed. absurd (cc))) had.breaks;
-          alone = leaves_foreign (served_from d setup disk mid began own synced images others time had.served);
-          lists = lists_files (served_from d setup disk mid began own synced images others time had.served);
-          lasts = lasts_recoverable d setup disk mid began own synced images others time had.served had.lasts;
-        };
-        lasts_found = lasts_found d setup disk mid began own synced images others time had.served had.lasts;
-      }) c.serve_disk.ensures.runs.served;
-  leaves_disk = λ honest. let d = g.D.Disk in
-      let laws = g.met.D.Disk in
-      let disk = c.args.disk in
-      let mid = c.sync_files.new.disk in
-      let last = c.serve_disk.result.disk in
-      let setup = c.args.setup in
-      let own = λ (h : d.honest mid) (name : List ℕ). laws.content_is_image mid name h in
-      let synced = λ (h : d.honest mid). subst (λ (names : List (List ℕ)). AreSynced (stored names) (d.files disk) (d.files mid)) c.deref.ensures.value (c.in-Ok.ensures.syncs h).done in
-      let images = λ (h : d.honest mid). (c.sync_files.ensures.syncs h).images in
-      let others = λ (h : d.honest mid). subst (λ (names : List (List ℕ)). (name : List ℕ) → IsNotStored names name → d.files mid name ≡ d.files disk name) c.deref.ensures.value (c.sync_files.ensures.syncs h).others in
-      synced_leaves_disk d setup disk mid c.sync_files.ensures.accounts.was_honest own synced images others (λ (h : d.honest mid). (c.sync_files.ensures.syncs h).any_moment)
-      (c.serve_disk.ensures.runs.accounts.was_honest honest) (c.serve_disk.ensures.runs.leaves_disk honest)
-      (λ name. laws.content_is_image last name honest) (λ t image within left. laws.counts_now last t image honest within left);
-  refused = let d = g.D.Disk in
-      let given = c.args.setup.names.items in
-      let mid = c.sync_files.new.disk in
-      let now = c.serve_disk.result.disk in
-      let same = λ (h : d.honest now). (c.in-Ok.ensures.syncs (c.serve_disk.ensures.runs.accounts.was_honest h)).done.same in
-      let few : AreFew given = subst AreFew c.deref.ensures.value c.in-Ok.ensures.answers.few in
-      if_err c.serve_disk.result.end (λ fault (had : IsRefusedFor d given mid now fault). record {
-        reason = reason_before given (d.honest now) (contents (d.files c.args.disk)) (contents (d.files mid)) (contents (d.files now)) same fault had.reason;
-        unused = λ is. absurd (few_or_many given few (subst (IsReason given (d.honest now) (contents (d.files mid)) (contents (d.files now))) is had.reason));
-      }) c.serve_disk.ensures.runs.refused;
-  unserved = c.serve_disk.ensures.runs.unserved;
-  causes = c.serve_disk.ensures.runs.causes;
-  accounts = let d = g.D.Disk in
-      let mid = c.sync_files.new.disk in
-      let last = c.serve_disk.result.disk in
-      let synced = c.in-Ok.ensures.accounts in
-      accounts_after synced (subst (λ (n : ℕ). CountsFailures d mid last (SaysFailure c.serve_disk.result.end n (d.failures last))) (synced.equal ok_apart) c.serve_disk.ensures.runs.accounts);
-}
+returns-in-Ok-clause-runs g c =
+    let d = g.D.Disk in
+    let laws = g.met.D.Disk in
+    let mid = c.sync_files.new.disk in
+    let store = c.in-Ok.store in
+    let begun = c.set_group.new.self in
+    let setup = c.args.setup in
+    let opens = c.in-Ok.ensures.opened.session in
+    let here = of_disk d setup mid store begun c.set_group.ensures opens in
+    let reopens = c.in-Ok.ensures.opens.reopens in
+    let counts = here (λ k. CountsFailures d mid k ⊥) c.in-Ok.ensures.opens.accounts in
+    let sound = is_sound d setup mid store begun c.set_group.ensures opens in
+    let served =
+    serves_lasting d laws.only_now laws.counts_now setup mid store begun c.set_group.ensures opens
+    c.in-Ok.ensures.opened.set.few c.in-Ok.ensures.opened.set.sorted c.in-Ok.ensures.opened.set.sizes (here (λ k. d.honest k → d.honest mid) c.in-Ok.ensures.opens.accounts.was_honest)
+    (here (λ k. d.honest k → IsReopened (d.files mid) (d.files k)) (λ honestly. (reopens honestly).done))
+    c.in-Ok.ensures.opened.dirty_files
+    (here (λ k. d.honest k → LeavesAlone d (IsUnconcerned (contents (d.files mid) journal_name)) mid k) (λ honestly. (reopens honestly).alone))
+    c.serve-end.new.store c.into_disk.result c.into_disk.ensures c.serve-end.ensures.calls
+    (λ honest. (c.serve-end.ensures.did (rw (← c.into_disk.ensures) honest)).0)
+    (λ fit each. here (λ k. d.honest k → LeavesOver d mid k (RecoversAsBefore (d.files mid))) (λ honestly. (reopens honestly).any_moment fit each))
+    (breaks_by_count begun c.serve-end.new.store counts c.serve-end.ensures.accounts
+    sound c.into_disk.ensures) in
+    runs_synced d laws.content_is_image laws.counts_now setup c.args.disk mid c.into_disk.result (Ok c.serve-end.result)
+    (subst (λ (names : List (List ℕ)). Syncs {A = Unit {0}} {E = OpenFault} d (stored names) c.args.disk mid (Ok tt)) c.deref.ensures.value c.in_default.ensures.syncs)
+    (subst (λ (names : List (List ℕ)). AnswersSync {A = Unit {0}} names c.args.disk mid (Ok tt)) c.deref.ensures.value c.in_default.ensures.answers)
+    c.in_default.ensures.accounts (record {
+      served = served;
+      leaves_disk = λ honest.
+          let now : d.honest c.serve-end.new.store.disk = rw (← c.into_disk.ensures) honest in
+          let then = here (λ k. d.honest k → d.honest store.disk) (λ h. h) (c.serve-end.ensures.accounts.was_honest now) in
+          let reopened = (reopens then).done in
+          record {
+            unopened = λ fit each. tt;
+            unopened_bad = λ none. absurd (subst (λ (o : Option Image). IsSomeAnd o (SameFiles (contents (d.files store.disk)))) none reopened.recovered_then);
+            unopened_closed = λ closed. tt;
+            recoverable = λ fit each.
+                let rest = here (λ k. IsAtRest (d.files k)) (reopened.rest fit each) in
+                (rw c.into_disk.ensures ((c.serve-end.ensures.did now).1.recoverable rest), left_recovers laws.only_now laws.counts_now served.served honest (served.lasts fit each));
+            alone = given_back_alone served.served honest;
+          };
+      refused = tt;
+      unserved = tt;
+      causes = c.serve-end.ensures.causes;
+      accounts = served_accounts c.serve-end.result begun c.serve-end.new.store counts c.serve-end.ensures.accounts sound c.serve-end.ensures.broken c.into_disk.ensures;
+    })
+
+pub returns-in-Err-open-clause-runs : goal.returns-in-Err-open-clause-runs
+returns-in-Err-open-clause-runs g c =
+    let d = g.D.Disk in
+    let laws = g.met.D.Disk in
+    let mid = c.sync_files.new.disk in
+    let now = c.in-Err-open.field-0.disk in
+    runs_synced d laws.content_is_image laws.counts_now c.args.setup c.args.disk mid now (Err c.in-Err-open.field-0.fault)
+    (subst (λ (names : List (List ℕ)). Syncs {A = Unit {0}} {E = OpenFault} d (stored names) c.args.disk mid (Ok tt)) c.deref.ensures.value c.in_default.ensures.syncs)
+    (subst (λ (names : List (List ℕ)). AnswersSync {A = Unit {0}} names c.args.disk mid (Ok tt)) c.deref.ensures.value c.in_default.ensures.answers)
+    c.in_default.ensures.accounts (record {
+      served = tt;
+      leaves_disk = λ honest.
+          let reopens = c.in-Err-open.ensures.opens.reopens honest in
+          record {
+            unopened = reopens.any_moment;
+            unopened_bad = λ none. (refl, reopens.bad none);
+            unopened_closed = reopens.idle;
+            recoverable = λ fit each.
+                let leaves = reopens.any_moment fit each in (
+                  reopens.recoverable fit each,
+                  each_recovers d mid now (RecoversAsBefore (d.files mid))
+                      (λ image left. laws.counts_now now (d.instant mid) image honest leaves.passes.later left) leaves (λ image left. (left.texts, left.recovers_now)),
+                );
+            alone = alone_fewer d (IsForeign c.args.setup.names.items (contents (d.files mid) journal_name)) (IsUnconcerned (contents (d.files mid) journal_name)) mid now reopens.alone
+                (λ name foreign. foreign.unconcerned);
+          };
+      refused = c.in-Err-open.ensures.opens.refused;
+      unserved = refl;
+      causes = ended_unserved (pipes g.R.Source g.W.Sink c.args.reader.now c.args.writer.now);
+      accounts = c.in-Err-open.ensures.opens.accounts;
+    })
 
 pub returns-in-Err-clause-runs : goal.returns-in-Err-clause-runs
 returns-in-Err-clause-runs g c = record {
@@ -86,13 +114,19 @@ returns-in-Err-clause-runs g c = record {
 }
 
 pub returns-in-Ok-clause-unserved : goal.returns-in-Ok-clause-unserved
-returns-in-Ok-clause-unserved g c = c.serve_disk.ensures.unserved
+returns-in-Ok-clause-unserved g c = tt
 
 pub returns-in-Err-clause-unserved : goal.returns-in-Err-clause-unserved
 returns-in-Err-clause-unserved g c = (refl, refl)
+
+pub returns-in-Err-open-clause-unserved : goal.returns-in-Err-open-clause-unserved
+returns-in-Err-open-clause-unserved g c = (refl, refl)
 
 pub returns-in-Ok-clause-promises : goal.returns-in-Ok-clause-promises
 returns-in-Ok-clause-promises g c = promises _ _ _ _ _ _ _ (returns-in-Ok-clause-runs g c)
 
 pub returns-in-Err-clause-promises : goal.returns-in-Err-clause-promises
 returns-in-Err-clause-promises g c = promises _ _ _ _ _ _ _ (returns-in-Err-clause-runs g c)
+
+pub returns-in-Err-open-clause-promises : goal.returns-in-Err-open-clause-promises
+returns-in-Err-open-clause-promises g c = promises _ _ _ _ _ _ _ (returns-in-Err-open-clause-runs g c)

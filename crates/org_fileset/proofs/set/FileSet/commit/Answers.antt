@@ -1,16 +1,29 @@
-use Rattle.std.proofs.Common.{◌≡◌, ℕ, List, [], Ok, Err, length, true≢false, refl, sym, ◌∙◌, ap, arith}
+use Rattle.std.proofs.Common.{◌≡◌, ℕ, List, [], Option, Some, Ok, Err, length, true≢false, refl, sym, ◌∙◌, ap, subst, arith}
 use Rattle.std.specs.Map.{keys_of}
 use Rattle.std.proofs.lemmas.List.{nil_from_length}
 use Rattle.org_splice.specs.Texts.{EditedText}
+use Rattle.org_disk.specs.Names.{journal_name}
+use Rattle.org_journal.specs.declared.record.Entry.{Entry}
+use Rattle.org_journal.specs.declared.record.Version.TheVariants.{Two}
+use Rattle.org_journal.specs.Record.{BeginsWith, IsWellFormed, journal_bytes}
 use Rattle.org_journal.specs.Recovered.{contents}
+use Rattle.org_journal.proofs.Journal.{written_begins}
 use Rattle.org_fileset.specs.Entries.{changed}
+use Rattle.org_fileset.specs.Replay.{AreApplicableTo}
 use Rattle.org_fileset.specs.Writes.{IsOther}
-use Rattle.org_fileset.specs.declared.fault.SetFault.TheVariants.{Broken}
-use Rattle.org_disk.proofs.Accounting.{accounts_none}
-use Rattle.org_journal.proofs.Accounted.{accounts_answered, accounts_quiet}
-use Rattle.org_fileset.proofs.Sets.{keeps_whole, keeps_refused, broken_apart}
-use Rattle.org_fileset.proofs.Committing.{commits_none}
+use Rattle.org_fileset.specs.declared.fault.SetFault.TheVariants.{Broken, Device}
+use Rattle.org_fileset.proofs.Recorded.{changes_applicable, changes_fit}
+use Rattle.org_disk.proofs.Accounting.{accounts_none, accounts_ok}
+use Rattle.org_journal.proofs.Accounted.{accounts_answered, accounts_failed, accounts_quiet}
+use Rattle.org_fileset.proofs.Sets.{keeps_whole, keeps_broken, keeps_refused, broken_apart, ok_apart, device_apart}
+use Rattle.org_fileset.proofs.Committing.{committable, all_edits, changes_formed, commits_none, commits_record, commits_refused, has_record}
+use Rattle.org_fileset.proofs.set.FileSet.commit.Given.{Over}
 use Rattle.org_fileset.proofs.set.FileSet.commit.Goals as goal
+use Rattle.org_fileset.proofs.set.FileSet.commit.Goals.{Else-len-eq0}
+
+-- there are changes to commit
+some : (g : Over) (c : Else-len-eq0 g) → g.C.Changes.pairs c.args.changes.now ≡ [] → ⊥
+some g c none = omega (arith, c.if-len-eq0.false, c.len.ensures.len ∙ ap length none)
 
 pub returns-then-self-clause-commits : goal.returns-then-self-clause-commits
 returns-then-self-clause-commits g c = record {
@@ -44,17 +57,103 @@ returns-then-len-eq0-clause-commits g c = record {
   accounts = accounts_answered (accounts_none _ _);
 }
 
-pub returns-clause-commits : goal.returns-clause-commits
-returns-clause-commits g c = c.commit_changes.ensures
-
 pub returns-then-self-clause-nothing : goal.returns-then-self-clause-nothing
 returns-then-self-clause-nothing g c = rw (← c.self.view_is) (λ none. (refl, λ whole. absurd (true≢false (sym c.if-self.true ∙ whole))))
 
 pub returns-then-len-eq0-clause-nothing : goal.returns-then-len-eq0-clause-nothing
 returns-then-len-eq0-clause-nothing g c none = (refl, λ whole. refl)
 
-pub commit_changes-requires-clause-some : goal.commit_changes-requires-clause-some
-commit_changes-requires-clause-some g c none = omega (arith, c.if-len-eq0.false, c.len.ensures.len ∙ ap length none)
+pub returns-in_err-entries_of : goal.returns-in_err-entries_of
+returns-in_err-entries_of g c = record {
+  commits = commits_refused g.D.Disk c.args.self.now (g.C.Changes.pairs c.args.changes.now) c.from_residual.result (rw (← c.self.view_is) c.if-self.false) (g.met.D.Disk.only_now c.args.self.now.disk) c.from_residual.ensures.1;
+  nothing = λ none. absurd (some g (goal.at.returns-in_err-entries_of g c).Else-len-eq0 none);
+}
 
-pub returns-clause-nothing : goal.returns-clause-nothing
-returns-clause-nothing g c none = absurd (omega (arith, c.if-len-eq0.false, c.len.ensures.len ∙ ap length none))
+pub returns-in_err-body : goal.returns-in_err-body
+returns-in_err-body g c = record {
+  commits = commits_refused g.D.Disk c.args.self.now (g.C.Changes.pairs c.args.changes.now) c.from_residual-in_err-body.result (rw (← c.self.view_is) c.if-self.false) (g.met.D.Disk.only_now c.args.self.now.disk) c.from_residual-in_err-body.ensures.1;
+  nothing = λ none. absurd (some g (goal.at.returns-in_err-body g c).Else-len-eq0 none);
+}
+
+pub returns-in-Ok : goal.returns-in-Ok
+returns-in-Ok g c = record {
+  commits = record {
+    commits =
+        rw (← c.self.view_is) (λ ended.
+        let edits = (rw (← c.self.view_is) at c.requires.edits) c.if-self.false (c.commit_entries.ensures.accounts.was_honest ended) in
+        commits_record g.D.Disk (g.C.Changes.pairs c.args.changes.now) c.in_ok-entries_of.field-0.items _ c.self.inside.disk c.commit_entries.new.disk (Ok tt) (Ok tt) (some g (goal.at.returns-in-Ok g c).Else-len-eq0) c.in_ok-entries_of.ensures.entries
+        (c.as_slice.ensures ∙ c.new-record.ensures) edits (c.in-Ok.ensures.commits ended) (λ made. made.done));
+    record_stands =
+        λ ended. let journal = contents (g.D.Disk.files c.commit_entries.new.disk) journal_name in
+        has_record (g.C.Changes.pairs c.args.changes.now) c.in_ok-entries_of.field-0.items journal c.in_ok-entries_of.ensures.entries
+        ((c.in-Ok.ensures.commits ended).closed.found ∙ ap (λ (l : List Entry). let o : Option (List Entry) = Some l in o) (c.as_slice.ensures ∙ c.new-record.ensures));
+    memory = λ e. absurd (ok_apart e);
+    set = rw (← c.self.view_is) (keeps_whole _ _ refl c.if-self.false c.if-self.false (Ok (tt {0})) (λ e. cc e) (λ e. cc e));
+    accounts = rw (← c.self.view_is) (accounts_answered (accounts_ok c.in-Ok.ensures.accounts));
+  };
+  nothing = λ none. absurd (some g (goal.at.returns-in-Ok g c).Else-len-eq0 none);
+}
+
+pub returns : goal.returns
+returns g c = record {
+  commits = record {
+    commits =
+        rw (← c.self.view_is) (λ ended.
+        let edits = (rw (← c.self.view_is) at c.requires.edits) c.if-self.false (c.commit_entries.ensures.accounts.was_honest ended) in
+        commits_record g.D.Disk (g.C.Changes.pairs c.args.changes.now) c.in_ok-entries_of.field-0.items _ c.self.inside.disk c.commit_entries.new.disk c.commit_entries.result (Err Device) (some g (goal.at.returns g c).Else-len-eq0) c.in_ok-entries_of.ensures.entries
+        (c.as_slice.ensures ∙ c.new-record.ensures) edits (c.commit_entries.ensures.commits ended) (λ made. tt));
+    record_stands = λ honest. tt;
+    memory = λ e. absurd (device_apart e);
+    set = rw (← c.self.view_is) (keeps_broken _ _ refl c.if-self.false refl);
+    accounts = rw (← c.self.view_is) (accounts_failed refl c.in-Err.ensures.accounts);
+  };
+  nothing = λ none. absurd (some g (goal.at.returns g c).Else-len-eq0 none);
+}
+
+pub encode-requires : goal.encode-requires
+encode-requires g c =
+    let named = rw (← c.self.view_is) at c.requires.named in
+    subst (λ (l : List Entry). IsWellFormed Two l) (sym c.new-record.ensures)
+    (changes_formed c.self.inside.names.items (g.C.Changes.pairs c.args.changes.now) c.in_ok-entries_of.field-0.items c.in_ok-entries_of.ensures.entries c.in_ok-entries_of.ensures.distinct
+    (some g (goal.at.encode-requires g c).Else-len-eq0) c.self.invariant.each c.self.invariant.few named c.requires.small)
+
+pub commit_entries-requires-clause-applicable : goal.commit_entries-requires-clause-applicable
+commit_entries-requires-clause-applicable g c honest =
+    let named = rw (← c.self.view_is) at c.requires.named in
+    let edits = (rw (← c.self.view_is) at c.requires.edits) c.if-self.false in
+    let changes = g.C.Changes.pairs c.args.changes.now in
+    let files = g.D.Disk.files c.self.inside.disk in
+    let entries = c.in_ok-entries_of.field-0.items in
+    let are = c.in_ok-entries_of.ensures.entries in
+    subst (λ (l : List Entry). AreApplicableTo l files) (sym (c.as_slice.ensures ∙ c.new-record.ensures)) (record {
+      applicable = changes_applicable changes entries are c.in_ok-entries_of.ensures.distinct (committable c.self.inside.names.items changes c.self.invariant.each named c.requires.small);
+      fits = changes_fit changes entries (contents files) are (all_edits (contents files) changes (edits honest));
+    })
+
+pub commit_entries-requires-clause-body : goal.commit_entries-requires-clause-body
+commit_entries-requires-clause-body g c =
+    let named = rw (← c.self.view_is) at c.requires.named in
+    let changes = g.C.Changes.pairs c.args.changes.now in
+    let entries = c.in_ok-entries_of.field-0.items in
+    let record_is = c.as_slice.ensures ∙ c.new-record.ensures in
+    let formed = changes_formed c.self.inside.names.items changes entries c.in_ok-entries_of.ensures.entries c.in_ok-entries_of.ensures.distinct
+    (some g (goal.at.commit_entries-requires-clause-body g c).Else-len-eq0) c.self.invariant.each c.self.invariant.few named c.requires.small in
+    subst (λ (l : List Entry). BeginsWith c.deref.result.now l) (sym record_is)
+    (written_begins c.deref.result.now entries formed (c.deref.ensures.value ∙ c.in_ok-body.ensures.bytes ∙ ap (λ (l : List Entry). journal_bytes Two l) c.new-record.ensures))
+
+pub commit_entries-requires-clause-journal : goal.commit_entries-requires-clause-journal
+commit_entries-requires-clause-journal g c = c.self.invariant.journal_is
+
+pub commit_entries-requires-clause-gate : goal.commit_entries-requires-clause-gate
+commit_entries-requires-clause-gate g c =
+    c.self.invariant.gate c.if-self.false
+
+pub invariant_of-self : goal.invariant_of-self
+invariant_of-self g c =
+    let s = c.self.invariant in
+    record { journal_is = s.journal_is; each = s.each; few = s.few; gate = λ fine honest. (c.in-Ok.ensures.commits honest).closed.gate }
+
+pub invariant_of-self-in-Err : goal.invariant_of-self-in-Err
+invariant_of-self-in-Err g c =
+    let s = c.self.invariant in
+    record { journal_is = s.journal_is; each = s.each; few = s.few; gate = λ fine. absurd (true≢false fine) }
