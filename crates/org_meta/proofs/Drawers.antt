@@ -1,9 +1,10 @@
 -- Walks over the lines of a drawer.
-use Rattle.std.proofs.Common.{◌≡◌, ℕ, suc, ◌+◌, true, false, Option, Some, None, List, [], ◌∷◌, ◌++◌, length, take, drop, ◌-◌, Bor, refl, sym, ap, ◌∙◌, arith, length-append}
+use Rattle.std.proofs.Common.{◌≡◌, ℕ, suc, ◌+◌, true, false, Option, Some, None, List, [], ◌∷◌, ◌++◌, length, take, drop, ◌-◌, refl, sym, ap, ◌∙◌, arith, length-append}
 use Rattle.std.specs.List.{AllByRecursion}
 use Rattle.std.specs.Option.{option_map, option_map_or, unwrap_or}
 use Rattle.org_splice.specs.Lines.{terminated, lines_of, print_lines, IsLine}
 use Rattle.org_meta.specs.Lines.{BeginsWith, behind_lines}
+use Rattle.org_meta.specs.declared.lines.Lines.{Lines}
 use Rattle.org_meta.specs.declared.parts.Sections.{Sections}
 use Rattle.org_meta.specs.Sections.{AreSections, split, is_planning, planning_size, is_drawer_start, drawer_size, is_end, NodeProperty, property_of, size_to_end, value_named, value_before_end}
 use Rattle.org_splice.proofs.Lines.{terminated-print_lines, lines_of-lines, lines_of-print_lines}
@@ -25,9 +26,9 @@ plus_one : (k : ℕ) (ls : List (List ℕ)) (l : List ℕ) (o : Option ℕ) → 
 plus_one k ls l None long = refl
 plus_one k ls l (Some n) long = ap (λ n. Some n) (omega (arith, length-append ls (l ∷ [])))
 
-pub ends_none : (whole : List ℕ) → terminated whole ≡ whole → EndsLater whole whole
+pub ends_none : (whole : List ℕ) → EndsLater whole whole
 unfolding passed_none
-ends_none whole is = record { passed = passed_none whole is; size = plus_none (size_to_end (lines_of whole)) }
+ends_none whole = record { passed = passed_none whole; size = plus_none (size_to_end (lines_of whole)) }
 
 pub ends_line : (whole text line rest : List ℕ) → EndsLater whole text → BeginsWith text line rest → is_end line ≡ false → (p : NodeProperty) → Some p ≡ property_of line → EndsLater whole rest
 unfolding passed_line
@@ -39,13 +40,13 @@ ends_line whole text line rest e b other p property = record {
       ∙ plus_one (length e.passed.before) e.passed.before line (size_to_end (lines_of rest)) refl;
 }
 
-pub ends_found : (whole text line rest : List ℕ) → EndsLater whole text → BeginsWith text line rest → is_end line ≡ true → Some rest ≡ option_map (behind_lines whole) (size_to_end (lines_of whole))
+pub ends_found : (whole text line rest : List ℕ) → EndsLater whole text → terminated rest ≡ rest → BeginsWith text line rest → is_end line ≡ true → Some rest ≡ option_map (behind_lines whole) (size_to_end (lines_of whole))
 unfolding passed_line
-ends_found whole text line rest e b found =
+ends_found whole text line rest e is b found =
     let next : size_to_end (lines_of text) ≡ Some 1 = ap size_to_end b.lines ∙ rw found refl in
     let here : size_to_end (lines_of whole) ≡ Some (length e.passed.before + 1) = e.size ∙ ap (option_map (λ n. length e.passed.before + n)) next in
     let p = passed_line whole text line rest e.passed b in
-    sym (ap (option_map (behind_lines whole)) here ∙ ap (λ (t : List ℕ). Some t) (passed_rest whole rest p (length e.passed.before + 1) (length-append e.passed.before (line ∷ []))))
+    sym (ap (option_map (behind_lines whole)) here ∙ ap (λ (t : List ℕ). Some t) (passed_rest whole rest p (length e.passed.before + 1) is (length-append e.passed.before (line ∷ []))))
 
 pub ends_other : (whole text line rest : List ℕ) → EndsLater whole text → BeginsWith text line rest → is_end line ≡ false → property_of line ≡ None → None ≡ option_map (behind_lines whole) (size_to_end (lines_of whole))
 ends_other whole text line rest e b other none =
@@ -60,14 +61,10 @@ ends_nowhere whole text e none =
 -- ---- a value
 
 pub record ValueLater (name whole text : List ℕ) : Type 0 where
-  pub terminated_text : terminated text ≡ text
   pub value : value_before_end name (lines_of whole) ≡ value_before_end name (lines_of text)
 
 pub value_line : (name whole text line rest : List ℕ) → ValueLater name whole text → BeginsWith text line rest → is_end line ≡ false → value_named name line ≡ None → ValueLater name whole rest
-value_line name whole text line rest v b other none = record {
-  terminated_text = b.terminated_rest;
-  value = v.value ∙ ap (value_before_end name) b.lines ∙ rw (other, none) refl;
-}
+value_line name whole text line rest v b other none = record { value = v.value ∙ ap (value_before_end name) b.lines ∙ rw (other, none) refl }
 
 pub value_found : (name whole text line rest value : List ℕ) → ValueLater name whole text → BeginsWith text line rest → is_end line ≡ false → Some value ≡ value_named name line → Some value ≡ value_before_end name (lines_of whole)
 value_found name whole text line rest value v b other found =
@@ -97,21 +94,21 @@ behind_drawer text line rest r whole b start is =
     let size : drawer_size (lines_of text) ≡ option_map_or suc (size_to_end (lines_of rest)) 0 = ap drawer_size b.lines ∙ rw start refl in
     size_behind text line rest (size_to_end (lines_of rest)) r whole b is ∙ ap (behind_lines text) (sym size)
 
-now_or : (r : Option (Bor (List ℕ))) (d : Bor (List ℕ)) → (unwrap_or r d).now ≡ unwrap_or (option_map (λ x. x.now) r) d.now
+now_or : (r : Option Lines) (d : Lines) → (unwrap_or r d).bytes.now ≡ unwrap_or (option_map (λ x. x.bytes.now) r) d.bytes.now
 now_or None d = refl
 now_or (Some x) d = refl
 
-pub behind_drawer_now : (text line rest : List ℕ) (found : Option (Bor (List ℕ))) (or answer : Bor (List ℕ)) → or.now ≡ text → answer ≡ unwrap_or found or → terminated text ≡ text → BeginsWith text line rest → is_drawer_start line ≡ true
-    → option_map (λ x. x.now) found ≡ option_map (behind_lines rest) (size_to_end (lines_of rest))
-    → answer.now ≡ behind_lines text (drawer_size (lines_of text))
+pub behind_drawer_now : (text line rest : List ℕ) (found : Option Lines) (or answer : Lines) → or.bytes.now ≡ text → answer ≡ unwrap_or found or → terminated text ≡ text → BeginsWith text line rest → is_drawer_start line ≡ true
+    → option_map (λ x. x.bytes.now) found ≡ option_map (behind_lines rest) (size_to_end (lines_of rest))
+    → answer.bytes.now ≡ behind_lines text (drawer_size (lines_of text))
 behind_drawer_now text line rest found or answer is_text is whole b start behind =
-    ap (λ (a : Bor (List ℕ)). a.now) is ∙ now_or found or ∙ ap (unwrap_or (option_map (λ (x : Bor (List ℕ)). x.now) found)) is_text
-    ∙ behind_drawer text line rest (option_map (λ x. x.now) found) whole b start behind
+    ap (λ (a : Lines). a.bytes.now) is ∙ now_or found or ∙ ap (unwrap_or (option_map (λ (x : Lines). x.bytes.now) found)) is_text
+    ∙ behind_drawer text line rest (option_map (λ x. x.bytes.now) found) whole b start behind
 
-pub planning_here : (text line rest : List ℕ) → BeginsWith text line rest → is_planning line ≡ true → rest ≡ behind_lines text (planning_size (lines_of text))
-planning_here text line rest b here =
+pub planning_here : (text line rest : List ℕ) → terminated rest ≡ rest → BeginsWith text line rest → is_planning line ≡ true → rest ≡ behind_lines text (planning_size (lines_of text))
+planning_here text line rest is b here =
     let size : planning_size (lines_of text) ≡ 1 = ap planning_size b.lines ∙ rw here refl in
-    sym (ap (behind_lines text) size ∙ ap (λ (ls : List (List ℕ)). print_lines (drop 1 ls)) b.lines ∙ print_lines-terminated rest b.terminated_rest)
+    sym (ap (behind_lines text) size ∙ ap (λ (ls : List (List ℕ)). print_lines (drop 1 ls)) b.lines ∙ print_lines-terminated rest is)
 
 pub planning_other : (text line rest : List ℕ) → terminated text ≡ text → BeginsWith text line rest → is_planning line ≡ false → text ≡ behind_lines text (planning_size (lines_of text))
 planning_other text line rest whole b other =
@@ -125,7 +122,7 @@ part_lines ls text p is = ap lines_of is ∙ lines_of-print_lines ls p
 -- the three slices of a section, from where the second and the third begin
 pub are_sections : (section below rest : List ℕ) (slices : Sections) → terminated section ≡ section → below ≡ behind_lines section (planning_size (lines_of section))
     → rest ≡ behind_lines below (drawer_size (lines_of below))
-    → slices.planning.now ≡ take (length section - length below) section → slices.drawer.now ≡ take (length below - length rest) below → slices.rest.now ≡ rest
+    → slices.planning.bytes.now ≡ take (length section - length below) section → slices.drawer.bytes.now ≡ take (length below - length rest) below → slices.rest.bytes.now ≡ rest
     → AreSections slices (split (lines_of section))
 are_sections section below rest slices whole is_below is_rest planning drawer last =
     let n = planning_size (lines_of section) in
@@ -151,8 +148,5 @@ property_lines section drawer line rest is b =
 pub no_drawer : (section drawer : List ℕ) → drawer ≡ print_lines (split (lines_of section)).drawer → drawer ≡ [] → (split (lines_of section)).drawer ≡ []
 no_drawer section drawer is none = sym (part_lines (split (lines_of section)).drawer drawer (drawer_lines section) is) ∙ ap lines_of none
 
-pub drawer_terminated : (section : List ℕ) (slices : Sections) → AreSections slices (split (lines_of section)) → terminated slices.drawer.now ≡ slices.drawer.now
-drawer_terminated section slices are = ap terminated are.drawer ∙ terminated-print_lines (split (lines_of section)).drawer ∙ sym are.drawer
-
-pub drawer_is : (section : List ℕ) (slices : Sections) → AreSections slices (split (lines_of section)) → lines_of slices.drawer.now ≡ (split (lines_of section)).drawer
-drawer_is section slices are = part_lines (split (lines_of section)).drawer slices.drawer.now (drawer_lines section) are.drawer
+pub drawer_is : (section : List ℕ) (slices : Sections) → AreSections slices (split (lines_of section)) → lines_of slices.drawer.bytes.now ≡ (split (lines_of section)).drawer
+drawer_is section slices are = part_lines (split (lines_of section)).drawer slices.drawer.bytes.now (drawer_lines section) are.drawer

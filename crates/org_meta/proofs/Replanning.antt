@@ -24,48 +24,45 @@ use Rattle.org_meta.proofs.Walk.{print_lines-terminated}
 use Rattle.org_meta.proofs.PlanningText.{nothing_goes}
 use Rattle.org_meta.proofs.Puts.{gives_at, section_bytes, joined_split}
 
-planning_is : (section : List ℕ) (slices : Sections) → AreSections slices (split (lines_of section)) → lines_of slices.planning.now ≡ (split (lines_of section)).planning
-planning_is section slices are = part_lines (split (lines_of section)).planning slices.planning.now (AllByRecursion-take IsLine (planning_size (lines_of section)) (lines_of section) (lines_of-lines section)) are.planning
+planning_is : (section : List ℕ) (slices : Sections) → AreSections slices (split (lines_of section)) → lines_of slices.planning.bytes.now ≡ (split (lines_of section)).planning
+planning_is section slices are = part_lines (split (lines_of section)).planning slices.planning.bytes.now (AllByRecursion-take IsLine (planning_size (lines_of section)) (lines_of section) (lines_of-lines section)) are.planning
 
 -- other lines in the place of the planning
-planning_gives : (e : Edit) (section : List ℕ) (slices : Sections) (new : List (List ℕ)) → terminated section ≡ section → AreSections slices (split (lines_of section)) → e.at ≡ 0 → e.removed ≡ length slices.planning.now → e.bytes ≡ print_lines new
+planning_gives : (e : Edit) (section : List ℕ) (slices : Sections) (new : List (List ℕ)) → terminated section ≡ section → AreSections slices (split (lines_of section)) → e.at ≡ 0 → e.removed ≡ length slices.planning.bytes.now → e.bytes ≡ print_lines new
     → Rewrites e section (joined (record (split (lines_of section)) { planning = new }))
 planning_gives e section slices new whole are at removed bytes =
     let p = split (lines_of section) in
-    let c = slices.drawer.now ++ slices.rest.now in
+    let c = slices.drawer.bytes.now ++ slices.rest.bytes.now in
     let print : print_lines (new ++ (p.drawer ++ p.rest)) ≡ [] ++ (print_lines new ++ c) =
     print_lines-append new (p.drawer ++ p.rest) ∙ ap (λ (t : List ℕ). print_lines new ++ t) (print_lines-append p.drawer p.rest)
     ∙ ap (λ (t : List ℕ). print_lines new ++ (t ++ print_lines p.rest)) (sym are.drawer)
-    ∙ ap (λ (t : List ℕ). print_lines new ++ (slices.drawer.now ++ t)) (sym are.rest) in
-    gives_at e section [] slices.planning.now c (print_lines new) (new ++ (p.drawer ++ p.rest)) (section_bytes section slices whole are) at removed bytes print
+    ∙ ap (λ (t : List ℕ). print_lines new ++ (slices.drawer.bytes.now ++ t)) (sym are.rest) in
+    gives_at e section [] slices.planning.bytes.now c (print_lines new) (new ++ (p.drawer ++ p.rest)) (section_bytes section slices whole are) at removed bytes print
 
 with_gives : (section : List ℕ) (e : Edit) (r : Result SectionParts Refusal) (parts : SectionParts) → r ≡ Ok parts → Rewrites e section (joined parts) → RewritesOk r section e
 with_gives section e r parts is gives = let P : Result SectionParts Refusal → Type 0 = λ r. RewritesOk r section e in subst P (sym is) gives
 
-pub planning_terminated : (section : List ℕ) (slices : Sections) → AreSections slices (split (lines_of section)) → terminated slices.planning.now ≡ slices.planning.now
-planning_terminated section slices are = ap terminated are.planning ∙ terminated-print_lines (split (lines_of section)).planning ∙ sym are.planning
-
 module _ (section : List ℕ) (slices : Sections) (whole : terminated section ≡ section) (are : AreSections slices (split (lines_of section))) (none : List (List ℕ)) (some : PlanningLine → List (List ℕ)) where
-  pub plan_none : (e : Edit) → slices.planning.now ≡ [] → e.at ≡ 0 → e.removed ≡ 0 → e.bytes ≡ print_lines none → RewritesOk (replanned none some (split (lines_of section)) (split (lines_of section)).planning) section e
+  pub plan_none : (e : Edit) → slices.planning.bytes.now ≡ [] → e.at ≡ 0 → e.removed ≡ 0 → e.bytes ≡ print_lines none → RewritesOk (replanned none some (split (lines_of section)) (split (lines_of section)).planning) section e
   plan_none e empty at removed bytes =
       let p = split (lines_of section) in
       let no : p.planning ≡ [] = sym (planning_is section slices are) ∙ ap lines_of empty in
       with_gives section e _ (record p { planning = none }) (ap (replanned none some p) no) (planning_gives e section slices none whole are at (removed ∙ sym (ap length empty)) bytes)
 
-  pub plan_line : (e : Edit) (line rest : List ℕ) (plan : PlanningLine) → BeginsWith slices.planning.now line rest → planning_of line ≡ Some plan → e.at ≡ 0 → e.removed ≡ length slices.planning.now → e.bytes ≡ print_lines (some plan)
+  pub plan_line : (e : Edit) (line rest : List ℕ) (plan : PlanningLine) → BeginsWith slices.planning.bytes.now line rest → planning_of line ≡ Some plan → e.at ≡ 0 → e.removed ≡ length slices.planning.bytes.now → e.bytes ≡ print_lines (some plan)
       → RewritesOk (replanned none some (split (lines_of section)) (split (lines_of section)).planning) section e
   plan_line e line rest plan b is at removed bytes =
       let p = split (lines_of section) in
       let first : p.planning ≡ line ∷ lines_of rest = sym (planning_is section slices are) ∙ b.lines in
       with_gives section e _ (record p { planning = some plan }) (ap (replanned none some p) first ∙ ap (replanned_line some p) is) (planning_gives e section slices (some plan) whole are at removed bytes)
 
-  pub plan_odd : (line rest : List ℕ) → BeginsWith slices.planning.now line rest → planning_of line ≡ None → replanned none some (split (lines_of section)) (split (lines_of section)).planning ≡ Err OddPlanning
+  pub plan_odd : (line rest : List ℕ) → BeginsWith slices.planning.bytes.now line rest → planning_of line ≡ None → replanned none some (split (lines_of section)) (split (lines_of section)).planning ≡ Err OddPlanning
   plan_odd line rest b is =
       let p = split (lines_of section) in
       let first : p.planning ≡ line ∷ lines_of rest = sym (planning_is section slices are) ∙ b.lines in
       ap (replanned none some p) first ∙ ap (replanned_line some p) is
 
-  pub plan_fault : (line rest : List ℕ) (fault : Fault Refusal) → BeginsWith slices.planning.now line rest → IfRefusal fault (λ why. (why ≡ OddPlanning) × (planning_of line ≡ None))
+  pub plan_fault : (line rest : List ℕ) (fault : Fault Refusal) → BeginsWith slices.planning.bytes.now line rest → IfRefusal fault (λ why. (why ≡ OddPlanning) × (planning_of line ≡ None))
       → IfRefusal fault (λ why. replanned none some (split (lines_of section)) (split (lines_of section)).planning ≡ Err why)
   plan_fault line rest fault b = refused_as fault _ _ (λ why is. plan_odd line rest b is.1 ∙ ap (λ f. Err f) (sym is.0))
 
@@ -107,10 +104,10 @@ nothing_gives e section whole same = record {
 }
 
 module _ (section : List ℕ) (slices : Sections) (whole : terminated section ≡ section) (are : AreSections slices (split (lines_of section))) where
-  pub none_cleared : (e : Edit) → slices.planning.now ≡ [] → ChangesNothing e → RewritesOk (clear_closed (split (lines_of section))) section e
+  pub none_cleared : (e : Edit) → slices.planning.bytes.now ≡ [] → ChangesNothing e → RewritesOk (clear_closed (split (lines_of section))) section e
   none_cleared e empty same = plan_none section slices whole are [] without_closed e empty same.at same.removed same.bytes
 
-  pub nothing_cleared : (e : Edit) (line rest : List ℕ) (plan : PlanningLine) → BeginsWith slices.planning.now line rest → planning_of line ≡ Some plan → has_closed plan.entries ≡ false → ChangesNothing e
+  pub nothing_cleared : (e : Edit) (line rest : List ℕ) (plan : PlanningLine) → BeginsWith slices.planning.bytes.now line rest → planning_of line ≡ Some plan → has_closed plan.entries ≡ false → ChangesNothing e
       → RewritesOk (clear_closed (split (lines_of section))) section e
   nothing_cleared e line rest plan b is none same =
       let p = split (lines_of section) in
@@ -123,7 +120,7 @@ module _ (section : List ℕ) (slices : Sections) (whole : terminated section �
       with_gives section e _ (record p { planning = without_closed plan }) (ap (replanned [] without_closed p) first ∙ ap (replanned_line without_closed p) is) (subst P all (nothing_gives e section whole same))
 
   -- where the line has a CLOSED entry, the planning has
-  pub closed_there : (line rest : List ℕ) (plan : PlanningLine) → BeginsWith slices.planning.now line rest → planning_of line ≡ Some plan → has_closed_entry (split (lines_of section)).planning ≡ has_closed plan.entries
+  pub closed_there : (line rest : List ℕ) (plan : PlanningLine) → BeginsWith slices.planning.bytes.now line rest → planning_of line ≡ Some plan → has_closed_entry (split (lines_of section)).planning ≡ has_closed plan.entries
   closed_there line rest plan b is =
       let first : (split (lines_of section)).planning ≡ line ∷ lines_of rest = sym (planning_is section slices are) ∙ b.lines in
       ap has_closed_entry first ∙ ap (λ (o : Option PlanningLine). option_map_or (λ p. has_closed p.entries) o false) is
@@ -159,26 +156,26 @@ repeated_bytes now p es o0 o1 o2 same e0 puts e2 =
     (puts.text, subst Q same puts.are, e2 ∙ ap (λ (t : List ℕ). t ++ (p.tail ++ 10 ∷ [])) (puts.bytes ∙ ap (λ (t : List ℕ). t ++ puts.text) e0) ∙ repeated_shape p.indentation puts.text p.tail)
 
 module _ (section : List ℕ) (slices : Sections) (whole : terminated section ≡ section) (are : AreSections slices (split (lines_of section))) (now : Moment) where
-  pub repeat_none : slices.planning.now ≡ [] → HasNoRepeater (split (lines_of section)).planning
+  pub repeat_none : slices.planning.bytes.now ≡ [] → HasNoRepeater (split (lines_of section)).planning
   repeat_none empty = subst HasNoRepeater (sym (sym (planning_is section slices are) ∙ ap lines_of empty)) tt
 
-  pub repeat_odd : (line rest : List ℕ) (fault : Fault Refusal) → BeginsWith slices.planning.now line rest → IfRefusal fault (λ why. (why ≡ OddPlanning) × (planning_of line ≡ None))
+  pub repeat_odd : (line rest : List ℕ) (fault : Fault Refusal) → BeginsWith slices.planning.bytes.now line rest → IfRefusal fault (λ why. (why ≡ OddPlanning) × (planning_of line ≡ None))
       → IfRefusal fault (IsRefusedRepeat now (split (lines_of section)).planning)
   repeat_odd line rest fault b = refused_as fault _ _ (λ why odd.
       let P : List (List ℕ) → Type 0 = λ ls. IsRefusedRepeat now ls why in
       subst P (sym b.lines ∙ planning_is section slices are) (inl odd))
 
-  pub repeat_nothing : (line rest : List ℕ) (plan : PlanningLine) → BeginsWith slices.planning.now line rest → planning_of line ≡ Some plan → has_repeater plan.entries ≡ false → HasNoRepeater (split (lines_of section)).planning
+  pub repeat_nothing : (line rest : List ℕ) (plan : PlanningLine) → BeginsWith slices.planning.bytes.now line rest → planning_of line ≡ Some plan → has_repeater plan.entries ≡ false → HasNoRepeater (split (lines_of section)).planning
   repeat_nothing line rest plan b is none = subst HasNoRepeater (sym b.lines ∙ planning_is section slices are) (plan, is, none)
 
-  pub repeat_fault : (line rest : List ℕ) (plan : PlanningLine) (fault : Fault Refusal) → BeginsWith slices.planning.now line rest → planning_of line ≡ Some plan → has_repeater plan.entries ≡ true
+  pub repeat_fault : (line rest : List ℕ) (plan : PlanningLine) (fault : Fault Refusal) → BeginsWith slices.planning.bytes.now line rest → planning_of line ≡ Some plan → has_repeater plan.entries ≡ true
       → IfRefusal fault (λ why. AreRepeated plan.entries now (Err why)) → IfRefusal fault (IsRefusedRepeat now (split (lines_of section)).planning)
   repeat_fault line rest plan fault b is some = refused_as fault _ _ (λ why wrong.
       let P : List (List ℕ) → Type 0 = λ ls. IsRefusedRepeat now ls why in
       subst P (sym b.lines ∙ planning_is section slices are) (inr (plan, is, some, wrong)))
 
-  pub repeat_gives : (e : Edit) (line rest : List ℕ) (plan : PlanningLine) (text : List ℕ) → BeginsWith slices.planning.now line rest → planning_of line ≡ Some plan → has_repeater plan.entries ≡ true → AreRepeated plan.entries now (Ok text)
-      → e.at ≡ 0 → e.removed ≡ length slices.planning.now → e.bytes ≡ repeated_line plan text ++ 10 ∷ [] → RewritesRepeated now (split (lines_of section)) section (Some e)
+  pub repeat_gives : (e : Edit) (line rest : List ℕ) (plan : PlanningLine) (text : List ℕ) → BeginsWith slices.planning.bytes.now line rest → planning_of line ≡ Some plan → has_repeater plan.entries ≡ true → AreRepeated plan.entries now (Ok text)
+      → e.at ≡ 0 → e.removed ≡ length slices.planning.bytes.now → e.bytes ≡ repeated_line plan text ++ 10 ∷ [] → RewritesRepeated now (split (lines_of section)) section (Some e)
   repeat_gives e line rest plan text b is some repeated at removed bytes =
       let p = split (lines_of section) in
       let P : List (List ℕ) → Type 0 = λ ls. RewritesRepeatedIn now p section e ls in

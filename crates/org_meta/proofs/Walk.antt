@@ -13,10 +13,9 @@ pub record Passed (whole text : List ℕ) : Type 0 where
   pub before : List (List ℕ)
   pub bytes : whole ≡ print_lines before ++ text
   pub lines : lines_of whole ≡ before ++ lines_of text
-  pub terminated_text : terminated text ≡ text
 
-unfoldable pub passed_none : (whole : List ℕ) → terminated whole ≡ whole → Passed whole whole
-passed_none whole is = record { before = []; bytes = refl; lines = refl; terminated_text = is }
+unfoldable pub passed_none : (whole : List ℕ) → Passed whole whole
+passed_none whole = record { before = []; bytes = refl; lines = refl }
 
 unfoldable pub passed_line : (whole text line rest : List ℕ) → Passed whole text → BeginsWith text line rest → Passed whole rest
 passed_line whole text line rest p b = record {
@@ -26,15 +25,14 @@ passed_line whole text line rest p b = record {
       ∙ sym (append_assoc (print_lines p.before) (line ++ 10 ∷ []) rest)
       ∙ ap (λ (t : List ℕ). t ++ rest) (sym (print_lines-append p.before (line ∷ [])));
   lines = p.lines ∙ ap (λ (ls : List (List ℕ)). p.before ++ ls) b.lines ∙ sym (append_assoc p.before (line ∷ []) (lines_of rest));
-  terminated_text = b.terminated_rest;
 }
 
 -- what is left is what follows the lines before it
-pub passed_rest : (whole text : List ℕ) (p : Passed whole text) (n : ℕ) → length p.before ≡ n → behind_lines whole n ≡ text
-passed_rest whole text p n long =
+pub passed_rest : (whole text : List ℕ) (p : Passed whole text) (n : ℕ) → terminated text ≡ text → length p.before ≡ n → behind_lines whole n ≡ text
+passed_rest whole text p n is long =
     ap (λ (ls : List (List ℕ)). print_lines (drop n ls)) p.lines
     ∙ ap print_lines (drop_at p.before (lines_of text) n long)
-    ∙ print_lines-terminated text p.terminated_text
+    ∙ print_lines-terminated text is
 
 pub rest_shorter : (text line rest : List ℕ) → BeginsWith text line rest → length rest < length text
 rest_shorter text line rest b = omega (arith, ap length b.bytes, length-append line (10 ∷ rest))
@@ -63,5 +61,7 @@ behind_shorter text rest n whole is =
 pub behind_none : (text : List ℕ) → terminated text ≡ text → text ≡ behind_lines text 0
 behind_none text whole = sym (print_lines-terminated text whole)
 
-pub behind_terminated : (text rest : List ℕ) (n : ℕ) → rest ≡ behind_lines text n → terminated rest ≡ rest
-behind_terminated text rest n is = ap terminated is ∙ terminated-print_lines (drop n (lines_of text)) ∙ sym is
+pub front_terminated : (text rest front : List ℕ) (n : ℕ) → terminated text ≡ text → rest ≡ behind_lines text n → front ≡ take (length text - length rest) text → terminated front ≡ front
+front_terminated text rest front n whole is cut =
+    let bytes : front ≡ print_lines (take n (lines_of text)) = cut ∙ front_lines text rest n whole is in
+    ap terminated bytes ∙ terminated-print_lines (take n (lines_of text)) ∙ sym bytes

@@ -4,7 +4,7 @@ use Rattle.std.specs.List.{sum_by, position}
 use Rattle.std.proofs.lemmas.List.{take_at}
 use Rattle.std.proofs.lemmas.List.Sums.{sum_by-cons}
 use Rattle.std.specs.Option.{option_map}
-use Rattle.org_splice.specs.Lines.{terminated, print_lines, lines_of}
+use Rattle.org_splice.specs.Lines.{print_lines, lines_of}
 use Rattle.org_splice.specs.declared.Span.{Span}
 use Rattle.org_meta.specs.Lines.{BeginsWith}
 use Rattle.org_meta.specs.Clocks.{minutes_in, total, is_open, open_line, line_span, HasOpenAt}
@@ -13,12 +13,11 @@ use Rattle.org_meta.proofs.Walk.{Passed, passed_none, passed_line, rest_shorter}
 -- ---- sums
 
 pub record SumLater (whole text : List ℕ) (minutes : ℕ) : Type 0 where
-  pub terminated_text : terminated text ≡ text
   pub fits : minutes ≤ 18_446_744_073_709_551_615
   pub sum : total (lines_of whole) ≡ min (minutes + sum_by minutes_in (lines_of text)) 18_446_744_073_709_551_615
 
-pub sum_none : (whole : List ℕ) → terminated whole ≡ whole → SumLater whole whole 0
-sum_none whole is = record { terminated_text = is; fits = omega arith; sum = ap (λ n. min n 18_446_744_073_709_551_615) (let e : sum_by minutes_in (lines_of whole) ≡ 0 + sum_by minutes_in (lines_of whole) = omega arith in e) }
+pub sum_none : (whole : List ℕ) → SumLater whole whole 0
+sum_none whole = record { fits = omega arith; sum = ap (λ n. min n 18_446_744_073_709_551_615) (let e : sum_by minutes_in (lines_of whole) ≡ 0 + sum_by minutes_in (lines_of whole) = omega arith in e) }
 
 next_sum : (m n k : ℕ) → min (m + (n + k)) 18_446_744_073_709_551_615 ≡ min (min (m + n) 18_446_744_073_709_551_615 + k) 18_446_744_073_709_551_615
 next_sum m n k = omega arith
@@ -28,7 +27,6 @@ sum_step line ls = sum_by-cons minutes_in line ls
 
 pub sum_line : (whole text line rest : List ℕ) (m n : ℕ) → SumLater whole text m → BeginsWith text line rest → n ≡ min (m + minutes_in line) 18_446_744_073_709_551_615 → SumLater whole rest n
 sum_line whole text line rest m n s b is = record {
-  terminated_text = b.terminated_rest;
   fits = omega arith;
   sum =
       s.sum ∙ ap (λ ls. min (m + sum_by minutes_in ls) 18_446_744_073_709_551_615) b.lines
@@ -52,9 +50,9 @@ plus_none : (o : Option ℕ) → o ≡ option_map (λ n. 0 + n) o
 plus_none None = refl
 plus_none (Some n) = ap (λ n. Some n) (omega arith)
 
-pub open_none : (whole : List ℕ) → terminated whole ≡ whole → OpenLater whole whole
+pub open_none : (whole : List ℕ) → OpenLater whole whole
 unfolding passed_none
-open_none whole is = record { passed = passed_none whole is; place = plus_none (position is_open (lines_of whole)) }
+open_none whole = record { passed = passed_none whole; place = plus_none (position is_open (lines_of whole)) }
 
 plus_one : (k : ℕ) (ls : List (List ℕ)) (l : List ℕ) (o : Option ℕ) → length ls ≡ k → option_map (λ n. k + n) (option_map suc o) ≡ option_map (λ n. length (ls ++ l ∷ []) + n) o
 plus_one k ls l None long = refl

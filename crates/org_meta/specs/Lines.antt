@@ -1,14 +1,13 @@
 -- A text line by line.
 use Rattle.std.specs.Prelude.{◌≡◌, ℕ, Bool, IsTrue, List, ◌∷◌, ◌++◌, drop}
 use Rattle.std.specs.List.{AllByRecursion}
-use Rattle.org_splice.specs.Lines.{terminated, print_lines, IsLine, lines_of}
+use Rattle.org_splice.specs.Lines.{print_lines, IsLine, lines_of}
 
--- The first line of a closed text, and the text behind it.
+-- The first line of a terminated text, and the text behind it.
 pub record BeginsWith (text line rest : List ℕ) : Type 0 where
   pub bytes : text ≡ line ++ 10 ∷ rest
   pub lines : lines_of text ≡ line ∷ lines_of rest
   pub unbroken : IsLine line
-  pub terminated_rest : terminated rest ≡ rest
 
 -- what follows that many lines
 abbrev pub behind_lines : List ℕ → ℕ → List ℕ

@@ -93,9 +93,9 @@ joined parts = parts.planning ++ (parts.drawer ++ parts.rest)
 
 -- the slices are the texts of these parts
 pub record AreSections (slices : Sections) (parts : SectionParts) : Type 0 where
-  pub planning : slices.planning.now ≡ print_lines parts.planning
-  pub drawer : slices.drawer.now ≡ print_lines parts.drawer
-  pub rest : slices.rest.now ≡ print_lines parts.rest
+  pub planning : slices.planning.bytes.now ≡ print_lines parts.planning
+  pub drawer : slices.drawer.bytes.now ≡ print_lines parts.drawer
+  pub rest : slices.rest.bytes.now ≡ print_lines parts.rest
 
 -- ---- properties
 

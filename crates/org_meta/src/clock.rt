@@ -5,11 +5,11 @@ ghost use Rattle.std.specs.Prelude.{◌≡◌, ◌≤◌, length, IfSome, codes,
 ghost use Rattle.std.specs.Option.{option_map};
 ghost use Rattle.std.specs.List.{prefix_len};
 ghost use Rattle.std.specs.Char.{is_ascii_digit};
-ghost use Rattle.org_splice.specs.Lines.{terminated, lines_of};
+ghost use Rattle.org_splice.specs.Lines.{lines_of};
 ghost use Rattle.org_meta.specs.Clocks.{is_clock_stamp, clock_stamp_at, behind_some, behind_mark, are_minutes, behind_hours, is_duration, minutes_between, closed_minutes, clock_from, clock_of, head_of, running_clock, is_open, minutes_in, total, open_line, HasOpenAt};
 ghost use Rattle.org_splice.specs.Blanks.{is_blank, trimmed_end, behind};
 
-use crate::lines::first_line;
+use crate::lines::Lines;
 use org_splice::Span;
 use org_splice::blanks::{behind_blanks, blank_count, trimmed_end};
 use org_stamp::{Moment, Stamp};
@@ -202,13 +202,12 @@ fn minutes_in(line: &[u8]) -> u64
 /// The minutes of the closed clock lines of a heading's section, at most 2^64 - 1 (Org Syntax,
 /// "Clocks"): from their first timestamps to their second ones; the written durations aren't read.
 /// Takes no memory.
-pub fn total(section: &[u8]) -> u64
-    requires { terminated section.now ≡ section.now }
-    ensures { result ≡ total (lines_of section.now) }
+pub fn total(section: Lines<'_>) -> u64
+    ensures { result ≡ total (lines_of section.entry.bytes.now) }
 {
     let mut left = section;
     let mut minutes: u64 = 0;
-    while let Some((line, rest)) = first_line(left) {
+    while let Some((line, rest)) = left.first() {
         minutes = minutes.saturating_add(minutes_in(line));
         left = rest;
     }
@@ -217,17 +216,16 @@ pub fn total(section: &[u8]) -> u64
 
 /// The first open clock line of a heading's section (Org Syntax, "Clocks"), with its newline. Takes
 /// no memory.
-pub fn find_open(section: &[u8]) -> Option<Span>
-    requires { terminated section.now ≡ section.now }
-    ensures first { result ≡ open_line (lines_of section.now) }
-    ensures stands { IfSome result (HasOpenAt section.now) }
+pub fn find_open(section: Lines<'_>) -> Option<Span>
+    ensures first { result ≡ open_line (lines_of section.entry.bytes.now) }
+    ensures stands { IfSome result (HasOpenAt section.entry.bytes.now) }
 {
     let mut left = section;
-    while let Some((line, rest)) = first_line(left) {
+    while let Some((line, rest)) = left.first() {
         if is_open(line) {
             return Some(Span {
-                start: section.len() - left.len(),
-                end: section.len() - rest.len(),
+                start: section.bytes.len() - left.bytes.len(),
+                end: section.bytes.len() - rest.bytes.len(),
             });
         }
         left = rest;

@@ -4,14 +4,14 @@
 //! question.
 ghost use Rattle.std.specs.Prelude.{◌≡◌, ℕ, List, IfOk, IfErr, IfSome, IfNone, OnOk, None, [], ◌∷◌, ◌++◌};
 ghost use Rattle.std.specs.List.{list_any};
-ghost use Rattle.org_splice.specs.Lines.{terminated, lines_of};
+ghost use Rattle.org_splice.specs.Lines.{lines_of};
 ghost use Rattle.org_meta.specs.Edits.{RewritesParts, IsPlaceFor};
 ghost use Rattle.org_meta.specs.Sections.{is_end, parts_of};
 ghost use Rattle.org_meta.specs.Clocks.{HasOpenAt};
 ghost use Rattle.org_meta.specs.Clocking.{in_logbook, logged, opened, closing_text, Closes, ClosesNot};
 
 use crate::clock::{minutes_between, running_clock};
-use crate::lines::{Place, first_line};
+use crate::lines::{Lines, Place};
 use crate::moments::{moment_bytes, push_moment};
 use crate::split::{is_end, is_mark, sections};
 use org_fault::{Fault, Refusal};
@@ -20,12 +20,11 @@ use org_stamp::{Moment, duration};
 use std::alloc::{AllocError, Global};
 
 /// Whether a line is `:END:`.
-fn has_end(text: &[u8]) -> bool
-    requires { terminated text.now ≡ text.now }
-    ensures { result ≡ list_any is_end (lines_of text.now) }
+fn has_end(text: Lines<'_>) -> bool
+    ensures { result ≡ list_any is_end (lines_of text.entry.bytes.now) }
 {
     let mut left = text;
-    while let Some((line, rest)) = first_line(left) {
+    while let Some((line, rest)) = left.first() {
         if is_end(line) {
             return true;
         }
@@ -35,20 +34,20 @@ fn has_end(text: &[u8]) -> bool
 }
 
 /// The place for a line first in the LOGBOOK drawer, where the text has one.
-fn log_place(text: &[u8]) -> Option<Place<'_>>
-    requires { terminated text.now ≡ text.now }
-    ensures some { IfSome result (λ place.
-        IsPlaceFor (λ line. logged line (lines_of text.now)) text.now place) }
-    ensures none { IfNone result ((line : List ℕ) → in_logbook line (lines_of text.now) ≡ None) }
+fn log_place(text: Lines<'_>) -> Option<Place<'_>>
+    ensures some { let lines = lines_of text.entry.bytes.now in
+        IfSome result (IsPlaceFor (λ line. logged line lines) text.entry.bytes.now) }
+    ensures none { let lines = lines_of text.entry.bytes.now in
+        IfNone result ((line : List ℕ) → in_logbook line lines ≡ None) }
 {
     let mut left = text;
-    while let Some((line, rest)) = first_line(left) {
+    while let Some((line, rest)) = left.first() {
         if is_mark(line, b":LOGBOOK:") {
             if !has_end(rest) {
                 return None;
             }
             return Some(Place {
-                left: rest,
+                left: rest.bytes,
                 removed: 0,
             });
         }
@@ -63,21 +62,20 @@ fn log_place(text: &[u8]) -> Option<Place<'_>>
 /// # Errors
 ///
 /// `AllocError`.
-pub fn open_clock(alloc: Global, section: &[u8], now: Moment) -> Result<Edit, AllocError>
-    requires { terminated section.now ≡ section.now }
-    ensures { IfOk result (λ edit.
-        RewritesParts edit section.now (opened now (parts_of section.now))) }
+pub fn open_clock(alloc: Global, section: Lines<'_>, now: Moment) -> Result<Edit, AllocError>
+    ensures { let text = section.entry.bytes.now in
+        IfOk result (λ edit. RewritesParts edit text (opened now (parts_of text))) }
 {
     let rest = sections(section).rest;
     let Some(place) = log_place(rest) else {
         return Ok(Edit {
-            at: section.len() - rest.len(),
+            at: section.bytes.len() - rest.bytes.len(),
             removed: 0,
             bytes: Bytes::new(moment_bytes(alloc, b":LOGBOOK:\nCLOCK: ", now, b"\n:END:\n")?),
         });
     };
     Ok(Edit {
-        at: section.len() - place.left.len(),
+        at: section.bytes.len() - place.left.len(),
         removed: place.removed,
         bytes: Bytes::new(moment_bytes(alloc, b"CLOCK: ", now, b"\n")?),
     })
@@ -102,16 +100,15 @@ fn push_closing(out: &mut Vec<u8>, now: Moment, minutes: u64) -> Result<(), Allo
 /// - `OutOfMemory`: only where it isn't.
 pub fn close_clock(
     alloc: Global,
-    section: &[u8],
+    section: Lines<'_>,
     line: Span,
     now: Moment,
 ) -> Result<Edit, Fault<Refusal>>
-    requires terminated { terminated section.now ≡ section.now }
-    requires stands { HasOpenAt section.now line }
-    ensures ok { IfOk result (Closes now section.now line) }
-    ensures err { IfErr result (ClosesNot now section.now line) }
+    requires { HasOpenAt section.bytes.now line }
+    ensures ok { IfOk result (Closes now section.entry.bytes.now line) }
+    ensures err { IfErr result (ClosesNot now section.entry.bytes.now line) }
 {
-    let text = &section[line.start..line.end - 1];
+    let text = &section.bytes[line.start..line.end - 1];
     let Some(running) = running_clock(text) else {
         unreachable!();
     };

@@ -18,7 +18,7 @@ mod texts;
 
 pub use clock::{find_open, total};
 pub use clocking::{close_clock, open_clock};
-pub use lines::first_line;
+pub use lines::Lines;
 pub use notes::add_note;
 pub use parts::Sections;
 pub use planning::{clear_closed, repeat_planning, set_closed};

@@ -2,11 +2,11 @@
 //!
 //! A note is one line, put first into the rest of a section. No drawer is made for it.
 ghost use Rattle.std.specs.Prelude.{◌≡◌, ◌∷◌, [], ◌++◌, IfOk, OnOk};
-ghost use Rattle.org_splice.specs.Lines.{terminated};
 ghost use Rattle.org_meta.specs.Edits.{RewritesParts};
 ghost use Rattle.org_meta.specs.Notes.{quoted, note_line, with_note};
 ghost use Rattle.org_meta.specs.Sections.{parts_of};
 
+use crate::lines::Lines;
 use crate::moments::push_moment;
 use crate::split::sections;
 use crate::texts::push_all;
@@ -42,20 +42,19 @@ fn push_note(out: &mut Vec<u8>, new: &[u8], old: &[u8], now: Moment) -> Result<(
 /// `AllocError`.
 pub fn add_note(
     alloc: Global,
-    section: &[u8],
+    section: Lines<'_>,
     new: &[u8],
     old: &[u8],
     now: Moment,
 ) -> Result<Edit, AllocError>
-    requires { terminated section.now ≡ section.now }
-    ensures { IfOk result (λ edit.
-        RewritesParts edit section.now
-        (with_note (note_line new.now old.now now) (parts_of section.now))) }
+    ensures { let text = section.entry.bytes.now in
+        IfOk result (λ edit. RewritesParts edit text
+        (with_note (note_line new.now old.now now) (parts_of text))) }
 {
     let mut bytes = Vec::new(alloc);
     push_note(&mut bytes, new, old, now)?;
     Ok(Edit {
-        at: section.len() - sections(section).rest.len(),
+        at: section.bytes.len() - sections(section).rest.bytes.len(),
         removed: 0,
         bytes: Bytes::new(bytes),
     })

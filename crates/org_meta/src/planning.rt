@@ -3,7 +3,7 @@
 //! A line that isn't well formed is odd, and never edited. Entries that an edit doesn't mean keep
 //! their bytes.
 ghost use Rattle.std.specs.Prelude.{◌≡◌, ◌⊎◌, ◌<◌, ◌≤◌, ℕ, List, length, None, Some, Ok, Err, IfOk, IfErr, OnOk, MatchOption, true, false, [], ◌∷◌, ◌++◌};
-ghost use Rattle.org_splice.specs.Lines.{terminated, print_lines, lines_of};
+ghost use Rattle.org_splice.specs.Lines.{print_lines, lines_of};
 ghost use Rattle.org_meta.specs.Edits.{ChangesNothing};
 ghost use Rattle.org_meta.specs.Sections.{parts_of, split};
 ghost use Rattle.org_fault.specs.Faults.{IfRefused};
@@ -15,7 +15,7 @@ use crate::entry::{
     Entry, Planning, Word, entry_at, has_closed, has_others, is_closed, is_line_end, is_once,
     split_blanks, word_text,
 };
-use crate::lines::first_line;
+use crate::lines::Lines;
 use crate::moments::{moment_bytes, push_moment};
 use crate::split::sections;
 use crate::texts::push_all;
@@ -237,22 +237,24 @@ fn replacing(line: &[u8], bytes: Vec<u8>) -> Edit
 ///
 /// - `OddPlanning`: the planning line isn't well formed (Org Syntax, "Planning").
 /// - `OutOfMemory`.
-pub fn clear_closed(alloc: Global, section: &[u8]) -> Result<Edit, Fault<Refusal>>
-    requires { terminated section.now ≡ section.now }
-    ensures ok { IfOk result (RewritesOk (clear_closed (parts_of section.now)) section.now) }
+pub fn clear_closed(alloc: Global, section: Lines<'_>) -> Result<Edit, Fault<Refusal>>
+    ensures ok { let text = section.entry.bytes.now in
+        IfOk result (RewritesOk (clear_closed (parts_of text)) text) }
     ensures nothing { IfOk result (λ edit.
-        has_closed_entry (parts_of section.now).planning ≡ false → ChangesNothing edit) }
-    ensures err { IfRefused result (λ why. clear_closed (parts_of section.now) ≡ Err why) }
+        has_closed_entry (parts_of section.entry.bytes.now).planning ≡ false
+        → ChangesNothing edit) }
+    ensures err { IfRefused result (λ why.
+        clear_closed (parts_of section.entry.bytes.now) ≡ Err why) }
 {
     let line = sections(section).planning;
-    let Some((text, _rest)) = first_line(line) else {
+    let Some((text, _rest)) = line.first() else {
         return Ok(nothing(alloc));
     };
     let planning = read_planning(alloc, text)?;
     if !has_closed(&planning.entries) {
         return Ok(nothing(alloc));
     }
-    Ok(replacing(line, without_closed(alloc, &planning)?))
+    Ok(replacing(line.bytes, without_closed(alloc, &planning)?))
 }
 
 /// The edit that puts `CLOSED: [stamp]` first in the planning line, in the place of the CLOSED
@@ -262,18 +264,18 @@ pub fn clear_closed(alloc: Global, section: &[u8]) -> Result<Edit, Fault<Refusal
 ///
 /// - `OddPlanning`: the planning line isn't well formed.
 /// - `OutOfMemory`.
-pub fn set_closed(alloc: Global, section: &[u8], now: Moment) -> Result<Edit, Fault<Refusal>>
-    requires { terminated section.now ≡ section.now }
-    ensures ok { IfOk result (RewritesOk (set_closed now (parts_of section.now)) section.now) }
+pub fn set_closed(alloc: Global, section: Lines<'_>, now: Moment) -> Result<Edit, Fault<Refusal>>
+    ensures ok { let text = section.entry.bytes.now in
+        IfOk result (RewritesOk (set_closed now (parts_of text)) text) }
     ensures err { IfRefused result (λ why.
-        set_closed now (parts_of section.now) ≡ Err why) }
+        set_closed now (parts_of section.entry.bytes.now) ≡ Err why) }
 {
     let line = sections(section).planning;
-    let Some((text, _rest)) = first_line(line) else {
-        return Ok(replacing(line, closed_line(alloc, now)?));
+    let Some((text, _rest)) = line.first() else {
+        return Ok(replacing(line.bytes, closed_line(alloc, now)?));
     };
     let planning = read_planning(alloc, text)?;
-    Ok(replacing(line, with_closed(alloc, &planning, now)?))
+    Ok(replacing(line.bytes, with_closed(alloc, &planning, now)?))
 }
 
 /// The edit that repeats each SCHEDULED or DEADLINE stamp that has a repeater, and takes the CLOSED
@@ -287,15 +289,16 @@ pub fn set_closed(alloc: Global, section: &[u8], now: Moment) -> Result<Edit, Fa
 /// - `OutOfMemory`.
 pub fn repeat_planning(
     alloc: Global,
-    section: &[u8],
+    section: Lines<'_>,
     now: Moment,
 ) -> Result<Option<Edit>, Fault<Refusal>>
-    requires { terminated section.now ≡ section.now }
-    ensures ok { IfOk result (RewritesRepeated now (parts_of section.now) section.now) }
-    ensures err { IfRefused result (IsRefusedRepeat now (parts_of section.now).planning) }
+    ensures ok { let text = section.entry.bytes.now in
+        IfOk result (RewritesRepeated now (parts_of text) text) }
+    ensures err { IfRefused result
+        (IsRefusedRepeat now (parts_of section.entry.bytes.now).planning) }
 {
     let line = sections(section).planning;
-    let Some((text, _rest)) = first_line(line) else {
+    let Some((text, _rest)) = line.first() else {
         return Ok(None);
     };
     let planning = read_planning(alloc, text)?;
@@ -303,7 +306,7 @@ pub fn repeat_planning(
         return Ok(None);
     }
     let bytes = repeated(alloc, &planning, now)?;
-    Ok(Some(replacing(line, bytes)))
+    Ok(Some(replacing(line.bytes, bytes)))
 }
 
 /// Whether a stamp repeats.

@@ -4,11 +4,11 @@
 //! aren't joined.
 ghost use Rattle.std.specs.Prelude.{◌≡◌, ℕ, ◌≤◌, ◌+◌, length, IfOk, [], ◌∷◌, ◌++◌};
 ghost use Rattle.std.specs.Option.{option_map};
-ghost use Rattle.org_splice.specs.Lines.{terminated, lines_of};
+ghost use Rattle.org_splice.specs.Lines.{lines_of};
 ghost use Rattle.org_meta.specs.Edits.{RewritesParts, IsPlaceFor};
 ghost use Rattle.org_meta.specs.Sections.{value_named, value_before_end, put_before_end, property, property_line, put, parts_of, split, joined};
 
-use crate::lines::{Place, first_line};
+use crate::lines::{Lines, Place};
 use crate::names::same_name;
 use crate::split::{is_end, property_of, sections};
 use crate::texts::push_all;
@@ -28,13 +28,12 @@ fn value_named<'a>(line: &'a [u8], name: &[u8]) -> Option<&'a [u8]>
 }
 
 /// The first value of that name before the `:END:`.
-fn value_before_end<'a>(text: &'a [u8], name: &[u8]) -> Option<&'a [u8]>
-    requires { terminated text.now ≡ text.now }
+fn value_before_end<'a>(text: Lines<'a>, name: &[u8]) -> Option<&'a [u8]>
     ensures { option_map (λ value. value.now) result
-        ≡ value_before_end name.now (lines_of text.now) }
+        ≡ value_before_end name.now (lines_of text.entry.bytes.now) }
 {
     let mut left = text;
-    while let Some((line, rest)) = first_line(left) {
+    while let Some((line, rest)) = left.first() {
         if is_end(line) {
             return None;
         }
@@ -48,32 +47,39 @@ fn value_before_end<'a>(text: &'a [u8], name: &[u8]) -> Option<&'a [u8]>
 
 /// The value of the first property of that name in the section's drawer (Org manual, "Property
 /// Syntax"); ASCII case doesn't count. Takes no memory.
-pub fn property<'a>(section: &'a [u8], name: &[u8]) -> Option<&'a [u8]>
-    requires { terminated section.now ≡ section.now }
-    ensures { option_map (λ value. value.now) result ≡ property name.now (parts_of section.now) }
+pub fn property<'a>(section: Lines<'a>, name: &[u8]) -> Option<&'a [u8]>
+    ensures { option_map (λ value. value.now) result
+        ≡ property name.now (parts_of section.entry.bytes.now) }
 {
-    let (_start, properties) = first_line(sections(section).drawer)?;
+    let (_start, properties) = sections(section).drawer.first()?;
     value_before_end(properties, name)
 }
 
 /// The place of the first property of that name, or else before the `:END:`.
-fn place_of<'a>(text: &'a [u8], name: &[u8]) -> Place<'a>
-    requires { terminated text.now ≡ text.now }
-    ensures { IsPlaceFor (λ line. put_before_end name.now line (lines_of text.now))
-        text.now result }
+fn place_of<'a>(text: Lines<'a>, name: &[u8]) -> Place<'a>
+    ensures { IsPlaceFor (λ line. put_before_end name.now line (lines_of text.entry.bytes.now))
+        text.entry.bytes.now result }
 {
     let mut left = text;
-    while let Some((line, rest)) = first_line(left) {
+    while let Some((line, rest)) = left.first() {
         if is_end(line) {
-            return Place { left, removed: 0 };
+            return Place {
+                left: left.bytes,
+                removed: 0,
+            };
         }
         if value_named(line, name).is_some() {
-            let removed = left.len() - rest.len();
-            return Place { left, removed };
+            return Place {
+                left: left.bytes,
+                removed: left.bytes.len() - rest.bytes.len(),
+            };
         }
         left = rest;
     }
-    Place { left, removed: 0 }
+    Place {
+        left: left.bytes,
+        removed: 0,
+    }
 }
 
 /// `:NAME: VALUE`, or `:NAME:` where the value is empty, with its newline, between two texts.
@@ -102,25 +108,24 @@ fn property_bytes(
 /// `AllocError`.
 pub fn put_property(
     alloc: Global,
-    section: &[u8],
+    section: Lines<'_>,
     name: &[u8],
     value: &[u8],
 ) -> Result<Edit, AllocError>
-    requires { terminated section.now ≡ section.now }
-    ensures { IfOk result (λ edit.
-        RewritesParts edit section.now (put name.now value.now (parts_of section.now))) }
+    ensures { let text = section.entry.bytes.now in
+        IfOk result (λ edit. RewritesParts edit text (put name.now value.now (parts_of text))) }
 {
     let parts = sections(section);
-    let Some((_start, properties)) = first_line(parts.drawer) else {
+    let Some((_start, properties)) = parts.drawer.first() else {
         return Ok(Edit {
-            at: parts.planning.len(),
+            at: parts.planning.bytes.len(),
             removed: 0,
             bytes: property_bytes(alloc, b":PROPERTIES:\n", name, value, b":END:\n")?,
         });
     };
     let place = place_of(properties, name);
     Ok(Edit {
-        at: section.len() - parts.rest.len() - place.left.len(),
+        at: section.bytes.len() - parts.rest.bytes.len() - place.left.len(),
         removed: place.removed,
         bytes: property_bytes(alloc, b"", name, value, b"")?,
     })

@@ -4,12 +4,12 @@
 //! properties.
 ghost use Rattle.std.specs.Prelude.{◌≡◌, codes, is_some};
 ghost use Rattle.std.specs.Option.{option_map};
-ghost use Rattle.org_splice.specs.Lines.{terminated, lines_of};
+ghost use Rattle.org_splice.specs.Lines.{lines_of};
 ghost use Rattle.org_meta.specs.Sections.{is_planning, is_mark, is_name_run, property_of, size_to_end, planning_size, drawer_size, split, AreSections};
 ghost use Rattle.org_meta.specs.Sections.{is_drawer_start, is_end};
 ghost use Rattle.org_meta.specs.Lines.{behind_lines};
 
-use crate::lines::first_line;
+use crate::lines::Lines;
 use crate::names::same_name;
 use crate::parts::Sections;
 use org_splice::blanks::{behind_blanks, solid_count, trimmed};
@@ -69,13 +69,12 @@ pub(crate) fn property_of(line: &[u8]) -> Option<Property<'_>>
 }
 
 /// What follows the first `:END:`, where only property lines come before it.
-fn behind_end(text: &[u8]) -> Option<&[u8]>
-    requires { terminated text.now ≡ text.now }
-    ensures { option_map (λ rest. rest.now) result
-        ≡ option_map (behind_lines text.now) (size_to_end (lines_of text.now)) }
+fn behind_end(text: Lines<'_>) -> Option<Lines<'_>>
+    ensures { let text = text.entry.bytes.now in option_map (λ rest. rest.bytes.now) result
+        ≡ option_map (behind_lines text) (size_to_end (lines_of text)) }
 {
     let mut left = text;
-    while let Some((line, rest)) = first_line(left) {
+    while let Some((line, rest)) = left.first() {
         if is_end(line) {
             return Some(rest);
         }
@@ -86,11 +85,11 @@ fn behind_end(text: &[u8]) -> Option<&[u8]>
 }
 
 /// What follows the property drawer that the text begins with.
-fn behind_drawer(text: &[u8]) -> &[u8]
-    requires { terminated text.now ≡ text.now }
-    ensures { result.now ≡ behind_lines text.now (drawer_size (lines_of text.now)) }
+fn behind_drawer(text: Lines<'_>) -> Lines<'_>
+    ensures { let text = text.entry.bytes.now in
+        result.bytes.now ≡ behind_lines text (drawer_size (lines_of text)) }
 {
-    let Some((line, rest)) = first_line(text) else {
+    let Some((line, rest)) = text.first() else {
         return text;
     };
     if !is_mark(line, b":PROPERTIES:") {
@@ -100,26 +99,31 @@ fn behind_drawer(text: &[u8]) -> &[u8]
 }
 
 /// What follows the planning line that the section begins with.
-fn behind_planning(section: &[u8]) -> &[u8]
-    requires { terminated section.now ≡ section.now }
-    ensures { result.now ≡ behind_lines section.now (planning_size (lines_of section.now)) }
+fn behind_planning(section: Lines<'_>) -> Lines<'_>
+    ensures { let text = section.entry.bytes.now in
+        result.bytes.now ≡ behind_lines text (planning_size (lines_of text)) }
 {
-    match first_line(section) {
+    match section.first() {
         Some((line, rest)) if is_planning(line) => rest,
         _ => section,
     }
 }
 
 /// The parts of a section (Org Syntax, "Planning", "Property Drawers"). Takes no memory.
-pub fn sections(section: &[u8]) -> Sections<'_>
-    requires { terminated section.now ≡ section.now }
-    ensures { AreSections result (split (lines_of section.now)) }
+pub fn sections(section: Lines<'_>) -> Sections<'_>
+    ensures { AreSections result (split (lines_of section.entry.bytes.now)) }
 {
     let below = behind_planning(section);
     let rest = behind_drawer(below);
+    let above = section.bytes.len() - below.bytes.len();
+    let between = below.bytes.len() - rest.bytes.len();
     Sections {
-        planning: section.split_at(section.len() - below.len()).0,
-        drawer: below.split_at(below.len() - rest.len()).0,
+        planning: Lines {
+            bytes: section.bytes.split_at(above).0,
+        },
+        drawer: Lines {
+            bytes: below.bytes.split_at(between).0,
+        },
         rest,
     }
 }

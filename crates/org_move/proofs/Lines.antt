@@ -16,6 +16,8 @@ use Rattle.org_splice.specs.declared.searched.Searched.TheVariants.{Ends}
 use Rattle.org_splice.specs.Searched.{IsFrontWithout, IsSearched, StandsInLines}
 use Rattle.org_splice.proofs.Searches.{front_of, lines_of-both}
 use Rattle.org_meta.specs.Lines.{BeginsWith}
+use Rattle.org_meta.specs.declared.lines.Lines.{Lines}
+use Rattle.org_meta.proofs.FirstLine.{rest_terminated}
 use Rattle.org_move.specs.Location.{ComesTo, IsBehindOthers, LeavesLines, has_archive_line, is_archive_line}
 
 -- ---- `#+` in a text
@@ -253,18 +255,18 @@ then_behind text left more one two = record {
   none = none_both one.before two.before one.terminated_before one.none two.none;
 }
 
-past_line : (left line rest : List ℕ) → BeginsWith left line rest → is_archive_line line ≡ false → IsBehindOthers left rest
-past_line left line rest cut is = record {
+past_line : (left line rest : List ℕ) → terminated left ≡ left → BeginsWith left line rest → is_archive_line line ≡ false → IsBehindOthers left rest
+past_line left line rest whole cut is = record {
   before = line ++ 10 ∷ [];
   parts = with_newline left line rest cut.bytes;
   terminated_before = terminated-append line [];
-  terminated_left = cut.terminated_rest;
+  terminated_left = rest_terminated left line rest whole cut;
   none = line_other left line rest cut is;
 }
 
 pub next_behind : (text left line rest : List ℕ) → IsBehindOthers text left → ComesTo left line rest → is_archive_line line ≡ false → IsBehindOthers text rest
 next_behind text left line rest sofar comes is =
-    then_behind text left rest sofar (then_behind left comes.left rest comes.behind (past_line comes.left line rest comes.begins is))
+    then_behind text left rest sofar (then_behind left comes.left rest comes.behind (past_line comes.left line rest comes.behind.terminated_left comes.begins is))
 
 pub comes_then : (text left line rest : List ℕ) → IsBehindOthers text left → ComesTo left line rest → ComesTo text line rest
 comes_then text left line rest sofar comes = record { left = comes.left; behind = then_behind text left comes.left sofar comes.behind; begins = comes.begins }
@@ -278,9 +280,9 @@ shorter left line rest comes =
 
 -- the same as the code says it
 abbrev pub Cut : Type 0
-Cut = Bor (List ℕ) × Bor (List ℕ)
+Cut = Bor (List ℕ) × Lines
 
-pub comes_some : (text left : List ℕ) (r : Option Cut) → IsBehindOthers text left → IfSome r (λ (p : Cut). BeginsWith left p.0.now p.1.now) → IfSome r (λ (p : Cut). ComesTo text p.0.now p.1.now)
+pub comes_some : (text left : List ℕ) (r : Option Cut) → IsBehindOthers text left → IfSome r (λ (p : Cut). BeginsWith left p.0.now p.1.bytes.now) → IfSome r (λ (p : Cut). ComesTo text p.0.now p.1.bytes.now)
 comes_some text left None sofar begins = tt
 comes_some text left (Some p) sofar begins = record { left = left; behind = sofar; begins = begins }
 

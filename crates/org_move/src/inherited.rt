@@ -7,7 +7,7 @@ ghost use Rattle.std.specs.List.{flat_map};
 ghost use Rattle.org_outline.specs.Tree.{node_count, tree};
 ghost use Rattle.org_move.specs.Inherited.{first_ones, nearest, own_value, nonempty, nonempty_only, tag_list, with_first, tags_above, titles_above};
 
-use org_meta::property;
+use org_meta::{Lines, property};
 use org_outline::{Node, Outline};
 use std::alloc::{AllocError, Global};
 
@@ -25,7 +25,8 @@ fn own_value<'a>(outline: &Outline<'a>, node: Node, name: &[u8]) -> Option<&'a [
         ≡ own_value name.now (tree outline.now.text) node }
 {
     let span = outline.section(node);
-    nonempty(property(&outline.text()[span.start..span.end], name)?)
+    let bytes = &outline.text()[span.start..span.end];
+    nonempty(property(Lines { bytes }, name)?)
 }
 
 /// The nearest nonempty value of a property: the heading's own, or that of an ancestor, the

@@ -20,7 +20,7 @@ use memchr::memrchr;
 use org_disk::{BadName, FileName};
 use org_fault::{Fault, Refusal};
 use org_headings::heading_level;
-use org_meta::first_line;
+use org_meta::Lines;
 use org_outline::{HeadParts, Node, Outline, States};
 use org_splice::blanks::{behind_blanks, trimmed};
 use org_splice::{Bytes, Searched};
@@ -60,22 +60,21 @@ fn from_line(text: &[u8], at: usize) -> &[u8]
 }
 
 /// The first line that holds `#+`, for which the finder looks, and what follows it.
-fn marked_line<'a>(finder: &Finder<'_>, text: &'a [u8]) -> Option<(&'a [u8], &'a [u8])>
-    requires mark { finder.now ≡ codes "#+" }
-    requires terminated { terminated text.now ≡ text.now }
-    ensures some { IfSome result (λ r. ComesTo text.now r.0.now r.1.now) }
-    ensures none { IfNone result (has_archive_line text.now ≡ false) }
+fn marked_line<'a>(finder: &Finder<'_>, text: Lines<'a>) -> Option<(&'a [u8], Lines<'a>)>
+    requires { finder.now ≡ codes "#+" }
+    ensures some { IfSome result (λ r. ComesTo text.entry.bytes.now r.0.now r.1.bytes.now) }
+    ensures none { IfNone result (has_archive_line text.entry.bytes.now ≡ false) }
 {
-    first_line(from_line(text, finder.find(text)?))
+    let bytes = from_line(text.bytes, finder.find(text.bytes)?);
+    Lines { bytes }.first()
 }
 
 /// The first line of the text that begins with `#+ARCHIVE:`, and what follows it. Lines without
 /// `#+` aren't read.
-fn first_archive_line(text: &[u8]) -> Option<(&[u8], &[u8])>
-    requires { terminated text.now ≡ text.now }
-    ensures some { IfSome result (λ r. ComesTo text.now r.0.now r.1.now
+fn first_archive_line(text: Lines<'_>) -> Option<(&[u8], Lines<'_>)>
+    ensures some { IfSome result (λ r. ComesTo text.entry.bytes.now r.0.now r.1.bytes.now
         × (is_archive_line r.0.now ≡ true)) }
-    ensures none { IfNone result (has_archive_line text.now ≡ false) }
+    ensures none { IfNone result (has_archive_line text.entry.bytes.now ≡ false) }
 {
     let finder = Finder::new(b"#+");
     let mut left = text;
@@ -94,10 +93,11 @@ fn unknown_lines(text: &[u8], front: usize, back: usize) -> (&[u8], &[u8])
     ensures { LeavesLines text.now front back result.0.now result.1.now }
 {
     let left = from_line(text, front.min(text.len()));
-    let (_, end) = left.split_at(left.len().saturating_sub(back));
-    match first_line(end) {
-        Some((_, rest)) => left.split_at(left.len() - rest.len()),
-        None => (left, end),
+    let (_, bytes) = left.split_at(left.len().saturating_sub(back));
+    let end = Lines { bytes };
+    match end.first() {
+        Some((_, rest)) => left.split_at(left.len() - rest.bytes.len()),
+        None => (left, bytes),
     }
 }
 
@@ -115,10 +115,10 @@ fn archive_line(text: &[u8], searched: Searched) -> (Option<&[u8]>, Searched)
         Searched::Ends { front, back } => (front, back),
     };
     let (lines, behind) = unknown_lines(text, front, back);
-    match first_archive_line(lines) {
+    match first_archive_line(Lines { bytes: lines }) {
         None => (None, Searched::Nowhere),
         Some((line, rest)) => {
-            let front = text.len() - behind.len() - rest.len() - line.len() - 1;
+            let front = text.len() - behind.len() - rest.bytes.len() - line.len() - 1;
             (Some(line), Searched::Ends { front, back })
         }
     }

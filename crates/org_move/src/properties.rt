@@ -17,7 +17,7 @@ ghost use Rattle.org_move.specs.Inherited.{inherited_tags, titles_above};
 ghost use Rattle.org_move.specs.Given.{IsGood, given};
 
 use crate::inherited::{first_tags, nearest, nonempty, titles_and_tags};
-use org_meta::put_property;
+use org_meta::{Lines, put_property};
 use org_outline::{Node, Outline};
 use org_stamp::{Moment, Stamp};
 use std::alloc::{AllocError, Global};
@@ -59,7 +59,7 @@ fn with_property(
         (λ new. parts_of new.items ≡ put name.now value.now (parts_of section.now)) }
     ensures terminated { IfOk result (λ new. terminated new.items ≡ new.items) }
 {
-    let edit = put_property(alloc, section, name, value)?;
+    let edit = put_property(alloc, Lines { bytes: section }, name, value)?;
     let front = &section[..edit.at];
     let back = &section[edit.at + edit.removed..];
     between(alloc, front, edit.bytes.as_slice(), back)

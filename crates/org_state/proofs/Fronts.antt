@@ -9,16 +9,16 @@ use Rattle.org_meta.proofs.Puts.{section_bytes, joined_split}
 
 -- a section's bytes without those of its rest
 pub front_bytes : (section : List ℕ) (slices : Sections) → terminated section ≡ section → AreSections slices (split (lines_of section))
-    → take (length section - length slices.rest.now) section ≡ print_lines (joined (record (split (lines_of section)) { rest = [] }))
+    → take (length section - length slices.rest.bytes.now) section ≡ print_lines (joined (record (split (lines_of section)) { rest = [] }))
 front_bytes section slices stays_terminated are =
     let p : SectionParts = split (lines_of section) in
-    let a : List ℕ = slices.planning.now ++ slices.drawer.now in
-    let whole : section ≡ a ++ slices.rest.now = section_bytes section slices stays_terminated are ∙ sym (append_assoc slices.planning.now slices.drawer.now slices.rest.now) in
-    let size : length section - length slices.rest.now ≡ length a = omega (arith, ap length whole, length-append a slices.rest.now) in
-    let printed : print_lines (p.planning ++ (p.drawer ++ [])) ≡ slices.planning.now ++ slices.drawer.now =
+    let a : List ℕ = slices.planning.bytes.now ++ slices.drawer.bytes.now in
+    let whole : section ≡ a ++ slices.rest.bytes.now = section_bytes section slices stays_terminated are ∙ sym (append_assoc slices.planning.bytes.now slices.drawer.bytes.now slices.rest.bytes.now) in
+    let size : length section - length slices.rest.bytes.now ≡ length a = omega (arith, ap length whole, length-append a slices.rest.bytes.now) in
+    let printed : print_lines (p.planning ++ (p.drawer ++ [])) ≡ slices.planning.bytes.now ++ slices.drawer.bytes.now =
     ap (λ (d : List (List ℕ)). print_lines (p.planning ++ d)) (append-nil p.drawer) ∙ print_lines-append p.planning p.drawer
-    ∙ ap (λ (t : List ℕ). t ++ print_lines p.drawer) (sym are.planning) ∙ ap (λ (t : List ℕ). slices.planning.now ++ t) (sym are.drawer) in
-    ap (take (length section - length slices.rest.now)) whole ∙ take_at a slices.rest.now (length section - length slices.rest.now) (sym size) ∙ sym printed
+    ∙ ap (λ (t : List ℕ). t ++ print_lines p.drawer) (sym are.planning) ∙ ap (λ (t : List ℕ). slices.planning.bytes.now ++ t) (sym are.drawer) in
+    ap (take (length section - length slices.rest.bytes.now)) whole ∙ take_at a slices.rest.bytes.now (length section - length slices.rest.bytes.now) (sym size) ∙ sym printed
 
 -- they are no longer than the section
 pub front_short : (ls : List (List ℕ)) → length (print_lines ((split ls).planning ++ (split ls).drawer)) ≤ length (print_lines ls)

@@ -4,18 +4,17 @@ use Rattle.std.specs.Global.{Global}
 use Rattle.org_fault.specs.declared.fault.Fault.{Fault}
 use Rattle.org_fault.specs.declared.refusal.Refusal.{Refusal}
 use Rattle.org_splice.specs.declared.edit.Edit.{Edit}
-use Rattle.org_outline.specs.Tree.{tree}
+use Rattle.org_outline.specs.States.{Keywords}
 use Rattle.org_state.specs.declared.changing.Change.{Change}
 use Rattle.org_state.specs.Answers.{AnswersOwn}
-use Rattle.org_state.specs.Todo.{Own, own_at}
+use Rattle.org_state.specs.Todo.{Own}
 
--- its own lines as they are
-abbrev pub own_of : Change → Own
-own_of change = own_at (tree change.outline.now.text) change.node
+abbrev pub states_of : Change → Keywords
+states_of change = change.own.outline.now.states
 
 -- edits that give it the own lines that are defined, or the refusal that is, unless memory
 -- ran out
 abbrev pub AnswersChange : (Result Own Refusal → Type 0) → Change
     → Result (Vec Edit Global) (Fault Refusal) → Type 0
 AnswersChange IsDefined change result =
-    AnswersOwn IsDefined change.outline.now.text change.node result
+    AnswersOwn IsDefined change.own.outline.now.text change.own.node result

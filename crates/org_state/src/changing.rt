@@ -1,36 +1,36 @@
 //! A heading put into another state, with what its planning line and notes get from it.
 //!
 //! Edits are answered the last first, so that each stands where it does in the text as it was.
-ghost use Rattle.std.specs.Prelude.{◌≡◌, ◌<◌, ◌≤◌, ◌+◌, [], ◌∷◌, ℕ, List, length, codes, Some, Ok, IfOk, IfErr};
-ghost use Rattle.org_splice.specs.Lines.{print_lines, terminated};
+ghost use Rattle.std.specs.Prelude.{◌≡◌, ◌≤◌, ◌+◌, [], ◌∷◌, ℕ, List, length, codes, Some, Ok, IfOk, IfErr};
+ghost use Rattle.org_splice.specs.Lines.{print_lines};
 ghost use Rattle.org_meta.specs.Edits.{Rewrites, RewritesParts};
 ghost use Rattle.org_meta.specs.Moments.{moment_text};
 ghost use Rattle.org_meta.specs.Planning.{clear_closed, set_closed};
 ghost use Rattle.org_meta.specs.Replans.{RewritesRepeated};
 ghost use Rattle.org_meta.specs.Notes.{note_line, with_note};
 ghost use Rattle.org_meta.specs.Sections.{split, parts_of, joined, put};
-ghost use Rattle.org_outline.specs.Tree.{node_count, tree};
 ghost use Rattle.org_state.specs.Answers.{AnswersTodo};
-ghost use Rattle.org_state.specs.Change.{AnswersChange, own_of};
+ghost use Rattle.org_state.specs.Change.{AnswersChange, states_of};
+ghost use Rattle.org_state.specs.OwnLines.{document_of, own_of};
 ghost use Rattle.org_fault.specs.declared.fault.Fault.TheVariants.{OutOfMemory};
 ghost use Rattle.org_state.specs.Edits.{moved, section_start};
-ghost use Rattle.org_state.specs.Keyword.{with_keyword};
 ghost use Rattle.org_state.specs.Todo.{with_lines, changed, repeating, TurnsDone, IsChanged};
 
 use crate::keyword::is_state;
-use crate::own::{above_rest, in_section, keyword_edit, section_of};
+use crate::own::{OwnLines, above_rest};
 use org_fault::{Fault, Refusal};
-use org_meta::{add_note, clear_closed, put_property, repeat_planning, sections, set_closed};
-use org_outline::{Node, Outline, Step};
+use org_meta::{
+    Lines, add_note, clear_closed, put_property, repeat_planning, sections, set_closed,
+};
+use org_outline::{Outline, Step};
 use org_splice::Edit;
 use org_stamp::{Moment, Stamp};
 use std::alloc::{AllocError, Global};
 
 /// The edit that puts the property LAST_REPEAT into a section.
-fn last_repeat(alloc: Global, section: &[u8], now: Moment) -> Result<Edit, AllocError>
-    requires { terminated section.now ≡ section.now }
-    ensures { IfOk result (λ edit. RewritesParts edit section.now
-        (put (codes "LAST_REPEAT") (moment_text now) (parts_of section.now))) }
+fn last_repeat(alloc: Global, section: Lines<'_>, now: Moment) -> Result<Edit, AllocError>
+    ensures { IfOk result (λ edit. RewritesParts edit section.entry.bytes.now
+        (put (codes "LAST_REPEAT") (moment_text now) (parts_of section.entry.bytes.now))) }
 {
     let stamp = Stamp::at(now, false, true).print(alloc)?;
     put_property(alloc, section, b"LAST_REPEAT", &stamp)
@@ -40,16 +40,16 @@ fn last_repeat(alloc: Global, section: &[u8], now: Moment) -> Result<Edit, Alloc
 /// LAST_REPEAT, above the rest.
 fn noted(
     alloc: Global,
-    section: &[u8],
+    section: Lines<'_>,
     new: &[u8],
     old: &[u8],
     now: Moment,
 ) -> Result<(Edit, Edit), AllocError>
-    requires { terminated section.now ≡ section.now }
-    ensures { let parts = parts_of section.now in
+    ensures { let parts = parts_of section.entry.bytes.now in
         let above = print_lines (joined (record parts { rest = [] })) in
         IfOk result (λ edits.
-        RewritesParts edits.0 section.now (with_note (note_line new.now old.now now) parts)
+        RewritesParts edits.0 section.entry.bytes.now
+        (with_note (note_line new.now old.now now) parts)
         × RewritesParts edits.1 above
         (put (codes "LAST_REPEAT") (moment_text now) (parts_of above))) }
 {
@@ -60,35 +60,32 @@ fn noted(
 
 /// A heading that is to get another state, and the moment.
 #[derive(Drop)]
-struct Change<'a> {
-    outline: &'a Outline<'a>,
-    node: Node,
-    state: &'a [u8],
+struct Change<'o, 't, 's> {
+    own: OwnLines<'o, 't>,
+    state: &'s [u8],
     moment: Moment,
 }
 
-impl Change<'_> {
+impl Change<'_, '_, '_> {
     /// An edit of the heading's section, and that of its keyword.
     fn with_section(&self, alloc: Global, edit: Edit) -> Result<Vec<Edit>, Fault<Refusal>>
-        requires node { self.now.node < node_count (tree self.now.outline.now.text) }
-        requires within { edit.at + edit.removed
-            ≤ length (print_lines (own_of self.now).section) }
-        ensures { (new : List (List ℕ)) → Rewrites edit (print_lines (own_of self.now).section) new
-            → AnswersChange (λ r. r ≡ Ok (with_lines self.now.outline.now.states
-            self.now.state.now (own_of self.now) new)) self.now result }
+        requires { edit.at + edit.removed ≤ length (print_lines (own_of self.now.own).section) }
+        ensures { let own = own_of self.now.own in
+            (new : List (List ℕ)) → Rewrites edit (print_lines own.section) new
+            → AnswersChange (λ r. r ≡ Ok (with_lines (states_of self.now) self.now.state.now own
+            new)) self.now result }
     {
-        let keyword = keyword_edit(alloc, self.outline, self.node, self.state)?;
-        Ok(vec![in alloc; in_section(self.outline, self.node, edit), keyword]?)
+        let keyword = self.own.keyword_edit(alloc, self.state)?;
+        Ok(vec![in alloc; self.own.in_section(edit), keyword]?)
     }
 
     /// The edits of an entry that turns back: its CLOSED entry goes.
     fn turn_back(&self, alloc: Global) -> Result<Vec<Edit>, Fault<Refusal>>
-        requires { self.now.node < node_count (tree self.now.outline.now.text) }
-        ensures { let own = own_of self.now in
-            AnswersChange (λ r. r ≡ changed self.now.outline.now.states self.now.state.now own
+        ensures { let own = own_of self.now.own in
+            AnswersChange (λ r. r ≡ changed (states_of self.now) self.now.state.now own
             (clear_closed (split own.section))) self.now result }
     {
-        let edit = clear_closed(alloc, section_of(self.outline, self.node))?;
+        let edit = clear_closed(alloc, self.own.section())?;
         self.with_section(alloc, edit)
     }
 
@@ -102,21 +99,21 @@ impl Change<'_> {
         planning: Edit,
         keyword: Edit,
     ) -> Result<Vec<Edit>, Fault<Refusal>>
-        requires node { self.now.node < node_count (tree self.now.outline.now.text) }
-        requires note { note.at + note.removed ≤ length (print_lines (own_of self.now).section) }
+        requires note { note.at + note.removed
+            ≤ length (print_lines (own_of self.now.own).section) }
         requires property { property.at + property.removed
-            ≤ length (print_lines (own_of self.now).section) }
+            ≤ length (print_lines (own_of self.now.own).section) }
         requires planning { planning.at + planning.removed
-            ≤ length (print_lines (own_of self.now).section) }
-        ensures ok { let start = section_start (tree self.now.outline.now.text) self.now.node in
+            ≤ length (print_lines (own_of self.now.own).section) }
+        ensures ok { let start = section_start (document_of self.now.own) self.now.own.node in
             IfOk result (λ edits. edits.items ≡ moved start note ∷ moved start property
             ∷ moved start planning ∷ keyword ∷ []) }
         ensures err { IfErr result (λ fault. fault ≡ OutOfMemory) }
     {
         let edits = [
-            in_section(self.outline, self.node, note),
-            in_section(self.outline, self.node, property),
-            in_section(self.outline, self.node, planning),
+            self.own.in_section(note),
+            self.own.in_section(property),
+            self.own.in_section(planning),
             keyword,
         ];
         Ok(Vec::from_array(alloc, edits)?)
@@ -124,41 +121,38 @@ impl Change<'_> {
 
     /// The edits of a repeated task that turns done, where `planning` repeats its planning line.
     fn repeat(&self, alloc: Global, planning: Edit) -> Result<Vec<Edit>, Fault<Refusal>>
-        requires node { self.now.node < node_count (tree self.now.outline.now.text) }
-        requires planning { let line = print_lines (split (own_of self.now).section).planning in
+        requires { let line = print_lines (split (own_of self.now.own).section).planning in
             RewritesRepeated self.now.moment (parts_of line) line (Some planning) }
-        ensures { let own = own_of self.now in
-            AnswersChange (TurnsDone self.now.outline.now.states self.now.state.now self.now.moment
+        ensures { let own = own_of self.now.own in
+            AnswersChange (TurnsDone (states_of self.now) self.now.state.now self.now.moment
             own (repeating (split own.section).planning)) self.now result }
     {
-        let active = self.outline.states().first_active().as_bytes();
-        let keyword = keyword_edit(alloc, self.outline, self.node, active)?;
-        let section = section_of(self.outline, self.node);
-        let old = self.outline.parts(self.node).keyword;
+        let active = self.own.outline.states().first_active().as_bytes();
+        let keyword = self.own.keyword_edit(alloc, active)?;
+        let section = self.own.section();
+        let old = self.own.outline.parts(self.own.node).keyword;
         let (note, property) = noted(alloc, section, self.state, old, self.moment)?;
         self.last_first(alloc, note, property, planning, keyword)
     }
 
     /// The edits of an entry that turns done and isn't repeated: it gets a CLOSED entry.
     fn close(&self, alloc: Global) -> Result<Vec<Edit>, Fault<Refusal>>
-        requires { self.now.node < node_count (tree self.now.outline.now.text) }
-        ensures { let own = own_of self.now in
-            AnswersChange (λ r. r ≡ changed self.now.outline.now.states self.now.state.now own
+        ensures { let own = own_of self.now.own in
+            AnswersChange (λ r. r ≡ changed (states_of self.now) self.now.state.now own
             (set_closed self.now.moment (split own.section))) self.now result }
     {
-        let edit = set_closed(alloc, section_of(self.outline, self.node), self.moment)?;
+        let edit = set_closed(alloc, self.own.section(), self.moment)?;
         self.with_section(alloc, edit)
     }
 
     /// The edits of an entry that turns done: its planning is repeated, or else it gets a CLOSED
     /// entry.
     fn turn_done(&self, alloc: Global) -> Result<Vec<Edit>, Fault<Refusal>>
-        requires { self.now.node < node_count (tree self.now.outline.now.text) }
-        ensures { let own = own_of self.now in
-            AnswersChange (TurnsDone self.now.outline.now.states self.now.state.now self.now.moment
+        ensures { let own = own_of self.now.own in
+            AnswersChange (TurnsDone (states_of self.now) self.now.state.now self.now.moment
             own (repeating (split own.section).planning)) self.now result }
     {
-        let line = sections(section_of(self.outline, self.node)).planning;
+        let line = sections(self.own.section()).planning;
         match repeat_planning(alloc, line, self.moment)? {
             Some(planning) => self.repeat(alloc, planning),
             None => self.close(alloc),
@@ -167,23 +161,21 @@ impl Change<'_> {
 
     /// The edits of a heading whose keyword alone changes.
     fn reword(&self, alloc: Global) -> Result<Vec<Edit>, Fault<Refusal>>
-        requires { self.now.node < node_count (tree self.now.outline.now.text) }
-        ensures { let own = own_of self.now in
-            AnswersChange (λ r. r ≡ Ok (with_lines self.now.outline.now.states self.now.state.now
+        ensures { let own = own_of self.now.own in
+            AnswersChange (λ r. r ≡ Ok (with_lines (states_of self.now) self.now.state.now
             own own.section)) self.now result }
     {
-        let keyword = keyword_edit(alloc, self.outline, self.node, self.state)?;
+        let keyword = self.own.keyword_edit(alloc, self.state)?;
         Ok(vec![in alloc; keyword]?)
     }
 
     /// The edits of a heading that gets another state than it has.
     fn edits(&self, alloc: Global) -> Result<Vec<Edit>, Fault<Refusal>>
-        requires { self.now.node < node_count (tree self.now.outline.now.text) }
-        ensures { AnswersChange (IsChanged self.now.outline.now.states self.now.state.now
-            self.now.moment (own_of self.now)) self.now result }
+        ensures { AnswersChange (IsChanged (states_of self.now) self.now.state.now
+            self.now.moment (own_of self.now.own)) self.now result }
     {
-        let states = self.outline.states();
-        let was_done = states.is_done(self.outline.parts(self.node).keyword);
+        let states = self.own.outline.states();
+        let was_done = states.is_done(self.own.outline.parts(self.own.node).keyword);
         let is_done = states.is_done(self.state);
         if was_done && !is_done {
             return self.turn_back(alloc);
@@ -244,8 +236,7 @@ pub fn todo(
         return Ok(Vec::new(alloc));
     }
     let change = Change {
-        outline,
-        node,
+        own: OwnLines { outline, node },
         state,
         moment: now,
     };

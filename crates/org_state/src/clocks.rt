@@ -2,7 +2,7 @@
 //!
 //! One clock runs in a text, the first open line of a heading's section. Other texts aren't known
 //! here.
-ghost use Rattle.std.specs.Prelude.{◌≡◌, ◌≢◌, ◌<◌, ◌≤◌, [], ◌∷◌, ℕ, false, length, Some, IfOk};
+ghost use Rattle.std.specs.Prelude.{◌≡◌, ◌<◌, ◌≤◌, [], ◌∷◌, ℕ, false, length, Some, IfOk};
 ghost use Rattle.org_splice.specs.Edits.{AreEdits};
 ghost use Rattle.org_splice.specs.Lines.{terminated, print_lines};
 ghost use Rattle.org_splice.specs.Searched.{IsSearched};
@@ -10,25 +10,24 @@ ghost use Rattle.org_outline.specs.Tree.{node_at, node_count, print, tree};
 ghost use Rattle.org_state.specs.Clock.{has_clock, span_from, running_in, runs_at, opened_section, with_opened, clocked_minutes, clocked_at};
 ghost use Rattle.org_state.specs.Clock.{AnswersClosing, ClosesSection, AnswersSwitch};
 ghost use Rattle.org_state.specs.Edits.{section_start, EditsSection};
+ghost use Rattle.org_state.specs.OwnLines.{document_of, own_of};
 
-use crate::own::{in_section, section_of};
+use crate::own::OwnLines;
 use crate::run::Running;
 use org_fault::{Fault, Refusal};
-use org_meta::{close_clock, find_open, open_clock, total};
+use org_meta::{Lines, close_clock, find_open, open_clock, total};
 use org_outline::{Node, Outline, PathFault, Step};
 use org_splice::{Edit, Searched, Span};
 use org_stamp::Moment;
 use std::alloc::{AllocError, Global};
 
 /// A part of the heading's section, as a part of the text.
-fn span_in_section(outline: &Outline<'_>, node: Node, span: Span) -> Span
-    requires node { node < node_count (tree outline.now.text) }
+fn span_in_section(own: &OwnLines<'_, '_>, span: Span) -> Span
     requires ordered { span.start ≤ span.end }
-    requires within { span.end
-        ≤ length (print_lines (node_at (tree outline.now.text) node).node.section) }
-    ensures { result ≡ span_from (section_start (tree outline.now.text) node) span }
+    requires within { span.end ≤ length (print_lines (own_of own.now).section) }
+    ensures { result ≡ span_from (section_start (document_of own.now) own.now.node) span }
 {
-    let section = outline.section(node);
+    let section = own.outline.section(own.node);
     Span {
         start: section.start + span.start,
         end: section.start + span.end,
@@ -53,10 +52,14 @@ fn running_among(outline: &Outline<'_>, first: usize, last: usize) -> Option<Run
 {
     for index in first..last {
         let heading = outline.node(index);
-        if let Some(line) = find_open(section_of(outline, heading)) {
+        let own = OwnLines {
+            outline,
+            node: heading,
+        };
+        if let Some(line) = find_open(own.section()) {
             return Some(Running {
                 heading,
-                line: span_in_section(outline, heading, line),
+                line: span_in_section(&own, line),
             });
         }
     }
@@ -86,19 +89,13 @@ pub fn search(outline: &Outline<'_>, searched: Searched) -> (Option<Running>, Se
 }
 
 /// The edit that opens a clock at a heading.
-fn opening(
-    alloc: Global,
-    outline: &Outline<'_>,
-    node: Node,
-    now: Moment,
-) -> Result<Edit, AllocError>
-    requires { node < node_count (tree outline.now.text) }
-    ensures edits { let d = tree outline.now.text in
-        IfOk result (λ edit. EditsSection edit d node (opened_section now d node)) }
-    ensures terminated { terminated outline.now.text ≡ outline.now.text }
+fn opening(alloc: Global, own: &OwnLines<'_, '_>, now: Moment) -> Result<Edit, AllocError>
+    ensures edits { let d = document_of own.now in IfOk result (λ edit.
+        EditsSection edit d own.now.node (opened_section now d own.now.node)) }
+    ensures terminated { terminated own.now.outline.now.text ≡ own.now.outline.now.text }
 {
-    let edit = open_clock(alloc, section_of(outline, node), now)?;
-    Ok(in_section(outline, node, edit))
+    let edit = open_clock(alloc, own.section(), now)?;
+    Ok(own.in_section(edit))
 }
 
 /// The edit that clocks in at a heading (Org manual, "Clocking commands"): an open clock line with
@@ -116,26 +113,25 @@ pub fn clock_in(
         IfOk result (λ edit. AreEdits (edit ∷ []) outline.now.text
         (print (with_opened now node d))) }
 {
-    opening(alloc, outline, node, now)
+    opening(alloc, &OwnLines { outline, node }, now)
 }
 
 /// The edit that closes the clock that runs in the text.
 fn closing(
     alloc: Global,
-    text: &[u8],
+    text: Lines<'_>,
     running: Running,
     now: Moment,
 ) -> Result<Edit, Fault<Refusal>>
-    requires terminated { terminated text.now ≡ text.now }
-    requires runs { running_in (tree text.now) ≡ Some running }
-    ensures { ClosesSection now (tree text.now) running.heading result }
+    requires { running_in (tree text.bytes.now) ≡ Some running }
+    ensures { ClosesSection now (tree text.entry.bytes.now) running.heading result }
 {
-    let line = &text[running.line.start..running.line.end];
+    let bytes = &text.bytes[running.line.start..running.line.end];
     let whole = Span {
         start: 0,
-        end: line.len(),
+        end: bytes.len(),
     };
-    let edit = close_clock(alloc, line, whole, now)?;
+    let edit = close_clock(alloc, Lines { bytes }, whole, now)?;
     Ok(Edit {
         at: running.line.start + edit.at,
         removed: edit.removed,
@@ -160,31 +156,7 @@ pub fn clock_out(
     requires runs { running_in (tree text.now) ≡ Some running }
     ensures { AnswersClosing now text.now running.heading result }
 {
-    closing(alloc, text, running, now)
-}
-
-/// The edits that close the clock that runs in the text, and open one at another heading.
-fn switch(
-    alloc: Global,
-    outline: &Outline<'_>,
-    node: Node,
-    running: Running,
-    now: Moment,
-) -> Result<Vec<Edit>, Fault<Refusal>>
-    requires node { node < node_count (tree outline.now.text) }
-    requires runs { running_in (tree outline.now.text) ≡ Some running }
-    requires other { node ≢ running.heading }
-    ensures { AnswersSwitch now outline.now.text running.heading node result }
-{
-    let stop = closing(alloc, outline.text(), running, now)?;
-    let start = opening(alloc, outline, node, now)?;
-    // The later first, so that each stands where it does in the text as it was.
-    let edits = if running.heading.number() < node.number() {
-        [start, stop]
-    } else {
-        [stop, start]
-    };
-    Ok(Vec::from_array(alloc, edits)?)
+    closing(alloc, Lines { bytes: text }, running, now)
 }
 
 /// The edits, to be made in this order, that clock in at a heading of a text in which a clock runs,
@@ -209,20 +181,33 @@ pub fn switch_clock(
     if node.number() == running.heading.number() {
         return Ok(Vec::new(alloc));
     }
-    switch(alloc, outline, node, running, now)
+    let text = Lines {
+        bytes: outline.text(),
+    };
+    let stop = closing(alloc, text, running, now)?;
+    let own = OwnLines { outline, node };
+    let start = opening(alloc, &own, now)?;
+    // The later first, so that each stands where it does in the text as it was.
+    let edits = if running.heading.number() < node.number() {
+        [start, stop]
+    } else {
+        [stop, start]
+    };
+    Ok(Vec::from_array(alloc, edits)?)
 }
 
 /// The minutes clocked at a heading and below it, at most 2^64 - 1.
-fn clocked_below(outline: &Outline<'_>, node: Node) -> u64
-    requires { node < node_count (tree outline.now.text) }
-    ensures { result ≡ clocked_minutes (tree outline.now.text) node }
+fn clocked_below(own: &OwnLines<'_, '_>) -> u64
+    ensures { result ≡ clocked_minutes (document_of own.now) own.now.node }
 {
-    let first = node.number();
+    let outline = own.outline;
+    let first = own.node.number();
     let count = outline.count();
     prove!(first < count);
     let mut minutes: u64 = 0;
-    for index in first..first + outline.size(node) {
-        minutes = minutes.saturating_add(total(section_of(outline, outline.node(index))));
+    for index in first..first + outline.size(own.node) {
+        let node = outline.node(index);
+        minutes = minutes.saturating_add(total(OwnLines { outline, node }.section()));
     }
     minutes
 }
@@ -239,5 +224,5 @@ pub fn clocked(outline: &Outline<'_>, path: &[Step]) -> Result<u64, PathFault>
         ≡ clocked_at outline.now.states path.now (tree outline.now.text) }
 {
     let node = outline.find(path)?;
-    Ok(clocked_below(outline, node))
+    Ok(clocked_below(&OwnLines { outline, node }))
 }

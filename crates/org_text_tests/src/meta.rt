@@ -6,7 +6,7 @@ ghost use Rattle.org_splice.specs.Lines.{terminated};
 use crate::shared::{becomes, now, states, titles};
 use org_fault::{Fault, Refusal};
 use org_headings::is_terminated;
-use org_meta::{add_note, property, put_property, repeat_planning, sections, set_closed};
+use org_meta::{Lines, add_note, property, put_property, repeat_planning, sections, set_closed};
 use org_outline::Outline;
 use org_splice::Edit;
 use org_stamp::Moment;
@@ -51,45 +51,37 @@ fn opening(rt: &impl Abort, alloc: Global, text: &[u8]) -> Edit
 }
 
 /// The edit that makes a change.
-fn edit_of(rt: &impl Abort, alloc: Global, text: &[u8], change: &Change) -> Edit
-    requires { terminated text.now ≡ text.now }
-{
+fn edit_of(rt: &impl Abort, alloc: Global, text: Lines<'_>, change: &Change) -> Edit {
     match change {
         Change::Noted(new, old) => {
             let then = Moment::new(2005, 10, 3, 9, 5).expect(rt, "a moment");
             add_note(alloc, text, new, old, then).expect(rt, "an edit")
         }
-        Change::Opened => opening(rt, alloc, text),
+        Change::Opened => opening(rt, alloc, text.bytes),
     }
 }
 
 /// Whether these are the planning, the drawer and the rest of a section.
-fn are_parts(section: &[u8], planning: &[u8], drawer: &[u8], rest: &[u8]) -> bool
-    requires { terminated section.now ≡ section.now }
-{
+fn are_parts(section: Lines<'_>, planning: &[u8], drawer: &[u8], rest: &[u8]) -> bool {
     let parts = sections(section);
-    parts.planning == planning && parts.drawer == drawer && parts.rest == rest
+    parts.planning.bytes == planning && parts.drawer.bytes == drawer && parts.rest.bytes == rest
 }
 
 /// Whether the planning line of a section is odd, to what repeats it and to what closes it.
-fn is_odd(alloc: Global, section: &[u8], now: Moment) -> bool
-    requires { terminated section.now ≡ section.now }
-{
+fn is_odd(alloc: Global, section: Lines<'_>, now: Moment) -> bool {
     let odd = Some(Fault::Refused(Refusal::OddPlanning));
     repeat_planning(alloc, section, now).err() == odd
         && set_closed(alloc, section, now).err() == odd
 }
 
 /// Whether a fact holds of a section, or of a text.
-fn is_so(rt: &impl Abort, alloc: Global, text: &[u8], fact: &Fact) -> bool
-    requires { terminated text.now ≡ text.now }
-{
+fn is_so(rt: &impl Abort, alloc: Global, text: Lines<'_>, fact: &Fact) -> bool {
     match fact {
         Fact::Parts(planning, drawer, rest) => are_parts(text, planning, drawer, rest),
         Fact::Property(name, value) => property(text, name) == *value,
         Fact::Odd => is_odd(alloc, text, now(rt)),
         Fact::Changed(change, expected) => {
-            becomes(text, &edit_of(rt, alloc, text, change), expected)
+            becomes(text.bytes, &edit_of(rt, alloc, text, change), expected)
         }
     }
 }
@@ -170,7 +162,7 @@ const PUT: &[(&[u8], &[u8], &[u8])] = &[
 /// Whether a section becomes this where its property A is given a value.
 fn is_put(rt: &impl Abort, alloc: Global, text: &[u8], value: &[u8], expected: &[u8]) -> bool {
     assert!(rt; is_terminated(text));
-    let edit = put_property(alloc, text, b"A", value).expect(rt, "an edit");
+    let edit = put_property(alloc, Lines { bytes: text }, b"A", value).expect(rt, "an edit");
     becomes(text, &edit, expected)
 }
 
@@ -186,7 +178,7 @@ const OF_PROPERTIES: &[u8] =
 
 /// The same of a text that is terminated.
 fn is_right(rt: &impl Abort, alloc: Global, text: &[u8], fact: &Fact) -> bool {
-    is_terminated(text) && is_so(rt, alloc, text, fact)
+    is_terminated(text) && is_so(rt, alloc, Lines { bytes: text }, fact)
 }
 
 #[test]

@@ -4,7 +4,7 @@ use Rattle.org_meta.proofs.Walks.{open_none, open_line_passed, open_found, open_
 use Rattle.org_meta.proofs.clock.find_open.Goals as goal
 
 pub loop-line-init : goal.loop-line-init
-loop-line-init c = open_none _ c.requires
+loop-line-init c = open_none _
 
 pub returns-then-is_open : goal.returns-then-is_open
 returns-then-is_open c =
@@ -16,9 +16,6 @@ returns-then-is_open c =
 
 pub loop-line-preserved : goal.loop-line-preserved
 loop-line-preserved c = open_line_passed _ _ _ _ c.loop-line.invariant c.in-Some.ensures.some (sym c.is_open.ensures ∙ c.if-is_open.false)
-
-pub first_line-requires : goal.first_line-requires
-first_line-requires c = c.loop-line.invariant.passed.terminated_text
 
 pub overflow_sub-result : goal.overflow_sub-result
 overflow_sub-result c = left_within _ _ c.loop-line.invariant

@@ -4,10 +4,7 @@ use Rattle.org_meta.proofs.Walk.{rest_shorter}
 use Rattle.org_meta.proofs.properties.value_before_end.Goals as goal
 
 pub loop-line-init : goal.loop-line-init
-loop-line-init c = record { terminated_text = c.requires; value = refl }
-
-pub first_line-requires : goal.first_line-requires
-first_line-requires c = c.loop-line.invariant.terminated_text
+loop-line-init c = record { value = refl }
 
 pub loop-line-smaller : goal.loop-line-smaller
 loop-line-smaller c = rest_shorter _ _ _ c.in-Some.ensures.some

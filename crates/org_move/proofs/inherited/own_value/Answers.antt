@@ -4,12 +4,12 @@ use Rattle.std.specs.Option.{option_map}
 use Rattle.org_move.proofs.Own.{section_within, section_terminated, own_none, own_some}
 use Rattle.org_move.proofs.inherited.own_value.Goals as goal
 
-pub slice_bounds-property-end : goal.slice_bounds-property-end
-slice_bounds-property-end c =
+pub slice_bounds-bytes-end : goal.slice_bounds-bytes-end
+slice_bounds-bytes-end c =
     section_within c.args.outline.now.text _ c.args.node _ c.text.ensures.value c.text.ensures.terminated c.requires c.section-span.ensures
 
-pub property-requires : goal.property-requires
-property-requires c = section_terminated c.args.outline.now.text _ c.args.node _ c.text.ensures.value c.section-span.ensures
+pub invariant_of-property : goal.invariant_of-property
+invariant_of-property c = record { whole = section_terminated c.args.outline.now.text _ c.args.node _ c.text.ensures.value c.section-span.ensures }
 
 pub returns-in_err-property : goal.returns-in_err-property
 returns-in_err-property c =

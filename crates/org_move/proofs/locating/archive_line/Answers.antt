@@ -13,8 +13,8 @@ returns-in-Nowhere-clause-line c =
 pub returns-in-Nowhere-clause-searched : goal.returns-in-Nowhere-clause-searched
 returns-in-Nowhere-clause-searched c = subst (λ (s : Searched). IsSearched has_archive_line s c.args.text.now) c.in-Nowhere.is c.requires.searched
 
-pub first_archive_line-requires : goal.first_archive_line-requires
-first_archive_line-requires c = c.unknown_lines.ensures.terminated_lines
+pub invariant_of-first_archive_line : goal.invariant_of-first_archive_line
+invariant_of-first_archive_line c = record { whole = c.unknown_lines.ensures.terminated_lines }
 
 pub returns-in-None-clause-line : goal.returns-in-None-clause-line
 returns-in-None-clause-line c =

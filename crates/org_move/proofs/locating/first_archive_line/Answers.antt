@@ -3,10 +3,7 @@ use Rattle.org_move.proofs.Lines.{comes_then, next_behind, none_before, none_the
 use Rattle.org_move.proofs.locating.first_archive_line.Goals as goal
 
 pub loop-line-init : goal.loop-line-init
-loop-line-init c = none_before _ c.requires
-
-pub marked_line-requires-clause-terminated : goal.marked_line-requires-clause-terminated
-marked_line-requires-clause-terminated c = c.loop-line.invariant.terminated_left
+loop-line-init c = none_before _ c.args.text.whole
 
 pub loop-line-preserved : goal.loop-line-preserved
 loop-line-preserved c =

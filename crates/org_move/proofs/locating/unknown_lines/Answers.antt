@@ -12,7 +12,7 @@ returns-in-Some c =
 pub returns-in-None : goal.returns-in-None
 returns-in-None c = leaves_all _ _ _ _ _ _ (lines_from _ _ _ c.requires c.from_line-left.ensures) (omega (arith, c.min.ensures)) c.in-None.ensures.none
 
-pub first_line-requires : goal.first_line-requires
-first_line-requires c =
+pub invariant_of-end : goal.invariant_of-end
+invariant_of-end c =
     let from = lines_from c.args.text.now c.min.result c.from_line-left.result.now c.requires c.from_line-left.ensures in
-    subst (λ (t : List ℕ). terminated t ≡ t) (sym c.split_at.ensures.back) (terminated-drop c.saturating_sub.result c.from_line-left.result.now from.terminated_left)
+    record { whole = subst (λ (t : List ℕ). terminated t ≡ t) (sym c.split_at.ensures.back) (terminated-drop c.saturating_sub.result c.from_line-left.result.now from.terminated_left) }

@@ -9,4 +9,4 @@ use Rattle.org_state.proofs.changing.last_repeat.Goals as goal
 pub returns : goal.returns
 returns c =
     let stamp = c.deref.ensures.value ∙ c.in_ok-stamp.ensures.value ∙ ap stamp_text c.at.ensures in
-    subst (λ (s : List ℕ). IfOk c.put_property.result (λ (edit : Edit). RewritesParts edit c.args.section.now (put (codes "LAST_REPEAT") s (parts_of c.args.section.now)))) stamp c.put_property.ensures
+    subst (λ (s : List ℕ). IfOk c.put_property.result (λ (edit : Edit). RewritesParts edit c.args.section.bytes.now (put (codes "LAST_REPEAT") s (parts_of c.args.section.bytes.now)))) stamp c.put_property.ensures

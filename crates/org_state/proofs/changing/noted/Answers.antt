@@ -7,5 +7,5 @@ use Rattle.org_state.proofs.changing.noted.Goals as goal
 pub returns : goal.returns
 returns c = (
   c.in_ok-note.ensures,
-  subst (λ (b : List ℕ). RewritesParts c.in_ok-property.property b (put (codes "LAST_REPEAT") (moment_text c.args.now) (parts_of b))) c.above_rest.ensures.bytes c.in_ok-property.ensures,
+  subst (λ (b : List ℕ). RewritesParts c.in_ok-property.property b (put (codes "LAST_REPEAT") (moment_text c.args.now) (parts_of b))) c.above_rest.ensures c.in_ok-property.ensures,
 )

@@ -4,4 +4,4 @@ use Rattle.org_state.proofs.clocks.opening.Goals as goal
 
 pub returns-clause-edits : goal.returns-clause-edits
 returns-clause-edits c =
-    opening_edits (tree c.args.outline.now.text) c.args.node c.args.now c.section_of.result.now c.in_ok-edit.edit _ c.section_of.ensures.bytes c.section_of.ensures.lines c.in_ok-edit.ensures c.in_section.ensures
+    opening_edits (tree c.args.own.now.outline.now.text) c.args.own.now.node c.args.now c.section.result.bytes.now c.in_ok-edit.edit _ c.section.ensures.bytes c.section.ensures.lines c.in_ok-edit.ensures c.in_section.ensures

@@ -10,7 +10,7 @@ use Rattle.org_state.proofs.clocks.running_among.Goals as goal
 pub span_in_section-requires-clause-within : goal.span_in_section-requires-clause-within
 span_in_section-requires-clause-within c =
     let h = c.in-Some.ensures.stands in
-    omega (arith, ends_within c.section_of.result.now c.in-Some.line h.before h.line h.after c.section_of.ensures.terminated h.is, ap length c.section_of.ensures.bytes)
+    omega (arith, ends_within c.section.result.bytes.now c.in-Some.line h.before h.line h.after c.section.result.whole h.is, ap length c.section.ensures.bytes)
 
 pub returns-in-Some : goal.returns-in-Some
 returns-in-Some c =
@@ -18,13 +18,13 @@ returns-in-Some c =
     let before : (k : ℕ) → k < i → runs_at (node_at (tree c.args.outline.now.text) k) ≡ false = subst (λ (n : ℕ). (k : ℕ) → k < n → runs_at (node_at (tree c.args.outline.now.text) k) ≡ false) (sym c.node-heading.ensures) c.loop-index.invariant in
     let lt : i < node_count (tree c.args.outline.now.text) = omega (arith, c.node-heading.ensures, c.loop-index-test.true, c.requires.within) in
     rw c.span_in_section.ensures
-    (running_found (tree c.args.outline.now.text) i c.section_of.result.now c.find_open.result c.in-Some.line lt before c.section_of.ensures.lines c.find_open.ensures.first c.in-Some.is)
+    (running_found (tree c.args.outline.now.text) i c.section.result.bytes.now c.find_open.result c.in-Some.line lt before c.section.ensures.lines c.find_open.ensures.first c.in-Some.is)
 
 pub loop-index-preserved : goal.loop-index-preserved
 loop-index-preserved c =
     up_to_next (tree c.args.outline.now.text) c.loop-index.index c.loop-index.invariant
     (ap (λ n. runs_at (node_at (tree c.args.outline.now.text) n)) (sym c.node-heading.ensures)
-    ∙ runs_not (tree c.args.outline.now.text) c.node-heading.result c.section_of.result.now c.find_open.result c.section_of.ensures.lines c.find_open.ensures.first c.in_default.is)
+    ∙ runs_not (tree c.args.outline.now.text) c.node-heading.result c.section.result.bytes.now c.find_open.result c.section.ensures.lines c.find_open.ensures.first c.in_default.is)
 
 pub returns : goal.returns
 returns c =

@@ -6,14 +6,14 @@ use Rattle.org_meta.proofs.Puts.{rest_below}
 use Rattle.org_state.proofs.Fronts.{front_bytes}
 use Rattle.org_state.proofs.own.above_rest.Goals as goal
 
-pub overflow_sub-section : goal.overflow_sub-section
-overflow_sub-section c = rest_below c.args.section.now c.sections.result c.requires c.sections.ensures
+pub overflow_sub-count : goal.overflow_sub-count
+overflow_sub-count c = rest_below c.args.section.bytes.now c.sections.result c.args.section.whole c.sections.ensures
 
-pub returns-clause-bytes : goal.returns-clause-bytes
-returns-clause-bytes c = c.split_at.ensures.front ∙ front_bytes c.args.section.now c.sections.result c.requires c.sections.ensures
+pub returns : goal.returns
+returns c = c.split_at.ensures.front ∙ front_bytes c.args.section.bytes.now c.sections.result c.args.section.whole c.sections.ensures
 
-pub returns-clause-terminated : goal.returns-clause-terminated
-returns-clause-terminated c =
-    let lines : List (List ℕ) = joined (record (split (lines_of c.args.section.now)) { rest = [] }) in
-    let bytes : c.split_at.result.0.now ≡ print_lines lines = c.split_at.ensures.front ∙ front_bytes c.args.section.now c.sections.result c.requires c.sections.ensures in
-    ap terminated bytes ∙ terminated-print_lines lines ∙ sym bytes
+pub invariant_of-result : goal.invariant_of-result
+invariant_of-result c =
+    let lines : List (List ℕ) = joined (record (split (lines_of c.args.section.bytes.now)) { rest = [] }) in
+    let bytes : c.split_at.result.0.now ≡ print_lines lines = c.split_at.ensures.front ∙ front_bytes c.args.section.bytes.now c.sections.result c.args.section.whole c.sections.ensures in
+    record { whole = ap terminated bytes ∙ terminated-print_lines lines ∙ sym bytes }
