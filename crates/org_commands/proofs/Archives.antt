@@ -33,7 +33,7 @@ use Rattle.org_move.specs.Refile.{Moved, with_found}
 use Rattle.org_commands.specs.declared.command.RunFault.{RunFault}
 use Rattle.org_commands.specs.declared.command.RunFault.TheVariants.{Refused}
 use Rattle.org_commands.specs.declared.tally.Tally.{Tally}
-use Rattle.org_commands.specs.Files.{AreReady, IsPlanFor, IsReady, KeepsHeld, OpenFiles, new_texts}
+use Rattle.org_commands.specs.Files.{AreReady, IsPlanFor, KeepsHeld, OpenFiles, new_texts}
 use Rattle.org_commands.specs.Headings.{HasHeading}
 use Rattle.org_commands.specs.InOrder.{is_name, text_at}
 use Rattle.org_commands.specs.Keeping.{Plans, fault_of}
@@ -43,7 +43,7 @@ use Rattle.org_commands.specs.Session.{BetweenSessions, Session}
 use Rattle.org_commands.specs.Step.{Steps}
 use Rattle.org_commands.proofs.Clocks.{heading_before, still_there}
 use Rattle.org_commands.proofs.MadeReady.{session_in, still_named}
-use Rattle.org_commands.proofs.Plans.{first_name, is_ready, now_held, one_name, one_text, plan_of_one, plan_of_two, ready_text, second_name, text_held, two_texts}
+use Rattle.org_commands.proofs.Plans.{first_name, now_held, one_name, one_text, plan_of_one, plan_of_two, ready_text, second_name, text_held, two_texts}
 use Rattle.org_commands.proofs.Refiles.{move_fails, move_planned}
 
 -- ---- texts that are ready
@@ -218,6 +218,21 @@ module _ {D : Type 0} (g : Ghosts D) (states : Keywords) (files : OpenFiles D) (
   pub within_planned : text_at s.names s.files file ≡ Some text → find_path states (tree text) path ≡ Ok i → (plan : Plan) → IsMadeAs said (MakesDocument file seen) (Ok plan) → Plans s told_within (Ok plan) files.held s
   within_planned at found plan (new, is, makes) = move_planned files.held (text_within file) said new plan refl (told_within_is at found) is (within_texts plan files.held file new makes ready)
 
+-- ---- planned over outlines of the texts that are held
+
+pub seen_within : (file : List ℕ) (moment : Moment) (to : Destination) (i : ℕ) (result : Result Plan (Fault Refusal)) (there states : Keywords) (bytes seen : List ℕ) → bytes ≡ seen → there ≡ states
+    → IsMadeAs (archive_within_at there file moment to (tree bytes) i) (MakesDocument file bytes) result → IsMadeAs (archive_within_at states file moment to (tree seen) i) (MakesDocument file seen) result
+seen_within file moment to i result there states bytes seen text same made =
+    let Made : Keywords → List ℕ → Type 0 = λ k b. IsMadeAs (archive_within_at k file moment to (tree b) i) (MakesDocument file b) result in
+    subst (λ (k : Keywords). Made k seen) same (subst (Made there) text made)
+
+pub seen_across : (file : List ℕ) (moment : Moment) (to : Destination) (i : ℕ) (result : Result Plan (Fault Refusal)) (own there states : Keywords) (bytes into seen found : List ℕ) → bytes ≡ seen → own ≡ states → into ≡ found → there ≡ states
+    → IsMadeAs (archive_across_at own file moment (tree bytes) there to (tree into) i) (MakesDocuments file to.file bytes into) result
+    → IsMadeAs (archive_across_at states file moment (tree seen) states to (tree found) i) (MakesDocuments file to.file seen found) result
+seen_across file moment to i result own there states bytes into seen found text same texts also made =
+    let Made : Keywords → Keywords → List ℕ → List ℕ → Type 0 = λ k m b t. IsMadeAs (archive_across_at k file moment (tree b) m to (tree t) i) (MakesDocuments file to.file b t) result in
+    subst (λ (k : Keywords). Made k states seen found) same (subst (λ (m : Keywords). Made own m seen found) also (subst (λ (b : List ℕ). Made own there b found) text (subst (Made own there bytes) texts made)))
+
 -- Two files are ready, of which the second one is the location's: they were `old` before that one
 -- was made ready, and are `new`.
 pub record AreBothReady {D : Type 0} (g : Ghosts D) (states : Keywords) (old new : OpenFiles D) (file to_file : List ℕ) : Type 0 where
@@ -248,9 +263,6 @@ module _ {D : Type 0} {g : Ghosts D} {states : Keywords} {old new : OpenFiles D}
 
   abbrev Makes : Moved → Plan → Type 0
   Makes = MakesDocuments file to.file (held_bytes new.held file) (held_bytes new.held to.file)
-
-  pub target_is_ready : IsReady to.file new.held
-  target_is_ready = is_ready (to.file ∷ file ∷ []) new.held to.file both.ready (first_name to.file (file ∷ []))
 
   pub across_fits : (plan : Plan) → IsMadeAs made Makes (Ok plan) → IsPlanFor new.names new.held plan
   across_fits plan (d, is, makes) = documents_planned plan new.held file to.file d both.apart makes both.ready new.names both.named both.also

@@ -1,24 +1,26 @@
 -- Held texts of a store's files, and how the calls keep them.
-use Rattle.std.proofs.Common.{◌≡◌, ◌≢◌, inl, inr, ℕ, ◌≤◌, Bool, true, false, List, [], ◌∷◌, ◌++◌, length, nat_lt, Option, Some, None, Result, Ok, Err, refl, sym, ◌∙◌, ap, subst, arith}
+use Rattle.std.proofs.Common.{◌≡◌, ◌≢◌, inl, inr, ℕ, ◌≤◌, Bool, true, false, List, [], ◌∷◌, ◌++◌, length, nat_lt, Option, Some, None, Result, Ok, Err, refl, sym, ◌∙◌, ap, subst, arith, rules}
 use Rattle.std.specs.Prelude.{OnOk, OnErr}
-use Rattle.std.specs.List.{AllByRecursion, list_any}
+use Rattle.std.specs.List.{All, AllByRecursion, list_any}
 use Rattle.std.specs.Map.{lookup}
 use Rattle.std.specs.Option.{ForSome, IsSome, is_some, option_map}
 use Rattle.std.specs.Str.{bytes_eq}
 use Rattle.std.proofs.lemmas.Bool.{cases_Bool, false≢true}
 use Rattle.std.proofs.lemmas.Bool.Decides.{nat_tests}
+use Rattle.std.proofs.lemmas.List.Elements.{All-from_recursion, recursion_from_All}
 use Rattle.std.proofs.lemmas.Slice.Eq.{bytes_eq-Decides}
-use Rattle.org_disk.specs.Names.{journal_name}
+use Rattle.org_disk.specs.Names.{IsOrgFile, journal_name}
 use Rattle.org_disk.proofs.Names.{name_cases, same_name}
 use Rattle.org_splice.specs.Lines.{terminated}
 use Rattle.org_splice.specs.Texts.{EditedText, terminated_text, settled, spliced_each}
 use Rattle.org_journal.specs.Recovered.{Image}
-use Rattle.org_fileset.specs.Names.{limit}
+use Rattle.org_fileset.specs.Names.{AreSorted, limit, with_archives}
+use Rattle.org_fileset.proofs.Sorted.{all_sorted, archives_apart}
 use Rattle.org_texts.specs.declared.plan.FileEdits.{FileEdits}
 use Rattle.org_texts.specs.declared.plan.Plan.{Plan}
 use Rattle.org_texts.specs.Files.{StandOver, is_dirty}
 use Rattle.org_texts.specs.Plan.{CanEdit, IsPlan, LieIn, planned, with_edits, with_second}
-use Rattle.org_texts.specs.Texts.{Holding, TextSet, bytes_or, terminated_in, held_over, text_of, text_or_none, with_change, with_name, with_text}
+use Rattle.org_texts.specs.Texts.{Holding, TextSet, bytes_or, terminated_in, held_over, nothing_held, text_of, text_or_none, with_change, with_name, with_text}
 use Rattle.org_splice.proofs.Lines.{terminated_twice}
 use Rattle.org_texts.proofs.Heads.{terminated_text-bytes, is_terminated-terminated}
 use Rattle.org_texts.proofs.Looking.{change_this, change_other, held_over-held, not_equal, the_value}
@@ -140,6 +142,25 @@ sound_still names more live now old new held sound same alike = record {
   before = texts_still names more live now old new held.before sound.before same alike;
   small = sound.small;
 }
+
+-- files of which nothing is held
+pub sound_opened : (given names : List (List ℕ)) (live : Type 0) (files : Image) (held : Holding) → All IsOrgFile given → AreSorted (with_archives given) names → held.now ≡ nothing_held → held.before ≡ nothing_held
+    → IsSound names live files held
+sound_opened given names live files held org sorted now before = record {
+  apart = recursion_from_All (λ name. name ≢ journal_name) names
+      (all_sorted (λ name. name ≢ journal_name) (with_archives given) names sorted
+      (All-from_recursion (λ name. name ≢ journal_name) (with_archives given) (archives_apart given (recursion_from_All IsOrgFile given org))));
+  now = subst (AreTextsOf names live files) (sym now) none;
+  before = subst (AreTextsOf names live files) (sym before) none;
+  small = λ name dirty. absurd (false≢true (sym (ap (λ (s : TextSet). is_dirty s name) before) ∙ dirty));
+}
+  where
+    none : AreTextsOf names live files nothing_held
+    none = record {
+      named = λ name some. absurd (false≢true some);
+      dirty = λ name dirty. absurd (false≢true dirty);
+      stand = λ l. record { each = λ name text at. absurd (false≢true (ap is_some at)); held = search rules };
+    }
 
 -- one more text is held
 texts_held : (own bytes : List ℕ) (names : List (List ℕ)) (live : Type 0) (files : Image) (set : TextSet) → text_of set own ≡ None → is_name names own ≡ true → (live → bytes ≡ files own)

@@ -32,7 +32,7 @@ use Rattle.org_commands.specs.Files.{AreReady}
 use Rattle.org_commands.specs.InOrder.{is_name}
 use Rattle.org_commands.specs.declared.searches.Searches.{Searches}
 use Rattle.org_move.specs.Location.{has_archive_line}
-use Rattle.org_commands.specs.Noted.{AreKnown, AreSearched, FollowsEdits, IsKnown, IsNoted, Lowers, LowersNote, StaysKnown}
+use Rattle.org_commands.specs.Noted.{AreKnown, AreSearched, FollowsEdits, IsKnown, IsNoted, Lowers, LowersNote, StayKnown, StaysKnown}
 use Rattle.org_commands.proofs.Held.{held_other}
 use Rattle.org_commands.proofs.Plans.{now_held, one_name, ready_text, text_ends}
 
@@ -119,36 +119,38 @@ noted_made_ready (Ok _) own names notes held next now undone before noted = reco
 }
 noted_made_ready (Err e) own names notes held next now undone before noted = noted_undone names notes held next undone before noted
 
-pub nothing_noted : (names : List (List ℕ)) (notes : List (Option Searches)) (held : Holding) → notes ≡ [] → IsNoted names notes held
-nothing_noted names notes held none =
-    let no : (set : TextSet) → AreKnown names notes set = λ set i searched at. absurd (not_in i searched (ap (λ (q : List (Option Searches)). slice_get q i) (sym none) ∙ at)) in
-    record { now = no held.now; before = no held.before }
+pub nothing_known : (notes : List (Option Searches)) → notes ≡ [] → (names : List (List ℕ)) (set : TextSet) → AreKnown names notes set
+nothing_known notes none names set i searched at = absurd (not_in i searched (ap (λ (q : List (Option Searches)). slice_get q i) (sym none) ∙ at))
   where
     not_in : (i : ℕ) (searched : Searches) → ◌≡◌ {A = Option (Option Searches)} (slice_get [] i) (Some (Some searched)) → ⊥
     not_in i searched at = cc
 
 -- ---- a file is noted
 
-pub noted_more : (names : List (List ℕ)) (old new : List (Option Searches)) (held : Holding) (index : ℕ) (file : List ℕ) (searched : Searches)
+pub known_more : (names : List (List ℕ)) (old new : List (Option Searches)) (index : ℕ) (file : List ℕ) (searched : Searches)
     → ((i : ℕ) (s : Searches) → slice_get new i ≡ Some (Some s) → ((i ≡ index) × (s ≡ searched)) ⊎ (slice_get old i ≡ Some (Some s))) → slice_get names index ≡ Some file
+    → (set : TextSet) → IsKnown searched set file → AreKnown names old set → AreKnown names new set
+known_more names old new index file searched more there set known others i s at name is = elim (more i s at) [
+  | inl here ↦
+      let both : Some file ≡ Some name = sym there ∙ ap (slice_get names) (sym here.0) ∙ is in
+      let one : file ≡ name = cc in
+      subst (λ (q : Searches). IsKnown q set name) (sym here.1) (subst (IsKnown searched set) one known)
+  | inr was ↦ others i s was name is
+]
+
+pub noted_more : (names ns : List (List ℕ)) (old new : List (Option Searches)) (held : Holding) (file : List ℕ) (searched : Searches) → ns ≡ names
+    → ((set : TextSet) → IsKnown searched set file → AreKnown ns old set → AreKnown ns new set)
     → IsKnown searched held.now file → IsKnown searched held.before file → IsNoted names old held → IsNoted names new held
-noted_more names old new held index file searched more there now before noted =
+noted_more names ns old new held file searched same more now before noted =
+    let are : (set : TextSet) → IsKnown searched set file → AreKnown names old set → AreKnown names new set =
+    subst (λ (k : List (List ℕ)). (set : TextSet) → IsKnown searched set file → AreKnown k old set → AreKnown k new set) same more in
     record { now = are held.now now noted.now; before = are held.before before noted.before }
-  where
-    are : (set : TextSet) → IsKnown searched set file → AreKnown names old set → AreKnown names new set
-    are set known others i s at name is = elim (more i s at) [
-      | inl here ↦
-          let both : Some file ≡ Some name = sym there ∙ ap (slice_get names) (sym here.0) ∙ is in
-          let one : file ≡ name = cc in
-          subst (λ (q : Searches). IsKnown q set name) (sym here.1) (subst (IsKnown searched set) one known)
-      | inr was ↦ others i s was name is
-    ]
 
 -- ---- edits
 
 -- the notes of a text whose edits are made
-pub stays_lowered : (names : List (List ℕ)) (file : List ℕ) (size : ℕ) (edits : List Edit) (old new : List (Option Searches)) (set : TextSet) → Lowers names file size edits old new → AreKnown names old set → AreKnown names new set
-stays_lowered names file size edits old new set lowers are i searched at name is =
+pub stays_lowered : (names : List (List ℕ)) (file : List ℕ) (size : ℕ) (edits : List Edit) (old new : List (Option Searches)) → Lowers names file size edits old new → StayKnown names old new
+stays_lowered names file size edits old new lowers set are i searched at name is =
     let low = lowers i searched at in
     let known = are i low.0 low.1 name is in
     (known.0, known.1, low.2 (terminated known.0.bytes) known.2)
@@ -254,7 +256,7 @@ note_lowered size edits note here lower is stays follows searched same =
 
 -- a plan's edits, in memory
 pub noted_put : (plan : Plan) (names ns : List (List ℕ)) (old new : List (Option Searches)) (held next : Holding) → ns ≡ names → next.now ≡ planned plan held.now → next.before ≡ held.before
-    → ((set : TextSet) → AreKnown ns old set → AreKnown ns new set) → (AreKnown ns old held.now → AreKnown ns new (planned plan held.now)) → IsNoted names old held → IsNoted names new next
+    → StayKnown ns old new → (AreKnown ns old held.now → AreKnown ns new (planned plan held.now)) → IsNoted names old held → IsNoted names new next
 noted_put plan names ns old new held next same now before stays follows noted =
     let N : List (Option Searches) → TextSet → Type 0 = λ notes set. AreKnown names notes set in
     let stays_here : N old held.before → N new held.before = subst (λ (k : List (List ℕ)). AreKnown k old held.before → AreKnown k new held.before) same (stays held.before) in
@@ -265,7 +267,7 @@ noted_put plan names ns old new held next same now before stays follows noted =
     }
 
 pub noted_not_put : (names ns : List (List ℕ)) (old new : List (Option Searches)) (held next : Holding) → ns ≡ names → next.now ≡ held.before → next.before ≡ held.before
-    → ((set : TextSet) → AreKnown ns old set → AreKnown ns new set) → IsNoted names old held → IsNoted names new next
+    → StayKnown ns old new → IsNoted names old held → IsNoted names new next
 noted_not_put names ns old new held next same now before stays noted =
     let stays_here : AreKnown names old held.before → AreKnown names new held.before = subst (λ (k : List (List ℕ)). AreKnown k old held.before → AreKnown k new held.before) same (stays held.before) in
     record {

@@ -29,7 +29,11 @@ AreKnown names notes set =
     (i : ℕ) (searches : Searches) → slice_get notes i ≡ Some (Some searches)
     → (name : List ℕ) → slice_get names i ≡ Some name → IsKnown searches set name
 
--- .. as the texts are, and as they were before the command that runs
+-- where these notes are so of texts, those are
+abbrev pub StayKnown : List (List ℕ) → List (Option Searches) → List (Option Searches) → Type 0
+StayKnown names old new = (set : TextSet) → AreKnown names old set → AreKnown names new set
+
+-- The notes are so of the texts as they are, and as they were before the command that runs.
 pub record IsNoted (names : List (List ℕ)) (notes : List (Option Searches)) (held : Holding)
     : Type 0 where
   pub now : AreKnown names notes held.now

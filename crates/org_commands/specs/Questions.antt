@@ -7,7 +7,6 @@ use Rattle.org_commands.specs.declared.command.Reply.{Reply}
 use Rattle.org_commands.specs.declared.command.Reply.TheVariants.{Done, Safe, Text, Time}
 use Rattle.org_commands.specs.declared.command.RunFault.{RunFault}
 use Rattle.org_commands.specs.Files.{OpenFiles}
-use Rattle.org_commands.specs.Outcome.{outcome}
 use Rattle.org_commands.specs.Reading.{OnlyReads}
 use Rattle.org_commands.specs.Session.{BetweenSessions}
 use Rattle.org_commands.specs.Step.{Step}

@@ -2,7 +2,7 @@
 //!
 //! Each file is read once, when a command first names it, and edited in memory from then on. What
 //! the disk has is what was read, and what was committed since: nobody else writes it.
-ghost use Rattle.std.specs.Prelude.{◌≡◌, ◌⊎◌, ◌+◌, ◌<◌, ◌≤◌, ◌∷◌, [], List, ℕ, None, Some, nat_lt, length, slice_get, true, false, IfOk, IfSome, MatchResult, OnOk, OnErr, IsErrOf, IsSome, IsTrue};
+ghost use Rattle.std.specs.Prelude.{◌≡◌, ◌⊎◌, ◌<◌, ◌∷◌, [], List, ℕ, None, Some, nat_lt, length, slice_get, true, false, IfOk, MatchResult, OnOk, IsErrOf, IsSome, IsTrue};
 ghost use Rattle.std.specs.List.{All};
 ghost use Rattle.std.specs.Map.{lookup};
 ghost use Rattle.std.specs.Option.{ForSome, option_map};
@@ -11,24 +11,21 @@ ghost use Rattle.org_disk.specs.CountsFailures.{CountsFailures};
 ghost use Rattle.org_disk.specs.Names.{IsOrgFile};
 ghost use Rattle.org_fileset.specs.Opening.{Opens};
 ghost use Rattle.org_fileset.specs.Names.{limit};
-ghost use Rattle.org_splice.specs.Edits.{applied};
 ghost use Rattle.org_splice.specs.Lines.{terminated};
-ghost use Rattle.org_splice.specs.declared.searched.Searched.TheVariants.{Nowhere};
-ghost use Rattle.org_texts.specs.Plan.{IsOfLines, IsPlan, planned};
-ghost use Rattle.org_texts.specs.Texts.{TextSet, bytes_or, text_of};
+ghost use Rattle.org_texts.specs.Texts.{bytes_or, text_of};
 ghost use Rattle.org_commands.specs.Clocks.{RunsIn};
-ghost use Rattle.org_commands.specs.Files.{AreOpened, AreReady, AreSmallToWrite, CommitsHeld, IsPlanFor, IsReady, KeepsFiles, MakesReady, PutsPlan, StaysInMemory, disk_of, files_of, has_large, texts_in};
+ghost use Rattle.org_commands.specs.Files.{AreOpened, AreSmallToWrite, CommitsHeld, IsPlanFor, IsReady, KeepsFiles, MakesReady, PutsPlan, StaysInMemory, disk_of, files_of, has_large, texts_in};
 ghost use Rattle.org_commands.specs.InOrder.{is_name};
-ghost use Rattle.org_commands.specs.Noted.{AreKnown, AreSearched, FollowsEdits, IsKnown, Lowers, LowersNote, StaysKnown};
+ghost use Rattle.org_commands.specs.Noted.{AreSearched, IsKnown};
 ghost use Rattle.org_commands.specs.Reading.{ReadsFiles};
 
 use crate::command::RunFault;
+use crate::notes::Notes;
 use crate::searches::Searches;
 use org_disk::{Disk, FileName};
 use org_fault::Refusal;
 use org_fileset::{FileSet, LIMIT, OpenRefused, SetFault};
-use org_splice::{Edit, Searched};
-use org_texts::{Edits, Held, Plan, Texts};
+use org_texts::{Held, Plan, Texts};
 use std::alloc::{AllocError, Global};
 use std::marker::Model;
 
@@ -42,8 +39,7 @@ pub struct Files<D: Disk> {
     alloc: Global,
     set: FileSet<D>,
     texts: Texts,
-    // What is known of the files behind searches, by the numbers of their names; it may end early.
-    searched: Vec<Option<Searches>>,
+    notes: Notes,
 }
 
 impl<D: Disk> Model for Files<D> {
@@ -62,7 +58,7 @@ impl<D: Disk> Model for Files<D> {
     } };
 
     ghost invariant = { λ f. IsSound f.set.names ((f.set.broken ≡ false) × D.honest f.set.disk)
-        (contents (D.files f.set.disk)) f.texts × IsNoted f.set.names f.searched.items f.texts };
+        (contents (D.files f.set.disk)) f.texts × IsNoted f.set.names f.notes f.texts };
 }
 
 impl<D: Disk> Files<D> {
@@ -78,7 +74,7 @@ impl<D: Disk> Files<D> {
                 alloc,
                 set,
                 texts: Texts::new(alloc),
-                searched: Vec::new(alloc),
+                notes: Notes::new(alloc),
             }),
             Err(refused) => Err(refused),
         }
@@ -228,7 +224,7 @@ impl<D: Disk> Files<D> {
         ensures { IsTrue result → (name : List ℕ) → slice_get self.now.names index ≡ Some name
             → RunsIn self.now.held.before name None }
     {
-        is_clockless(&self.searched, index)
+        self.notes.is_clockless(index)
     }
 
     /// What is known of the text of this file behind searches.
@@ -236,7 +232,7 @@ impl<D: Disk> Files<D> {
         ensures { ForSome (text_of self.now.held.now file.now)
             (λ text. AreSearched result (terminated text.bytes)) }
     {
-        noted(&self.searched, self.set.names(), file)
+        self.notes.searched(self.set.names(), file)
     }
 
     /// Notes what is known of the text of this file, as it is and as it was before the command that
@@ -246,9 +242,7 @@ impl<D: Disk> Files<D> {
         requires before { IsKnown searches self.old.held.before file.now }
         ensures { self.new ≡ self.old }
     {
-        if let Some(index) = number_of(self.set.names(), file) {
-            note(&mut self.searched, index, searches);
-        }
+        self.notes.note(self.set.names(), file, searches);
     }
 
     /// Makes the edits of a plan, in memory. `TooLarge` where one of the texts would be past the
@@ -259,7 +253,7 @@ impl<D: Disk> Files<D> {
         ensures before { self.new.held.before ≡ self.old.held.before }
         ensures puts { PutsPlan plan.now self.old.held result self.new.held }
     {
-        lower_plan(&mut self.searched, self.set.names(), &self.texts, plan);
+        self.notes.lower_plan(self.set.names(), &self.texts, plan);
         self.texts.apply(plan)?;
         if is_large(&self.texts, plan) {
             self.texts.undo();
@@ -334,178 +328,5 @@ fn is_large(texts: &Texts, plan: &Plan<'_>) -> bool
     match &plan.second {
         Some(change) => is_large_text(texts, change.file.name()),
         None => false,
-    }
-}
-
-/// The number of the file of this name, in byte order of the names.
-fn number_of(names: &[FileName], file: &FileName) -> Option<usize>
-    ensures { IfSome result (λ index. slice_get names.now index ≡ Some file.now) }
-{
-    for (index, name) in names.iter().enumerate() {
-        if name == file {
-            return Some(index);
-        }
-    }
-    None
-}
-
-/// What is noted of this file.
-fn noted(notes: &[Option<Searches>], names: &[FileName], file: &FileName) -> Searches
-    ensures { (set : TextSet) → AreKnown names.now notes.now set → ForSome (text_of set file.now)
-        (λ text. AreSearched result (terminated text.bytes)) }
-{
-    let Some(index) = number_of(names, file) else {
-        return Searches::nothing();
-    };
-    match notes.get(index) {
-        Some(Some(searches)) => *searches,
-        _ => Searches::nothing(),
-    }
-}
-
-/// Whether it is known that no clock runs in the file of this number.
-fn is_clockless(notes: &[Option<Searches>], index: usize) -> bool
-    ensures { IsTrue result → (searches : Searches)
-        × (slice_get notes.now index ≡ Some (Some searches)) × (searches.clocks ≡ Nowhere) }
-{
-    match notes.get(index) {
-        Some(Some(searches)) => matches!(searches.clocks, Searched::Nowhere),
-        _ => false,
-    }
-}
-
-/// Notes what is known of the file of this number. Without memory it isn't noted.
-fn note(notes: &mut Vec<Option<Searches>>, index: usize, searches: Searches)
-    ensures { (i : ℕ) (new : Searches) → slice_get notes.new.items i ≡ Some (Some new)
-        → ((i ≡ index) × (new ≡ searches)) ⊎ (slice_get notes.old.items i ≡ Some (Some new)) }
-{
-    for _number in notes.len()..index {
-        if notes.push(None).is_err() {
-            return;
-        }
-    }
-    if index < notes.len() {
-        notes[index] = Some(searches);
-    } else if index == notes.len() {
-        let _ = notes.push(Some(searches));
-    }
-}
-
-/// The size of the held text of this name.
-fn size_of(texts: &Texts, name: &FileName) -> usize
-    ensures { ForSome (text_of texts.now.now name.now) (λ text. result ≤ length text.bytes) }
-{
-    match texts.get(name) {
-        Some(held) => held.bytes().len(),
-        None => 0,
-    }
-}
-
-/// What is known of a text of this size, or of a larger one, behind edits.
-fn lowered(searches: Searches, size: usize, edits: &Edits) -> Searches
-    ensures stays { StaysKnown searches result }
-    ensures follows { FollowsEdits size edits.now.items searches result }
-{
-    let (first, rest) = edits.parts();
-    let mut searches = searches.behind(size, first);
-    let mut size = size_behind(size, first);
-    for edit in rest {
-        searches = searches.behind(size, edit);
-        size = size_behind(size, edit);
-    }
-    searches
-}
-
-/// The same of what is noted, if anything is.
-fn lowered_note(note: Option<Searches>, size: usize, edits: &Edits) -> Option<Searches>
-    ensures { LowersNote size edits.now.items note result }
-{
-    Some(lowered(note?, size, edits))
-}
-
-/// The size of a text behind an edit, or a smaller one.
-fn size_behind(size: usize, edit: &Edit) -> usize
-    ensures { (text : List ℕ) → size ≤ length text
-        → edit.now.at + edit.now.removed ≤ length text
-        → result ≤ length (applied edit.now text) }
-{
-    size.saturating_sub(edit.removed)
-        .saturating_add(edit.bytes.len())
-}
-
-/// Lowers what is noted of one file, whose text has this size, or a larger one, to what is known
-/// behind edits.
-fn lower(
-    notes: &mut Vec<Option<Searches>>,
-    names: &[FileName],
-    file: &FileName,
-    size: usize,
-    edits: &Edits,
-)
-    ensures { Lowers names.now file.now size edits.now.items notes.old.items notes.new.items }
-{
-    for (index, name) in names.iter().enumerate() {
-        if index < notes.len() && file == name {
-            notes[index] = lowered_note(notes[index], size, edits);
-        }
-    }
-}
-
-/// Lets go of what is noted of one file.
-fn forget(notes: &mut Vec<Option<Searches>>, names: &[FileName], file: &FileName)
-    ensures { (size : ℕ) (edits : List Edit)
-        → Lowers names.now file.now size edits notes.old.items notes.new.items }
-{
-    for (index, name) in names.iter().enumerate() {
-        if index < notes.len() && file == name {
-            notes[index] = None;
-        }
-    }
-}
-
-/// Lets go of what is noted of the files that a plan changes.
-fn forget_plan(notes: &mut Vec<Option<Searches>>, names: &[FileName], plan: &Plan<'_>)
-    ensures stays { (set : TextSet) → AreKnown names.now notes.old.items set
-        → AreKnown names.now notes.new.items set }
-    ensures follows { (set : TextSet) → AreKnown names.now notes.old.items set
-        → AreKnown names.now notes.new.items (planned plan.now set) }
-{
-    forget(notes, names, plan.first.file.name());
-    if let Some(change) = &plan.second {
-        forget(notes, names, change.file.name());
-    }
-}
-
-/// Lowers what is noted of the files that a plan changes; where it isn't one of lines, lets go of
-/// it.
-fn lower_plan(notes: &mut Vec<Option<Searches>>, names: &[FileName], texts: &Texts, plan: &Plan<'_>)
-    requires plan { IsPlan plan.now texts.now.now }
-    requires lines { IsTrue plan.now.of_lines → IsOfLines plan.now texts.now.now }
-    ensures stays { (set : TextSet) → AreKnown names.now notes.old.items set
-        → AreKnown names.now notes.new.items set }
-    ensures follows { AreKnown names.now notes.old.items texts.now.now
-        → AreKnown names.now notes.new.items (planned plan.now texts.now.now) }
-{
-    if !plan.of_lines {
-        forget_plan(notes, names, plan);
-        return;
-    }
-    let first = plan.first.file.name();
-    lower(
-        notes,
-        names,
-        first,
-        size_of(texts, first),
-        &plan.first.edits,
-    );
-    if let Some(change) = &plan.second {
-        let second = change.file.name();
-        // Of the same file the size isn't known here: the first edits changed it.
-        let size = if second == first {
-            0
-        } else {
-            size_of(texts, second)
-        };
-        lower(notes, names, second, size, &change.edits);
     }
 }

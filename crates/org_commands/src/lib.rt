@@ -14,6 +14,7 @@ mod command;
 mod commands;
 mod files;
 mod kind;
+mod notes;
 mod searches;
 mod tally;
 

@@ -2,10 +2,12 @@
 //!
 //! The clock that runs, and the line that names a place for archived subtrees, are each searched
 //! for where they aren't known to be missing.
-ghost use Rattle.std.specs.Prelude.{List, ℕ};
-ghost use Rattle.org_commands.specs.Noted.{AreSearched, FollowsEdit, StaysKnown};
+ghost use Rattle.std.specs.Prelude.{◌+◌, ◌≤◌, List, ℕ, length};
+ghost use Rattle.org_splice.specs.Edits.{applied};
+ghost use Rattle.org_commands.specs.Noted.{AreSearched, FollowsEdit, FollowsEdits, StaysKnown};
 
 use org_splice::{Edit, Searched};
+use org_texts::Edits;
 
 /// Where a text is known to have no clock that runs, and no `#+ARCHIVE:` line.
 #[derive(Clone, Copy)]
@@ -36,4 +38,29 @@ impl Searches {
             archive_lines: self.archive_lines.behind(size, edit),
         }
     }
+
+    /// The same behind edits, each of the text that those before it leave.
+    pub(crate) fn behind_each(self, size: usize, edits: &Edits) -> Searches
+        ensures edited { FollowsEdits size edits.now.items self result }
+        ensures unedited { StaysKnown self result }
+    {
+        let (first, rest) = edits.parts();
+        let mut searches = self.behind(size, first);
+        let mut size = size_behind(size, first);
+        for edit in rest {
+            searches = searches.behind(size, edit);
+            size = size_behind(size, edit);
+        }
+        searches
+    }
+}
+
+/// The size of a text behind an edit, or a smaller one.
+fn size_behind(size: usize, edit: &Edit) -> usize
+    ensures { (text : List ℕ) → size ≤ length text
+        → edit.now.at + edit.now.removed ≤ length text
+        → result ≤ length (applied edit.now text) }
+{
+    size.saturating_sub(edit.removed)
+        .saturating_add(edit.bytes.len())
 }

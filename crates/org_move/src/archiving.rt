@@ -24,55 +24,50 @@ use org_splice::{Bytes, Edit};
 use org_stamp::Moment;
 use std::alloc::Global;
 
-/// The byte at which a subtree goes in last below a heading, and the level of that heading; with
-/// none, the end of the text.
-fn last_below(outline: &Outline<'_>, up: Option<Node>) -> (usize, Option<usize>)
-    requires { ForSome up (λ up. up < node_count (tree outline.now.text)) }
-    ensures place { let d = tree outline.now.text in (to : Destination) (node : NodeOf)
-        → InsertsAt outline.now.text (put_last to up node d) result.0
-        (filled to (option_map (λ i. (node_at d i).node.level) up) node) }
-    ensures level { result.1
-        ≡ option_map (λ i. (node_at (tree outline.now.text) i).node.level) up }
-    ensures terminated { terminated outline.now.text ≡ outline.now.text }
-    ensures room { ForSome result.1 (λ level. level + 1 < 2 ^ 63) }
+/// The level of the heading below which a subtree goes, if there is one.
+fn level_above(outline: &Outline<'_>, up: &Option<Node>) -> Option<usize>
+    requires { ForSome up.now (λ up. up < node_count (tree outline.now.text)) }
+    ensures level { result
+        ≡ option_map (λ i. (node_at (tree outline.now.text) i).node.level) up.now }
+    ensures room { ForSome result (λ level. level + 1 < 2 ^ 63) }
 {
     match up {
-        Some(up) => {
-            let level = level_of(outline, up);
-            (outline.place(Some(up), Place::Last), Some(level))
-        }
-        None => (outline.text().len(), None),
+        Some(up) => Some(level_of(outline, *up)),
+        None => None,
+    }
+}
+
+/// The byte at which a subtree goes in last below a heading; with none, the end of the text.
+fn last_below(outline: &Outline<'_>, up: Option<Node>) -> usize
+    requires { ForSome up (λ up. up < node_count (tree outline.now.text)) }
+    ensures place { let d = tree outline.now.text in (to : Destination) (node : NodeOf)
+        → InsertsAt outline.now.text (put_last to up node d) result
+        (filled to (option_map (λ i. (node_at d i).node.level) up) node) }
+    ensures terminated { terminated outline.now.text ≡ outline.now.text }
+{
+    let end = outline.text().len();
+    match up {
+        Some(up) => outline.place(Some(up), Place::Last),
+        None => end,
     }
 }
 
 /// The same once a subtree is taken out, in the text that is left.
-fn last_below_without(
-    outline: &Outline<'_>,
-    taken: Node,
-    up: Option<Node>,
-) -> (usize, Option<usize>)
+fn last_below_without(outline: &Outline<'_>, taken: Node, up: Option<Node>) -> usize
     requires taken { taken < node_count (tree outline.now.text) }
     requires up { ForSome up (λ up. up < node_count (tree outline.now.text)) }
     requires outside { ForSome up (λ up. LiesIn (tree outline.now.text) taken up → ⊥) }
-    ensures place { let d = tree outline.now.text in let left = take taken d in
+    ensures { let d = tree outline.now.text in let left = take taken d in
         let there = parent_without taken (size_of d taken) up in (to : Destination) (node : NodeOf)
-        → InsertsAt (print left) (put_last to there node left) result.0
+        → InsertsAt (print left) (put_last to there node left) result
         (filled to (option_map (λ i. (node_at d i).node.level) up) node) }
-    ensures level { result.1
-        ≡ option_map (λ i. (node_at (tree outline.now.text) i).node.level) up }
-    ensures terminated { terminated outline.now.text ≡ outline.now.text }
-    ensures room { ForSome result.1 (λ level. level + 1 < 2 ^ 63) }
 {
     match up {
-        Some(up) => {
-            let level = level_of(outline, up);
-            let at = outline.place_without(taken, Some(up), Place::Last);
-            (at, Some(level))
-        }
+        Some(up) => outline.place_without(taken, Some(up), Place::Last),
         None => {
             let span = outline.subtree(taken);
             let behind = outline.text().len() - span.end;
-            (span.start + behind, None)
+            span.start + behind
         }
     }
 }
@@ -116,7 +111,8 @@ pub fn archive(
         × AreEdits (edits.1 ∷ []) target.now.text (print new.target)) result }
 {
     let up = target_heading(target, to)?;
-    let (at, above) = last_below(target, up);
+    let above = level_above(target, &up);
+    let at = last_below(target, up);
     let lines = archived_lines(alloc, source, node, name, now, to, above)?;
     let goes_in = insertion(at, lines);
     Ok((without(alloc, source, node), goes_in))
@@ -151,7 +147,8 @@ pub fn archive_within(
         (λ new edits. AreEdits edits outline.now.text (print new)) result }
 {
     let up = apart(outline, node, target_heading(outline, to)?)?;
-    let (at, above) = last_below_without(outline, node, up);
+    let at = last_below_without(outline, node, up);
+    let above = level_above(outline, &up);
     let lines = archived_lines(alloc, outline, node, name, now, to, above)?;
     let goes_in = insertion(at, lines);
     Ok([without(alloc, outline, node), goes_in])

@@ -1,7 +1,7 @@
 //! Subtrees moved to their archives, within a file or across two.
-ghost use Rattle.std.specs.Prelude.{◌≡◌, [], ◌∷◌, List, ℕ, Some, Ok, IfOk, false, true};
+ghost use Rattle.std.specs.Prelude.{◌≡◌, ◌<◌, [], ◌∷◌, List, ℕ, Some, Ok, IfOk, false, true};
 ghost use Rattle.org_outline.specs.Paths.{find_path};
-ghost use Rattle.org_outline.specs.Tree.{tree};
+ghost use Rattle.org_outline.specs.Tree.{node_count, tree};
 ghost use Rattle.org_texts.specs.Texts.{bytes_or, text_of};
 ghost use Rattle.org_move.specs.Answers.{IsMadeAs, IsPlaceAs};
 ghost use Rattle.org_move.specs.Archive.{archive_across_at, archive_within_at};
@@ -25,6 +25,7 @@ use org_fault::{Fault, Refusal};
 use org_move::{Location, archive, archive_within, location_searched};
 use org_outline::{Node, Outline, States};
 use org_texts::{NameOf, Plan};
+use std::alloc::Global;
 
 /// The outline of one of the files, whose text is ready. Takes no memory.
 fn outline_in<'a, D: Disk>(files: &'a Files<D>, states: &'a States, file: &FileName) -> Outline<'a>
@@ -62,59 +63,41 @@ fn find_location<D: Disk>(
     found
 }
 
-/// The edits of one of the files, whose text is ready, that archive a subtree within it.
-fn plan_within<'a, D: Disk>(
-    files: &Files<D>,
-    states: &States,
+/// The edits of the command's file that archive a subtree within it.
+fn plan_within<'a>(
+    alloc: Global,
+    outline: &Outline<'_>,
     command: &'a Archive,
     node: Node,
     to: &Location,
 ) -> Result<Plan<'a>, Fault<Refusal>>
-    requires ready { IsReady command.now.file files.now.held }
-    requires heading { HasHeading files.now.held.now command.now.file node }
-    ensures { let seen = bytes_or [] (text_of files.now.held.now command.now.file) in
-        IsMadeAs (archive_within_at states.now command.now.file command.now.moment to.now
-        (tree seen) node) (MakesDocument command.now.file seen) result }
+    requires { node < node_count (tree outline.now.text) }
+    ensures { IsMadeAs (archive_within_at outline.now.states command.now.file command.now.moment
+        to.now (tree outline.now.text) node)
+        (MakesDocument command.now.file outline.now.text) result }
 {
-    let alloc = files.alloc();
-    let outline = outline_in(files, states, &command.file);
-    let edits = archive_within(alloc, &outline, &command.file, node, command.moment, to)?;
+    let edits = archive_within(alloc, outline, &command.file, node, command.moment, to)?;
     Ok(plan_of_two_edits(alloc, &command.file, edits)?)
 }
 
-/// The edits of two files, whose texts are ready, that archive a subtree of the first in the
-/// second, the location's file.
-fn plan_across<'a, D: Disk>(
-    files: &Files<D>,
-    states: &States,
+/// The edits of two files that archive a subtree of the command's file in the location's file.
+fn plan_across<'a>(
+    alloc: Global,
+    source: &Outline<'_>,
+    target: &Outline<'_>,
     command: &'a Archive,
     node: Node,
     to: &Location,
 ) -> Result<Plan<'a>, Fault<Refusal>>
-    requires source { IsReady command.now.file files.now.held }
-    requires target { IsReady to.now.file files.now.held }
-    requires heading { HasHeading files.now.held.now command.now.file node }
-    ensures { let seen = bytes_or [] (text_of files.now.held.now command.now.file) in
-        let target = bytes_or [] (text_of files.now.held.now to.now.file) in
-        IsMadeAs (archive_across_at states.now command.now.file command.now.moment (tree seen)
-        states.now to.now (tree target) node)
-        (MakesDocuments command.now.file to.now.file seen target) result }
+    requires { node < node_count (tree source.now.text) }
+    ensures { IsMadeAs (archive_across_at source.now.states command.now.file command.now.moment
+        (tree source.now.text) target.now.states to.now (tree target.now.text) node)
+        (MakesDocuments command.now.file to.now.file source.now.text target.now.text) result }
 {
-    let alloc = files.alloc();
-    let (goes_out, goes_in) = archive(
-        alloc,
-        &outline_in(files, states, &command.file),
-        &outline_in(files, states, to.file()),
-        &command.file,
-        node,
-        command.moment,
-        to,
-    )?;
-    let (file, to_file) = (
-        NameOf::given(&command.file),
-        NameOf::made(to.file().clone()?),
-    );
-    Ok(plan_of_two(alloc, file, goes_out, to_file, goes_in))
+    let file = &command.file;
+    let (goes_out, goes_in) = archive(alloc, source, target, file, node, command.moment, to)?;
+    let to_file = NameOf::made(to.file().clone()?);
+    Ok(plan_of_two(alloc, NameOf::given(file), goes_out, to_file, goes_in))
 }
 
 /// What an archiving of the heading at the command's path to this location is to change, from a
@@ -140,13 +123,16 @@ fn plan_archive_to<'a, D: Disk>(
 {
     let to_file = to.file();
     if command.file == *to_file {
-        return Ok(plan_within(files, states, command, node, to)?);
+        let outline = outline_in(files, states, &command.file);
+        return Ok(plan_within(files.alloc(), &outline, command, node, to)?);
     }
     if !files.has(to_file) {
         return Err(RunFault::Refused(Refusal::NoSuchFile));
     }
     files.ready(to_file)?;
-    Ok(plan_across(files, states, command, node, to)?)
+    let source = outline_in(files, states, &command.file);
+    let target = outline_in(files, states, to_file);
+    Ok(plan_across(files.alloc(), &source, &target, command, node, to)?)
 }
 
 /// What an archiving is to change. It is refused for its file first, then for its path, then where

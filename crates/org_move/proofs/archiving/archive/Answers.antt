@@ -11,7 +11,7 @@ returns c =
     let to = c.args.to.now in
     let up = c.in_ok-up.up in
     let root : Node = archived source.states c.args.name.now c.args.now (tree source.text) c.args.node in
-    let lines = c.in_ok-lines.ensures.lines ∙ ap (λ (above : Option ℕ). print_node (filled to above root)) c.last_below-at.ensures.level in
+    let lines = c.in_ok-lines.ensures.lines ∙ ap (λ (above : Option ℕ). print_node (filled to above root)) c.level_above-above.ensures.level in
     archive_made source.states c.args.name.now c.args.now source.text target.states to target.text _ _ _ _ _ _ _ c.in_ok-lines.ensures.terminated c.last_below-at.ensures.terminated
     c.target_heading.ensures.value c.in_ok-up.was c.requires
     (λ node. c.last_below-at.ensures.place to node) c.without.ensures c.insertion-goes_in.ensures lines

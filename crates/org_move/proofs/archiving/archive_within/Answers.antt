@@ -40,7 +40,7 @@ returns c =
     let to = c.args.to.now in
     let up = c.in_ok-up.up in
     let root : Node = archived outline.states c.args.name.now c.args.now (tree outline.text) c.args.node in
-    let lines = c.in_ok-lines.ensures.lines ∙ ap (λ (above : Option ℕ). print_node (filled to above root)) c.last_below_without-at.ensures.level in
+    let lines = c.in_ok-lines.ensures.lines ∙ ap (λ (above : Option ℕ). print_node (filled to above root)) c.level_above-above.ensures.level in
     archived_within outline.states c.args.name.now c.args.now outline.text to _ c.args.node c.in_ok-target_heading.field-0 up _ _ _ _ c.in_ok-lines.ensures.terminated
     c.target_heading.ensures.value c.in_ok-target_heading.was c.in_ok-up.ensures.value c.requires
-    (λ node. c.last_below_without-at.ensures.place to node) c.without.ensures c.insertion-goes_in.ensures lines
+    (λ node. c.last_below_without-at.ensures to node) c.without.ensures c.insertion-goes_in.ensures lines

@@ -1,4 +1,4 @@
-use Rattle.std.proofs.Common.{◌≡◌, ◌<◌, ◌∙◌, List, ℕ, [], ◌∷◌, Ok, refl, sym, subst}
+use Rattle.std.proofs.Common.{◌≡◌, ◌<◌, ◌∙◌, List, ℕ, [], ◌∷◌, Ok, sym, subst}
 use Rattle.std.specs.Prelude.{IsSomeAnd}
 use Rattle.org_outline.specs.Tree.{node_count, tree}
 use Rattle.org_fault.specs.declared.fault.Fault.TheVariants.{OutOfMemory}

@@ -3,7 +3,6 @@ use Rattle.org_journal.specs.Recovered.{contents}
 use Rattle.org_texts.specs.Texts.{TextSet, held_over, text_of}
 use Rattle.org_commands.specs.declared.command.Command.TheVariants as command
 use Rattle.org_commands.specs.declared.command.Reply.{Reply}
-use Rattle.org_commands.specs.declared.command.Reply.TheVariants.{Text}
 use Rattle.org_commands.specs.declared.command.RunFault.TheVariants.{OutOfMemory}
 use Rattle.org_commands.specs.InOrder.{is_name, text_at}
 use Rattle.org_commands.specs.Outcome.{outcome, show}

@@ -33,7 +33,7 @@ invariant_of-self g c =
           (λ n.
           let same = made.memory (starved c.commit.result c.in_err-commit.field-0.0 inside.set.broken new.broken c.in_err-commit.was unbroken made.set.refuses made.set.breaks n.0) in
           ((unbroken, made.accounts.was_honest n.1), rw same refl)),
-      noted_still inside.set.names new.names inside.searched.items inside.texts made.set.same_names c.self.invariant.1,
+      noted_still inside.set.names new.names inside.notes inside.texts made.set.same_names c.self.invariant.1,
     )
 
 pub returns-in_err-commit-clause-commits : goal.returns-in_err-commit-clause-commits
@@ -63,8 +63,8 @@ invariant_of-self-2 g c =
           (λ n. made_held d inside.set.names live inside.set.disk c.commit.new.self.disk inside.texts.now c.self.invariant.0.apart c.self.invariant.0.now
           (unbroken, c.commit.ensures.commits.accounts.was_honest n.1) (c.in_ok-commit.ensures.commits.commits n.1).done.made)
           c.self.invariant.0,
-      noted_settled c.commit.new.self.names inside.searched.items inside.texts c.settle.new.self c.settle.ensures.now c.settle.ensures.before
-          (noted_still inside.set.names c.commit.new.self.names inside.searched.items inside.texts c.commit.ensures.commits.set.same_names c.self.invariant.1),
+      noted_settled c.commit.new.self.names inside.notes inside.texts c.settle.new.self c.settle.ensures.now c.settle.ensures.before
+          (noted_still inside.set.names c.commit.new.self.names inside.notes inside.texts c.commit.ensures.commits.set.same_names c.self.invariant.1),
     )
 
 pub returns-clause-commits : goal.returns-clause-commits

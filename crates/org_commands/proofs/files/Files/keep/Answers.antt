@@ -12,5 +12,5 @@ invariant_of-self g c =
     let now = c.keep.ensures.now in
     let before = c.keep.ensures.before in (
       sound_kept inside.set.names ((inside.set.broken ≡ false) × g.D.Disk.honest inside.set.disk) (contents (g.D.Disk.files inside.set.disk)) inside.texts c.keep.new.self now before small c.self.invariant.0,
-      noted_kept inside.set.names inside.searched.items inside.texts c.keep.new.self now before c.self.invariant.1,
+      noted_kept inside.set.names inside.notes inside.texts c.keep.new.self now before c.self.invariant.1,
     )

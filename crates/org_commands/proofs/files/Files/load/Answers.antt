@@ -93,8 +93,8 @@ invariant_of-self-2 g c =
       sound_held copy c.in_ok-bytes.bytes.items c.read.new.self.names now left inside.texts c.hold.new.self none none_before named
           (λ n. c.in_ok-bytes.ensures.text n.1 ∙ ap (λ (f : Image). f own) (sym (ap contents (c.read.ensures.looks n.1).same)) ∙ ap left (sym cloned))
           c.in_ok-hold.ensures.now c.in_ok-hold.ensures.before still,
-      noted_held copy c.in_ok-bytes.bytes.items c.read.new.self.names inside.searched.items inside.texts c.hold.new.self none none_before
-          c.in_ok-hold.ensures.now c.in_ok-hold.ensures.before (noted_still inside.set.names c.read.new.self.names inside.searched.items inside.texts c.read.ensures.set.same_names c.self.invariant.1),
+      noted_held copy c.in_ok-bytes.bytes.items c.read.new.self.names inside.notes inside.texts c.hold.new.self none none_before
+          c.in_ok-hold.ensures.now c.in_ok-hold.ensures.before (noted_still inside.set.names c.read.new.self.names inside.notes inside.texts c.read.ensures.set.same_names c.self.invariant.1),
     )
 
 pub returns-clause-held : goal.returns-clause-held
@@ -204,7 +204,7 @@ invariant_of-self g c =
     let files = contents (g.D.Disk.files inside.set.disk) in
     let left = contents (g.D.Disk.files c.read.new.self.disk) in
     let unbroken : inside.set.broken ≡ false = rw (← c.self.view_is) at c.requires.unbroken in
-    still_held inside.set.names c.read.new.self.names live now files left inside.searched.items inside.texts c.self.invariant c.read.ensures.set.same_names
+    still_held inside.set.names c.read.new.self.names live now files left inside.notes inside.texts c.self.invariant c.read.ensures.set.same_names
     (λ n. ((unbroken, c.read.ensures.accounts.was_honest n.1), ap contents (c.read.ensures.looks n.1).same))
 
 pub invariant_of-self-in_err-clone : goal.invariant_of-self-in_err-clone
@@ -215,7 +215,7 @@ invariant_of-self-in_err-clone g c =
     let files = contents (g.D.Disk.files inside.set.disk) in
     let left = contents (g.D.Disk.files c.read.new.self.disk) in
     let unbroken : inside.set.broken ≡ false = rw (← c.self.view_is) at c.requires.unbroken in
-    still_held inside.set.names c.read.new.self.names live now files left inside.searched.items inside.texts c.self.invariant c.read.ensures.set.same_names
+    still_held inside.set.names c.read.new.self.names live now files left inside.notes inside.texts c.self.invariant c.read.ensures.set.same_names
     (λ n. ((unbroken, c.read.ensures.accounts.was_honest n.1), ap contents (c.read.ensures.looks n.1).same))
 
 pub invariant_of-self-in_err-hold : goal.invariant_of-self-in_err-hold
@@ -226,8 +226,8 @@ invariant_of-self-in_err-hold g c =
     let files = contents (g.D.Disk.files inside.set.disk) in
     let left = contents (g.D.Disk.files c.read.new.self.disk) in
     let unbroken : inside.set.broken ≡ false = rw (← c.self.view_is) at c.requires.unbroken in
-    subst (λ (held : Holding). IsSound c.read.new.self.names now left held × IsNoted c.read.new.self.names inside.searched.items held) (sym c.in_err-hold.ensures.err)
-    (still_held inside.set.names c.read.new.self.names live now files left inside.searched.items inside.texts c.self.invariant c.read.ensures.set.same_names
+    subst (λ (held : Holding). IsSound c.read.new.self.names now left held × IsNoted c.read.new.self.names inside.notes held) (sym c.in_err-hold.ensures.err)
+    (still_held inside.set.names c.read.new.self.names live now files left inside.notes inside.texts c.self.invariant c.read.ensures.set.same_names
     (λ n. ((unbroken, c.read.ensures.accounts.was_honest n.1), ap contents (c.read.ensures.looks n.1).same)))
 
 pub hold-requires : goal.hold-requires

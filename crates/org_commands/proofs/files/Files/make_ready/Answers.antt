@@ -13,7 +13,7 @@ invariant_of-self g c =
     let some : IsSome (text_of inside.texts.now c.args.name.now) = rw (← c.self.view_is) at c.requires in (
       sound_made_ready made.result c.args.name.now inside.set.names ((inside.set.broken ≡ false) × g.D.Disk.honest inside.set.disk) (contents (g.D.Disk.files inside.set.disk)) inside.texts made.new.self
           some made.ensures.now made.ensures.err made.ensures.before c.self.invariant.0,
-      noted_made_ready made.result c.args.name.now inside.set.names inside.searched.items inside.texts made.new.self made.ensures.now made.ensures.err made.ensures.before c.self.invariant.1,
+      noted_made_ready made.result c.args.name.now inside.set.names inside.notes inside.texts made.new.self made.ensures.now made.ensures.err made.ensures.before c.self.invariant.1,
     )
 
 pub returns-clause-ready : goal.returns-clause-ready

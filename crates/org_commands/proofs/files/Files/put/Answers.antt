@@ -34,7 +34,7 @@ invariant_of-self-else-is_large g c =
     let before = c.in_ok-apply.ensures.before in
     let named : c.names.result.now ≡ inside.set.names = c.names.ensures in (
       sound_put plan inside.set.names ((inside.set.broken ≡ false) × g.D.Disk.honest inside.set.disk) (contents (g.D.Disk.files inside.set.disk)) inside.texts c.apply.new.self is now before c.self.invariant.0,
-      noted_put plan inside.set.names c.names.result.now inside.searched.items c.lower_plan.new.notes.items inside.texts c.apply.new.self named now before c.lower_plan.ensures.stays c.lower_plan.ensures.follows c.self.invariant.1,
+      noted_put plan inside.set.names c.names.result.now inside.notes c.lower_plan.new.self inside.texts c.apply.new.self named now before c.lower_plan.ensures.stays c.lower_plan.ensures.follows c.self.invariant.1,
     )
 
 pub returns-clause-puts : goal.returns-clause-puts
@@ -72,8 +72,8 @@ invariant_of-self-then-is_large g c =
     let named : c.names.result.now ≡ inside.set.names = c.names.ensures in (
       sound_undone inside.set.names live files c.apply.new.self c.undo.new.self c.undo.ensures.now c.undo.ensures.before
           (sound_put plan inside.set.names live files inside.texts c.apply.new.self is now before c.self.invariant.0),
-      noted_undone inside.set.names c.lower_plan.new.notes.items c.apply.new.self c.undo.new.self c.undo.ensures.now c.undo.ensures.before
-          (noted_put plan inside.set.names c.names.result.now inside.searched.items c.lower_plan.new.notes.items inside.texts c.apply.new.self named now before c.lower_plan.ensures.stays c.lower_plan.ensures.follows c.self.invariant.1),
+      noted_undone inside.set.names c.lower_plan.new.self c.apply.new.self c.undo.new.self c.undo.ensures.now c.undo.ensures.before
+          (noted_put plan inside.set.names c.names.result.now inside.notes c.lower_plan.new.self inside.texts c.apply.new.self named now before c.lower_plan.ensures.stays c.lower_plan.ensures.follows c.self.invariant.1),
     )
 
 pub apply-requires : goal.apply-requires
@@ -114,6 +114,6 @@ invariant_of-self g c =
     let live = (inside.set.broken ≡ false) × g.D.Disk.honest inside.set.disk in
     let named : c.names.result.now ≡ inside.set.names = c.names.ensures in (
       sound_undone inside.set.names live (contents (g.D.Disk.files inside.set.disk)) inside.texts c.apply.new.self c.in_err-apply.ensures.err c.in_err-apply.ensures.before c.self.invariant.0,
-      noted_not_put inside.set.names c.names.result.now inside.searched.items c.lower_plan.new.notes.items inside.texts c.apply.new.self named c.in_err-apply.ensures.err c.in_err-apply.ensures.before c.lower_plan.ensures.stays
+      noted_not_put inside.set.names c.names.result.now inside.notes c.lower_plan.new.self inside.texts c.apply.new.self named c.in_err-apply.ensures.err c.in_err-apply.ensures.before c.lower_plan.ensures.stays
           c.self.invariant.1,
     )

@@ -10,5 +10,5 @@ invariant_of-self g c =
     let now = c.undo.ensures.now in
     let before = c.undo.ensures.before in (
       sound_undone inside.set.names ((inside.set.broken ≡ false) × g.D.Disk.honest inside.set.disk) (contents (g.D.Disk.files inside.set.disk)) inside.texts c.undo.new.self now before c.self.invariant.0,
-      noted_undone inside.set.names inside.searched.items inside.texts c.undo.new.self now before c.self.invariant.1,
+      noted_undone inside.set.names inside.notes inside.texts c.undo.new.self now before c.self.invariant.1,
     )

@@ -1,5 +1,5 @@
 use Rattle.org_commands.proofs.Noted.{edits_left}
-use Rattle.org_commands.proofs.files.lowered.Goals as goal
+use Rattle.org_commands.proofs.searches.Searches.behind_each.Goals as goal
 
 pub loop-edit-preserved : goal.loop-edit-preserved
 loop-edit-preserved c =

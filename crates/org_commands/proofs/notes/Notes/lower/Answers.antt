@@ -1,11 +1,10 @@
-use Rattle.std.proofs.Common.{◌≡◌, ℕ, ◌+◌, ◌<◌, ◌≤◌, List, length, get_or, slice_get, Option, Some, Vec, false, sym, ◌∙◌, ap, subst, rules, arith}
+use Rattle.std.proofs.Common.{◌≡◌, ℕ, ◌+◌, ◌<◌, ◌≤◌, List, length, get_or, slice_get, Option, Some, false, sym, ◌∙◌, ap, subst, rules, arith}
 use Rattle.std.proofs.lemmas.Option.{get_or_from_slice_get, slice_get-get_or}
-use Rattle.std.specs.Global.{Global}
 use Rattle.std.specs.Str.{bytes_eq}
 use Rattle.org_commands.specs.declared.searches.Searches.{Searches}
 use Rattle.org_commands.proofs.Noted.{LowersBelow, lowers_all, lowers_other, lowers_past, lowers_this}
-use Rattle.org_commands.proofs.files.lower.Goals as goal
-use Rattle.org_commands.proofs.files.lower.Goals.{then-index-len+then-eq, else-index-len, else-index-len-via-then-index-len+else-eq, else-index-len-via-else-index-len}
+use Rattle.org_commands.proofs.notes.Notes.lower.Goals as goal
+use Rattle.org_commands.proofs.notes.Notes.lower.Goals.{then-index-len+then-eq, else-index-len, else-index-len-via-then-index-len+else-eq, else-index-len-via-else-index-len}
 
 pub loop-index-preserved : goal.loop-index-preserved
 loop-index-preserved c =
@@ -14,17 +13,17 @@ loop-index-preserved c =
     let size = c.args.size in
     let edits = c.args.edits.now.items in
     let index = c.loop-index.index in
-    let old = c.args.notes.now.items in
-    let mid = c.loop-index.notes.items in
-    let next = c.if-index-len.notes.items in
+    let old = c.self.inside.notes.items in
+    let mid = c.loop-index.self-inside.notes.items in
+    let next = c.if-index-len.self-inside.notes.items in
     elim c.if-index-len.branch [
       | then-index-len+then-eq w ↦
           let within : index < length mid = omega (arith, c.len.ensures, w.if-index-len.true) in
           let read : w.index.result.now ≡ get_or mid index w.index.result.now = search rules in
           let here : slice_get mid index ≡ Some w.index.result.now = slice_get-get_or mid index w.index.result.now within ∙ ap (λ (s : Option Searches). Some s) (sym read) in
-          lowers_this names file size edits index old mid next w.index.result.now w.lowered_note.result within here (ap (λ (q : Vec (Option Searches) Global). q.items) w.notes-is) w.lowered_note.ensures c.loop-index.invariant
+          lowers_this names file size edits index old mid next w.index.result.now w.lowered_note.result within here (ap (λ q. q.notes.items) w.self-inside-is) w.lowered_note.ensures c.loop-index.invariant
       | else-index-len w ↦
-          let same : mid ≡ next = sym (ap (λ (q : Vec (Option Searches) Global). q.items) w.notes-is) in
+          let same : mid ≡ next = sym (ap (λ q. q.notes.items) w.self-inside-is) in
           elim w.else-index-len.branch [
             | else-index-len-via-then-index-len+else-eq v ↦
                 let apart : bytes_eq file c.index-names-index.result ≡ false = sym v.eq.ensures ∙ v.if-eq.false in
@@ -39,4 +38,4 @@ loop-index-preserved c =
     ]
 
 pub returns : goal.returns
-returns c = lowers_all c.args.names.now c.args.file.now c.args.size c.args.edits.now.items c.loop-index.index c.args.notes.now.items c.loop-index.notes.items c.loop-index-test.false c.loop-index.invariant
+returns c = rw (← c.self.view_is) (lowers_all c.args.names.now c.args.file.now c.args.size c.args.edits.now.items c.loop-index.index c.self.inside.notes.items c.loop-index.self-inside.notes.items c.loop-index-test.false c.loop-index.invariant)

@@ -3,7 +3,7 @@ use Rattle.std.proofs.lemmas.Bool.{false≢true}
 use Rattle.std.proofs.lemmas.Option.{slice_get-get_or}
 use Rattle.std.specs.Str.{bytes_eq}
 use Rattle.org_disk.proofs.Names.{name_cases}
-use Rattle.org_commands.proofs.files.number_of.Goals as goal
+use Rattle.org_commands.proofs.notes.number_of.Goals as goal
 
 pub returns-then-eq : goal.returns-then-eq
 returns-then-eq c =

@@ -1,31 +1,29 @@
-use Rattle.std.proofs.Common.{◌≡◌, ℕ, ◌+◌, ◌<◌, ◌≤◌, List, length, get_or, slice_get, Option, Some, None, Vec, false, sym, ◌∙◌, ap, subst, arith}
+use Rattle.std.proofs.Common.{◌≡◌, ℕ, ◌+◌, ◌<◌, ◌≤◌, List, length, get_or, slice_get, Some, None, false, sym, ◌∙◌, ap, subst, arith}
 use Rattle.std.proofs.lemmas.Option.{get_or_from_slice_get, slice_get-get_or}
-use Rattle.std.specs.Global.{Global}
 use Rattle.std.specs.Str.{bytes_eq}
-use Rattle.org_commands.specs.declared.searches.Searches.{Searches}
 use Rattle.org_commands.proofs.Noted.{LowersBelow, lowers_all, lowers_none, lowers_other, lowers_past, lowers_this, none_lowered}
-use Rattle.org_commands.proofs.files.forget.Goals as goal
-use Rattle.org_commands.proofs.files.forget.Goals.{then-index-len+then-eq, else-index-len, else-index-len-via-then-index-len+else-eq, else-index-len-via-else-index-len}
+use Rattle.org_commands.proofs.notes.Notes.forget.Goals as goal
+use Rattle.org_commands.proofs.notes.Notes.forget.Goals.{then-index-len+then-eq, else-index-len, else-index-len-via-then-index-len+else-eq, else-index-len-via-else-index-len}
 
 pub loop-index-init : goal.loop-index-init
-loop-index-init c size edits = lowers_none c.args.names.now c.args.file.now size edits c.args.notes.now.items
+loop-index-init c size edits = lowers_none c.args.names.now c.args.file.now size edits c.self.inside.notes.items
 
 pub loop-index-preserved : goal.loop-index-preserved
 loop-index-preserved c size edits =
     let names = c.args.names.now in
     let file = c.args.file.now in
     let index = c.loop-index.index in
-    let old = c.args.notes.now.items in
-    let mid = c.loop-index.notes.items in
-    let next = c.if-index-len.notes.items in
+    let old = c.self.inside.notes.items in
+    let mid = c.loop-index.self-inside.notes.items in
+    let next = c.if-index-len.self-inside.notes.items in
     let sofar = c.loop-index.invariant size edits in
     elim c.if-index-len.branch [
       | then-index-len+then-eq w ↦
           let within : index < length mid = omega (arith, c.len.ensures, w.if-index-len.true) in
           let here : slice_get mid index ≡ Some (get_or mid index None) = slice_get-get_or mid index None within in
-          lowers_this names file size edits index old mid next (get_or mid index None) None within here (ap (λ (q : Vec (Option Searches) Global). q.items) w.notes-is) (none_lowered (get_or mid index None) size edits) sofar
+          lowers_this names file size edits index old mid next (get_or mid index None) None within here (ap (λ q. q.notes.items) w.self-inside-is) (none_lowered (get_or mid index None) size edits) sofar
       | else-index-len w ↦
-          let same : mid ≡ next = sym (ap (λ (q : Vec (Option Searches) Global). q.items) w.notes-is) in
+          let same : mid ≡ next = sym (ap (λ q. q.notes.items) w.self-inside-is) in
           elim w.else-index-len.branch [
             | else-index-len-via-then-index-len+else-eq v ↦
                 let apart : bytes_eq file c.index-names-index.result ≡ false = sym v.eq.ensures ∙ v.if-eq.false in
@@ -40,4 +38,4 @@ loop-index-preserved c size edits =
     ]
 
 pub returns : goal.returns
-returns c size edits = lowers_all c.args.names.now c.args.file.now size edits c.loop-index.index c.args.notes.now.items c.loop-index.notes.items c.loop-index-test.false (c.loop-index.invariant size edits)
+returns c = rw (← c.self.view_is) (λ size edits. lowers_all c.args.names.now c.args.file.now size edits c.loop-index.index c.self.inside.notes.items c.loop-index.self-inside.notes.items c.loop-index-test.false (c.loop-index.invariant size edits))

@@ -1,5 +1,0 @@
-use Rattle.org_commands.proofs.Noted.{LowersBelow}
-use Rattle.org_commands.proofs.files.lower.Given as goal
-
-abbrev pub invariant-loop-index : goal.invariant-loop-index
-invariant-loop-index l = LowersBelow l.names l.file l.size l.edits.items l.index l.fn.notes.items l.notes.items
