@@ -131,7 +131,9 @@ def folder_syncs(trace: Trace) -> Iterator[Mutant]:
         if JOURNAL in loose:
             yield trace.without("no sync of the journal's name", at, end, trace.has_file(at, end))
         else:
-            shows = trace.journal_sync(trace.next(at, "closed")) < end
+            # An empty file that is lost is an absent one, which is the same.
+            closed = trace.next(at, "closed")
+            shows = trace.journal_sync(closed) < end and any(contents(trace.disks[closed])[name] for name in loose)
             yield trace.without("no sync of a new file's name", at, end, shows)
 
 
