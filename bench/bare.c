@@ -94,11 +94,11 @@ static uint64_t number(const unsigned char **at, int bytes)
     return value;
 }
 
-static void try_file(const char *name, int fd)
+/* Looks at what a name leads to; the empty name is the folder's own. */
+static void look_at(const char *name)
 {
     char path[PIECE];
     struct statx now;
-    put_at(fd, "", 0, 0);
     path_of(path, name);
     if (statx(AT_FDCWD, path, 0, STATX_BASIC_STATS, &now) != 0)
         fail("statx");
@@ -110,7 +110,7 @@ static void try_files(const unsigned char *at)
     for (uint64_t entries = number(&at, 4); entries > 0; entries--) {
         size_t named = number(&at, 2);
         struct file *one = opened(at, named);
-        try_file(one->name, one->fd);
+        look_at(one->name);
         at += named + 8;
         for (uint64_t patches = number(&at, 4); patches > 0; patches--) {
             number(&at, 8);
@@ -150,7 +150,7 @@ static void commit(void)
         exit(1);
     }
     size_t body = number(&script, 8);
-    try_file("orgstore.journal", journal);
+    look_at("");
     try_files(script + HEADER);
     put_at(journal, script, body, 1);
     sync_data(journal);
