@@ -36,8 +36,8 @@ pub record HoldsSince {D : Type 0} (first : Session) (others : Image) (here late
   pub accepted : count ≤ later.store.session.accepted
   pub holds : IsSomeAnd (slice_get later.texts count) (λ texts. Holds first others texts image)
 
--- Where this state is reached by lines that lead from the one state to the other by these bytes, the
--- next of them is `settle`.
+-- Where this state is reached by lines that lead from the one state to the other by these bytes,
+-- the next of them is `settle`.
 pub record SettlesAt {S : Type 0} (m : Machine S) (old : S) (lines : List (List ℕ)) (out : List ℕ)
     (new here : S) : Type 0 where
   pub way : Reaches m old lines out new here
@@ -48,8 +48,8 @@ pub record SettlesAt {S : Type 0} (m : Machine S) (old : S) (lines : List (List 
 
 -- The image recovers to the files after the first `count` of the commands that were accepted at
 -- `later`: those that were acknowledged at `here`, or all that were accepted at a state between the
--- two whose next line is `settle`. These lines lead from `here` to `later` by these bytes. So it has
--- nothing of a command that no line settled.
+-- two whose next line is `settle`. These lines lead from `here` to `later` by these bytes. So it
+-- has nothing of a command that no line settled.
 pub record HoldsSettled {D : Type 0} (m : Machine (Trace D)) (first : Session) (others : Image)
     (here : Trace D) (lines : List (List ℕ)) (out : List ℕ) (later : Trace D) (image : Image)
     : Type 0 where

@@ -94,8 +94,8 @@ module _ {D : Type 0} {g : Ghosts D} {setup : Setup} {disk now : D} {end : Serve
       HoldsSince served.first.store.session (contents (g.files served.first.store.disk)) here later
 
   -- The image recovers to the files after the commands that were acknowledged at the one store, or
-  -- after all that were accepted behind it as `settle` was run: these lines lead from the one to the
-  -- other by these bytes.
+  -- after all that were accepted behind it as `settle` was run: these lines lead from the one to
+  -- the other by these bytes.
   abbrev pub HoldsWhole : (here : Trace D) → List (List ℕ) → List ℕ → (later : Trace D) → Image
       → Type 0
   HoldsWhole here lines out later image =
@@ -143,9 +143,9 @@ module _ {D : Type 0} {g : Ghosts D} {setup : Setup} {disk now : D} {end : Serve
     pub since : (here later : Trace D) → IsIntermediateTo here later → g.honest later.store.disk
         → IsFalse here.store.session.broken
         → LeavesOver g here.store.disk later.store.disk (HoldsServed here later)
-    -- Where commands are to be done whole, which `settle` alone does: since it began, what was there
-    -- then, or the files after no command, or after all that were accepted as `settle` was run. The
-    -- last store is one of these: it settles nothing.
+    -- Where commands are to be done whole, which `settle` alone does: since it began, what was
+    -- there then, or the files after no command, or after all that were accepted as `settle` was
+    -- run. The last store is one of these: it settles nothing.
     pub whole_moment : setup.group ≡ Whole → (later : Trace D)
         → (way : Reaches (traces_while_honest g) served.first
         served.run.ran served.run.out served.run.mid later)

@@ -4,8 +4,8 @@
 pub enum ServeEnd {
     /// The input ended, and every accepted command is settled.
     End,
-    /// Accepted commands are given up. Memory for the last settling was refused; or the input was to
-    /// be done whole, and a line of it wasn't done, or it ended without a settling.
+    /// Accepted commands are given up. Memory for the last settling was refused; or the input was
+    /// to be done whole, and a line of it wasn't done, or it ended without a settling.
     Unsettled,
     /// The input ended, or a line of it wasn't done, and the device has failed.
     Device,

@@ -44,8 +44,8 @@ impl Pending {
         }
     }
 
-    // Whether these bytes are a whole line by themselves: nothing of it is kept, and they are within
-    // the limit.
+    // Whether these bytes are a whole line by themselves: nothing of it is kept, and they are
+    // within the limit.
     fn is_whole(&self, last: &[u8]) -> bool
         ensures exact { (part : List ℕ) → Stands self.now part
             → IsTrue result ↔ ((part ≡ []) × (length last.now ≤ limit)) }
@@ -54,8 +54,8 @@ impl Pending {
         self.fault.is_none() && self.bytes.is_empty() && last.len() <= LIMIT
     }
 
-    /// The line, now that its newline has come and it ends with these bytes. Most lines lie whole in
-    /// one piece, and are read where they stand; of another all is kept.
+    /// The line, now that its newline has come and it ends with these bytes. Most lines lie whole
+    /// in one piece, and are read where they stand; of another all is kept.
     pub fn line<'a>(&'a mut self, last: &'a [u8]) -> Result<&'a [u8], Fault<BadLine>>
         ensures { (part : List ℕ) → Stands self.old part
             → MatchResult result

@@ -39,8 +39,8 @@ enum Next {
 
 /// Answers the lines of a reader by a store, in at most this many reads. A line is answered as soon
 /// as its newline was read, whatever pieces the bytes come in. At the end of the input what isn't
-/// settled yet is settled. But where the store's group is whole, nothing is settled then, and a line
-/// that is answered by a refusal or a fault is the last one: no read is made behind it.
+/// settled yet is settled. But where the store's group is whole, nothing is settled then, and a
+/// line that is answered by a refusal or a fault is the last one: no read is made behind it.
 ///
 /// Where it ends with `End`, `Unsettled` or `Device`, and the disk is honest then, the input was
 /// read to its end, and what was written is its transcript; or the group is whole, a line was the

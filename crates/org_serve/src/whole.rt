@@ -38,8 +38,8 @@ pub struct Served<D> {
 
 /// Syncs the files of a store, opens it over them, answers the lines of a reader by it as `serve`
 /// does, and gives the disk back. The files are the journal, those of the names, and their archive
-/// files. For proofs alone there is each intermediate store, and one list: the texts of all files as
-/// they were opened, and after each accepted command.
+/// files. For proofs alone there is each intermediate store, and one list: the texts of all files
+/// as they were opened, and after each accepted command.
 ///
 /// What is said of a step is said where the disk is honest after it: a wrong answer later takes
 /// nothing from it. Up to each intermediate store the replies to the lines so far are the model's.

@@ -33,8 +33,8 @@ struct Ended<D> {
     disk: D,
 }
 
-// How many calls of the disk sync the files before an opening: three names, their archive files, and
-// the journal. What is on the disk already they leave as it is; other files are for `syncs`.
+// How many calls of the disk sync the files before an opening: three names, their archive files,
+// and the journal. What is on the disk already they leave as it is; other files are for `syncs`.
 pub const SYNCS: u64 = 7;
 
 // A store of a.org, of b.org and of inbox.org, which is absent.

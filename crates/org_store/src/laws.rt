@@ -215,8 +215,8 @@ pub fn middle_of_a_call_counts<D: Disk>()
 /// commands that were acknowledged when the run began, or after one prefix of the accepted
 /// commands. Where no command but refiles is accepted, that is as often as when the run began: a
 /// crash within a refile loses no node of the subtree and doubles none, in the old place or the
-/// new. An edit may make nodes and lose some, so the clauses from `refiles` on speak of runs in which
-/// none is accepted; what a crash leaves within one has each node as often as after the
+/// new. An edit may make nodes and lose some, so the clauses from `refiles` on speak of runs in
+/// which none is accepted; what a crash leaves within one has each node as often as after the
 /// acknowledged commands or as after the edit.
 pub fn one_place<D: Disk>()
     ensures held { (given : List (List ℕ)) (s : Session) (others image : Image)

@@ -15,13 +15,13 @@ enum Made {
 /// A unit and how often it stands in a template, the same of the initial text, and what they make.
 type Long = (&'static str, usize, &'static str, usize, Made);
 
-/// How many bytes a template is told to make on 2026-07-01.
+/// How many bytes a template makes on 2026-07-01, by `expanded_length`.
 fn length_of(rt: &impl Abort, alloc: Global, template: &str, initial: &str) -> usize {
     let (template, initial) = (template.as_bytes(), initial.as_bytes());
     expanded_length(alloc, template, now(rt), initial).expect(rt, "a length")
 }
 
-/// Whether a template makes this text on 2026-07-01, as long as is told of it.
+/// Whether a template makes this text on 2026-07-01, as long as `expanded_length` says.
 fn makes(rt: &impl Abort, alloc: Global, template: &str, initial: &str, wanted: &str) -> bool {
     let length = length_of(rt, alloc, template, initial);
     let (template, initial) = (template.as_bytes(), initial.as_bytes());

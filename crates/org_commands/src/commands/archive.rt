@@ -36,8 +36,8 @@ fn outline_in<'a, D: Disk>(files: &'a Files<D>, states: &'a States, file: &FileN
     outline_of(files.held(file), states)
 }
 
-/// Where a subtree of one of the files, whose text is ready, goes: see `location_searched`. What was
-/// searched for it isn't searched again until it changes.
+/// Where a subtree of one of the files, whose text is ready, goes: see `location_searched`. What
+/// was searched for it isn't searched again until it changes.
 fn find_location<D: Disk>(
     files: &mut Files<D>,
     states: &States,

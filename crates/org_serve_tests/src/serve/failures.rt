@@ -14,8 +14,8 @@ use std::process::Abort;
 use std::test::Fail;
 
 // In groups of which size the lines of a step are settled; the step, and lines that follow it; how
-// many calls all these make behind the opening; and what is told where one of these fails, one of
-// two.
+// many calls all these make behind the opening; and what is answered where one of these fails, one
+// of two.
 type Failed = (u32, &'static Step, &'static str, u64, [&'static str; 2]);
 
 // The lines of a step, and those that follow.
@@ -38,22 +38,22 @@ fn serve_failing(
     run(rt, disk, group, lines)
 }
 
-// Whether a line was told that the disk failed, and each later one that the store is broken.
-fn is_told(ended: &Ended<MemoryDisk>, told: &[&str; 2]) -> bool {
+// Whether a line was answered by the failure of the disk, and each later one by a broken store.
+fn is_answered(ended: &Ended<MemoryDisk>, answers: &[&str; 2]) -> bool {
     let written = ended.written.as_slice();
     matches!(&ended.end, Ok(ServeEnd::Device))
-        && (written == told[0].as_bytes() || written == told[1].as_bytes())
+        && (written == answers[0].as_bytes() || written == answers[1].as_bytes())
 }
 
 // Where this call of an opening fails it is refused, and the files are as they were; where a later
 // one fails, so many lines of the step are done as may be.
 fn fail_at(rt: &(impl Abort + AllocGlobal), row: &Failed, lines: &[u8], call: u64, opening: u64) {
-    let (group, step, _, _, told) = row;
+    let (group, step, _, _, answers) = row;
     let ended = serve_failing(rt, *group, step, lines, call);
     let (is_right, most) = if call <= opening {
         (is_refused(&ended), 0)
     } else {
-        (is_told(&ended, told), *group)
+        (is_answered(&ended, answers), *group)
     };
     let safe = safe_in(&ended.written);
     let done = done_in(rt, disk_of(ended), step);

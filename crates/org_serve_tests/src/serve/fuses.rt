@@ -29,8 +29,8 @@ fn folder_disk(rt: &impl Abort, host: &HostRuntime) -> FolderDisk<HostRuntime, U
     CallsDisk::over(host.alloc(), system, IndexSet::new(host.alloc()))
 }
 
-// Serves the line of a step over the folder, of whose disk so many calls pass: how many lines were
-// told to be safe, and whether all went well.
+// Serves the line of a step over the folder, of whose disk so many calls pass: how many lines are
+// acknowledged, and whether all went well.
 fn serve_burnt(
     rt: &(impl Abort + AllocGlobal),
     host: &HostRuntime,
@@ -44,8 +44,8 @@ fn serve_burnt(
     (safe_in(&written), matches!(end, Ok(ServeEnd::End)))
 }
 
-// The line is done in both files or in none, and is done where it was told to be safe. Where no
-// call passes it isn't, and where all pass it is.
+// The line is done in both files or in none, and is done where it was acknowledged. Where no call
+// passes it isn't, and where all pass it is.
 fn burn(rt: &(impl Abort + AllocGlobal), host: &HostRuntime, step: &Step, passes: u64, all: u64) {
     let (safe, is_whole) = serve_burnt(rt, host, step, passes);
     let done = done_in(rt, folder_disk(rt, host), step);

@@ -35,7 +35,7 @@ pub fn count_of(step: &Step, shown: &[u8]) -> Option<u64> {
     None
 }
 
-// How many commands were told to be safe.
+// How many commands are acknowledged.
 pub fn safe_in(written: &[u8]) -> u64 {
     if written.ends_with(b"safe 2\n") {
         2
@@ -46,8 +46,8 @@ pub fn safe_in(written: &[u8]) -> u64 {
     }
 }
 
-// So many lines of the step may be done: those that were told to be safe, or with these a whole
-// group or all.
+// So many lines of the step may be done: those that are acknowledged, or with these a whole group
+// or all.
 pub fn may_be_done(step: &Step, group: u32, safe: u64, done: u64) -> bool {
     done == safe || done == safe.saturating_add(u64::from(group)).min(all_of(step))
 }

@@ -21,7 +21,7 @@ fn unsynced(rt: &(impl Abort + AllocGlobal)) -> MemoryDisk {
 }
 
 // A crash may take what wasn't synced until its file is synced, which is the first call; nothing
-// takes it after that. What was told as safe is there.
+// takes it after that. What was acknowledged is there.
 fn is_right(call: u64, written: &[u8], shown: &[u8]) -> bool {
     let is_kept = shown.starts_with(b"text 8\n* A\n* B\n\n");
     let is_captured = shown.ends_with(b"\ntext 8\n* Z\n* K\n\n");

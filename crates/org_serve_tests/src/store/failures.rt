@@ -49,7 +49,7 @@ const ACCEPTED: &[Row] = &[
     (Ask::Show("b.org"), Answer::Fault(RunFault::Broken), 1, 0),
 ];
 
-// Whether the store is broken, as a settling is told too.
+// Whether the store is broken, as a settling answers too.
 fn is_broken(store: &mut Store<MemoryDisk>) -> bool {
     store.is_broken() && store.settle() == Err(RunFault::Broken)
 }
