@@ -1,6 +1,7 @@
 -- How long what is put in makes a text, and its last line.
-use Rattle.std.proofs.Common.{◌≡◌, ℕ, suc, ◌+◌, ◌-◌, ◌*◌, ◌<◌, ◌≤◌, Bool, true, false, not, cond, eqb, eq-eqb, List, [], ◌∷◌, ◌++◌, length, length-append, refl, sym, ◌∙◌, ap, append_assoc, arith, inl, inr}
-use Rattle.std.specs.Prelude.{reverse, count_by}
+use Rattle.std.proofs.Common.{◌≡◌, ℕ, suc, ◌+◌, ◌*◌, ◌<◌, ◌≤◌, Bool, true, false, not, cond, eqb, eq-eqb, List, [], ◌∷◌, ◌++◌, length, length-append, refl, sym, ◌∙◌, ap, append_assoc, arith, inl, inr}
+use Rattle.std.proofs.lemmas.Grind.{common_steps}
+use Rattle.std.specs.Prelude.{count_by}
 use Rattle.std.specs.List.{prefix_len, suffix_len, list_all}
 use Rattle.std.proofs.lemmas.Bool.{cases_Bool, eqb-true}
 use Rattle.std.proofs.lemmas.Bool.Decides.{nat_tests}
@@ -21,10 +22,7 @@ abbrev pub tail : List ℕ → ℕ
 tail text = suffix_len (λ b. not (eqb b 10)) text
 
 pub tail-append : (a b : List ℕ) → tail (a ++ b) ≡ cond (eqb (tail b) (length b)) (length b + tail a) (tail b)
-tail-append a b =
-    ap (prefix_len (λ b. not (eqb b 10))) (reverse-append a b)
-    ∙ prefix_len-append (λ b. not (eqb b 10)) (reverse b) (reverse a)
-    ∙ ap (λ n. cond (eqb (tail b) n) (n + tail a) (tail b)) (length-reverse b)
+tail-append a b = grind (arith, common_steps, reverse-append, prefix_len-append, length-reverse)
 
 tail-snoc : (a : List ℕ) (b : ℕ) → tail (a ++ b ∷ []) ≡ cond (not (eqb b 10)) (1 + tail a) 0
 tail-snoc a b = ap (prefix_len (λ b. not (eqb b 10))) (reverse-append a (b ∷ []))
@@ -40,9 +38,7 @@ tail-plain a (x ∷ b) all =
     ap tail (sym (append_assoc a (x ∷ []) b)) ∙ more ∙ omega (arith, one)
 
 pub length-last_line : (text : List ℕ) → length (last_line text) ≡ tail text
-length-last_line text =
-    let le = suffix_len-le-length (λ b. not (eqb b 10)) text in
-    omega (arith, length-drop (length text - tail text) text, le)
+length-last_line text = grind (arith, common_steps, suffix_len-le-length, length-drop)
 
 -- a newline, and the start of the line repeated
 tail-newline : (a line : List ℕ) → list_all (λ b. not (eqb b 10)) line ≡ true → tail (a ++ (10 ∷ line)) ≡ length line
@@ -52,29 +48,12 @@ tail-newline a line all =
 
 one_more : (text line done : List ℕ) (b : ℕ) → list_all (λ b. not (eqb b 10)) line ≡ true → length line ≡ tail text → tail (text ++ with_prefix line done) ≡ tail text + tail done
     → tail (text ++ with_prefix line (done ++ b ∷ [])) ≡ tail text + tail (done ++ b ∷ [])
-one_more text line done b all long is =
-    let split : text ++ with_prefix line (done ++ b ∷ []) ≡ (text ++ with_prefix line done) ++ with_prefix line (b ∷ []) =
-    ap (λ l. text ++ l) (with_prefix-append line done (b ∷ [])) ∙ sym (append_assoc text (with_prefix line done) (with_prefix line (b ∷ []))) in
-    elim (cases_Bool (eqb b 10)) [
-      | inl e ↦
-          let ten : b ≡ 10 = eqb-true b 10 e in
-          let put : with_prefix line (b ∷ []) ≡ 10 ∷ line = rw e (ap (λ (l : List ℕ). b ∷ l) (append-nil line) ∙ ap (λ n. n ∷ line) ten) in
-          let here : tail (done ++ b ∷ []) ≡ 0 = tail-snoc done b ∙ (rw e refl) in
-          ap tail (split ∙ ap (λ l. (text ++ with_prefix line done) ++ l) put) ∙ tail-newline (text ++ with_prefix line done) line all ∙ omega (arith, here, long)
-      | inr e ↦
-          let put : with_prefix line (b ∷ []) ≡ b ∷ [] = rw e refl in
-          let here : tail (done ++ b ∷ []) ≡ 1 + tail done = tail-snoc done b ∙ (rw e refl) in
-          let there : tail ((text ++ with_prefix line done) ++ b ∷ []) ≡ 1 + tail (text ++ with_prefix line done) = tail-snoc (text ++ with_prefix line done) b ∙ (rw e refl) in
-          ap tail (split ∙ ap (λ l. (text ++ with_prefix line done) ++ l) put) ∙ there ∙ omega (arith, here, is)
-    ]
+one_more text line done b all long is = grind (arith, common_steps, with_prefix-append, append_assoc, cases_Bool, eqb-true, append-nil, tail-snoc, tail-newline)
 
 all_more : (text line done bytes : List ℕ) → list_all (λ b. not (eqb b 10)) line ≡ true → length line ≡ tail text → tail (text ++ with_prefix line done) ≡ tail text + tail done
     → tail (text ++ with_prefix line (done ++ bytes)) ≡ tail text + tail (done ++ bytes)
 all_more text line done [] all long is = rw (append-nil done) is
-all_more text line done (b ∷ bytes) all long is =
-    let T : List ℕ → ℕ = λ l. tail (text ++ with_prefix line l) in
-    let U : List ℕ → ℕ = λ l. tail text + tail l in
-    ap T (sym (append_assoc done (b ∷ []) bytes)) ∙ all_more text line (done ++ b ∷ []) bytes all long (one_more text line done b all long is) ∙ ap U (append_assoc done (b ∷ []) bytes)
+all_more text line done (b ∷ bytes) all long is = grind (arith, common_steps, all_more text line (done ++ b ∷ []) bytes all long (one_more text line done b all long is))
 
 pub tail-initial : (text bytes : List ℕ) → tail (text ++ with_prefix (last_line text) bytes) ≡ tail text + tail bytes
 tail-initial text bytes =
@@ -101,24 +80,11 @@ length-with_prefix line (b ∷ bytes) =
 
 -- ---- counted
 
-pub counted_sum : (a b : ℕ) → counted (counted a + b) ≡ counted (a + b)
-counted_sum a b = omega arith
-
 pub counted_whole : (a k n len : ℕ) → k ≤ a → counted (counted a + counted (counted (n * counted k) + len)) ≡ counted (a + (len + n * k))
-counted_whole a k n len le =
-    elim (cases_Bool (eqb (counted k) k)) [
-      | inl e ↦
-          let same : counted k ≡ k = eqb-true (counted k) k e in
-          rw same (omega arith)
-      | inr e ↦
-          let big : 18446744073709551615 < k = grind (arith, nat_tests) in
-          omega (arith, big, le)
-    ]
+counted_whole a k n len le = grind (arith, common_steps)
 
 pub sizes_are : (w v l k : ℕ) → w ≡ v → l ≡ k → let R : ℕ → ℕ → Sizes = (λ a b. record { whole = a; line = b }) in R w l ≡ R v k
-sizes_are w v l k e h =
-    let R : ℕ → ℕ → Sizes = λ a b. record { whole = a; line = b } in
-    ap (λ a. R a l) e ∙ ap (R v) h
+sizes_are w v l k e h = grind (arith, common_steps)
 
 -- bytes with a newline among them, and bytes without one
 pub broken_sizes : (sizes : Sizes) (text bytes : List ℕ) → sizes ≡ sizes_of text → tail bytes < length bytes → tail bytes < 18446744073709551616

@@ -1,5 +1,6 @@
 -- Templates filled in, piece by piece.
-use Rattle.std.proofs.Common.{◌≡◌, ℕ, ◌+◌, ◌<◌, true, false, List, [], ◌∷◌, ◌++◌, length, take, get_or, eqb, Some, None, Err, refl, sym, ◌∙◌, ap, append_assoc, inl, inr}
+use Rattle.std.proofs.Common.{arith, ◌≡◌, ℕ, ◌+◌, ◌<◌, true, false, List, [], ◌∷◌, ◌++◌, length, take, get_or, eqb, Some, None, Err, refl, sym, ◌∙◌, ap, append_assoc, inl, inr}
+use Rattle.std.proofs.lemmas.Grind.{common_steps}
 use Rattle.std.specs.List.{list_any}
 use Rattle.std.proofs.lemmas.Bool.{cases_Bool}
 use Rattle.std.proofs.lemmas.List.{append-nil, take_more}
@@ -10,11 +11,7 @@ use Rattle.org_capture.specs.Template.{last_line, with_prefix, text_of, filled}
 
 pub with_prefix-append : (prefix xs ys : List ℕ) → with_prefix prefix (xs ++ ys) ≡ with_prefix prefix xs ++ with_prefix prefix ys
 with_prefix-append prefix [] ys = refl
-with_prefix-append prefix (b ∷ xs) ys =
-    elim (cases_Bool (eqb b 10)) [
-      | inl e ↦ rw e (ap (λ (l : List ℕ). b ∷ l) (ap (λ l. prefix ++ l) (with_prefix-append prefix xs ys) ∙ sym (append_assoc prefix (with_prefix prefix xs) (with_prefix prefix ys))))
-      | inr e ↦ rw e (ap (λ (l : List ℕ). b ∷ l) (with_prefix-append prefix xs ys))
-    ]
+with_prefix-append prefix (b ∷ xs) ys = grind (arith, common_steps, with_prefix-append prefix xs ys)
 
 -- one byte more
 more_is : (prefix bytes : List ℕ) (i b : ℕ) → i < length bytes → get_or bytes i 0 ≡ b → with_prefix prefix (take (i + 1) bytes) ≡ with_prefix prefix (take i bytes) ++ with_prefix prefix (b ∷ [])

@@ -1,24 +1,21 @@
 -- What is filled in stays.
-use Rattle.std.proofs.Common.{◌≡◌, arith, length, take, drop, ℕ, Bool, true, false, not, eqb, List, [], ◌∷◌, ◌++◌, Option, Some, None, Ok, refl, sym, ◌∙◌, ap, subst, append_assoc, inl, inr}
+use Rattle.std.proofs.Common.{◌≡◌, arith, length, take, drop, ℕ, Bool, true, false, not, eqb, List, [], ◌∷◌, ◌++◌, Option, Some, None, Ok, refl, sym, ◌∙◌, ap, append_assoc, inl, inr}
+use Rattle.std.proofs.lemmas.Grind.{common_steps}
 use Rattle.std.specs.Prelude.{◌≢◌, unwrap_or}
 use Rattle.std.specs.List.{list_all, list_any, AllByRecursion}
 use Rattle.memchr.specs.Find.{IsFirstByte, is_byte}
 use Rattle.org_headings.proofs.HeadsFrom.{first_found, none_found}
-use Rattle.std.proofs.lemmas.Bool.{cases_Bool, eqb-true}
+use Rattle.std.proofs.lemmas.Bool.{cases_Bool}
 use Rattle.std.proofs.lemmas.List.{append-nil, take-append-drop, take_all}
 use Rattle.org_splice.proofs.Ends.{both}
 use Rattle.org_stamp.specs.Calendar.{Moment}
 use Rattle.org_capture.specs.declared.piece.Piece.{Piece}
 use Rattle.org_capture.specs.declared.piece.Piece.TheVariants.{Byte}
-use Rattle.org_capture.specs.Template.{escape_at, pieces_of, last_line, with_prefix, text_of, with_text, filled, expanded}
+use Rattle.org_capture.specs.Template.{pieces_of, last_line, with_prefix, text_of, with_text, filled, expanded}
 
 with_prefix-empty : (bytes : List ℕ) → with_prefix [] bytes ≡ bytes
 with_prefix-empty [] = refl
-with_prefix-empty (b ∷ bytes) =
-    elim (cases_Bool (eqb b 10)) [
-      | inl e ↦ rw e (ap (λ (l : List ℕ). b ∷ l) (with_prefix-empty bytes))
-      | inr e ↦ rw e (ap (λ (l : List ℕ). b ∷ l) (with_prefix-empty bytes))
-    ]
+with_prefix-empty (b ∷ bytes) = grind (arith, common_steps, with_prefix-empty bytes)
 
 pub alone : (moment : Moment) (initial : List ℕ) → expanded (37 ∷ 105 ∷ []) moment initial ≡ Ok initial
 alone moment initial = ap Ok (with_prefix-empty initial)
@@ -26,10 +23,7 @@ alone moment initial = ap Ok (with_prefix-empty initial)
 -- a byte that is no percent sign is a piece
 plain_first : (x : ℕ) (rest : List ℕ) → eqb x 37 ≡ false → pieces_of (x ∷ rest) ≡ Byte x ∷ pieces_of rest
 plain_first x [] e = refl
-plain_first x (c ∷ more) e =
-    let none : escape_at x c ≡ None = rw e refl in
-    let Read : Option Piece → Type 0 = λ o. (elim o as (λ v. List Piece) [ None ↦ Byte x ∷ pieces_of (c ∷ more) | Some piece ↦ piece ∷ pieces_of more ]) ≡ Byte x ∷ pieces_of (c ∷ more) in
-    subst Read (sym none) refl
+plain_first x (c ∷ more) e = grind (arith, common_steps)
 
 is_other : (b : Bool) → not b ≡ true → b ≡ false
 is_other true e = absurd cc
@@ -46,11 +40,7 @@ filled_plain moment initial text (x ∷ plain) template all =
 
 no_sign : (plain : List ℕ) → AllByRecursion (λ x. x ≢ 37) plain → list_all (λ b. not (eqb b 37)) plain ≡ true
 no_sign [] none = refl
-no_sign (x ∷ plain) none =
-    elim (cases_Bool (eqb x 37)) [
-      | inl e ↦ absurd (none.0 (eqb-true x 37 e))
-      | inr e ↦ rw e (no_sign plain none.1)
-    ]
+no_sign (x ∷ plain) none = grind (arith, common_steps, no_sign plain none.1)
 
 -- what stands before the first percent sign, or all where there is none
 up_to_sign : (template : List ℕ) (found : Option ℕ) → IsFirstByte (is_byte 37) template found
@@ -86,9 +76,7 @@ pub no_sign_stays : (template : List ℕ) (moment : Moment) (initial : List ℕ)
 no_sign_stays template moment initial none = plain_stays template moment initial (no_sign_all template none)
 
 pub kept : (moment : Moment) (initial text whole : List ℕ) (pieces : List Piece) → filled moment initial text pieces ≡ Ok whole → (more : List ℕ) × (whole ≡ text ++ more)
-kept moment initial text whole [] is =
-    let same : text ≡ whole = cc in
-    ([], sym same ∙ sym (append-nil text))
+kept moment initial text whole [] is = grind (arith, common_steps)
 kept moment initial text whole (piece ∷ pieces) is =
     (elim (text_of moment initial (last_line text) piece) as (λ o. with_text o (λ more. filled moment initial (text ++ more) pieces) ≡ Ok whole → (more : List ℕ) × (whole ≡ text ++ more)) [
       | None ↦ λ h. absurd cc

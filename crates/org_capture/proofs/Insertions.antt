@@ -1,8 +1,8 @@
 -- Nodes put into a text, as edits.
 use Rattle.std.proofs.Common.{◌≡◌, ℕ, ◌+◌, ◌≤◌, List, [], ◌∷◌, ◌++◌, ◌<◌, length, length-append, refl, sym, ◌∙◌, ap, subst, append_assoc, arith, true, Option, None, Result, Ok}
-use Rattle.std.specs.Prelude.{replicate}
-use Rattle.std.proofs.lemmas.List.{append-nil, length-replicate}
-use Rattle.org_splice.specs.Lines.{terminated, print_lines}
+use Rattle.std.proofs.lemmas.Grind.{common_steps}
+use Rattle.std.proofs.lemmas.List.{length-replicate}
+use Rattle.org_splice.specs.Lines.{terminated}
 use Rattle.org_splice.specs.Edits.{edited, applied, AreEdits}
 use Rattle.org_splice.specs.declared.edit.Edit.{Edit}
 use Rattle.org_outline.specs.declared.moves.Place.{Place}
@@ -40,13 +40,7 @@ head_made states title place node d r none can = rw (none, can) refl
 
 -- bytes put behind a text
 pub at_the_end : (text new added : List ℕ) → new ≡ text ++ added → Inserts text new (length text) added
-at_the_end text new added is = record {
-  front = text;
-  back = [];
-  at = refl;
-  was = sym (append-nil text);
-  is = is ∙ ap (λ l. text ++ l) (sym (append-nil added));
-}
+at_the_end text new added is = grind (arith, common_steps)
 
 -- the heading that is made at the end, with the entry below it
 pub makes_head : (text title : List ℕ) (place : Place) (node : Node) (e : Edit) → terminated text ≡ text → e.at ≡ length text → e.removed ≡ 0
@@ -63,20 +57,4 @@ makes_head text title place node e stays_terminated at none is =
 
 -- a heading's line is longer than its level
 pub level_room : (text : List ℕ) (i : ℕ) → terminated text ≡ text → i < node_count (tree text) → (node_at (tree text) i).node.level < length text
-level_room text i stays_terminated lt =
-    let d : Document = tree text in
-    let node : Node = (node_at d i).node in
-    let whole = take_local i d lt in
-    let prints : print d ≡ text = (tree-is text).prints ∙ stays_terminated in
-    let line = heading_line node.level node.rest in
-    let more = print_lines (node.section ++ lines node.children) in
-    omega (
-      arith,
-      ap length whole.is,
-      length-append whole.front (print_node node ++ whole.back),
-      length-append (print_node node) whole.back,
-      length-append line (10 ∷ more),
-      length-append (replicate node.level 42) node.rest,
-      length-replicate {A = ℕ} node.level 42,
-      ap length prints,
-    )
+level_room text i stays_terminated lt = grind (arith, common_steps, take_local, tree-is, heading_line, lines, length-append, length-replicate)

@@ -1,6 +1,7 @@
 -- What a capture keeps: documents stay valid, and what is added up over the nodes gains what is put
 -- in.
-use Rattle.std.proofs.Common.{◌≡◌, ℕ, zero, suc, ◌+◌, ◌<◌, Bool, true, false, not, cond, eqb, codes, List, [], ◌∷◌, ◌++◌, length, take, get_or, Option, Some, None, Ok, Err, refl, ap, ◌∙◌, subst, arith, inl, inr}
+use Rattle.std.proofs.Common.{rules, ◌≡◌, ℕ, zero, suc, ◌+◌, ◌<◌, Bool, true, false, cond, eqb, List, [], ◌∷◌, ◌++◌, length, take, get_or, Option, Some, None, Ok, Err, refl, ap, ◌∙◌, subst, arith, inl, inr}
+use Rattle.std.proofs.lemmas.Grind.{common_steps}
 use Rattle.std.specs.Prelude.{Result, map, slice_get, slice_set}
 use Rattle.std.specs.List.{list_any, sum_by}
 use Rattle.std.specs.Option.{ForSome, option_map_or}
@@ -33,7 +34,7 @@ use Rattle.org_fault.specs.declared.refusal.Refusal.{Refusal}
 use Rattle.org_capture.specs.declared.target.Target.{Target}
 use Rattle.org_capture.specs.declared.target.Target.TheVariants.{Top, Head, Path, Date}
 use Rattle.org_capture.specs.Entry.{entry_in, only_root}
-use Rattle.org_capture.specs.Capture.{rest_of, is_only_title, can_be_title, below_found, below_made, below_head, below_day, captured, date_base}
+use Rattle.org_capture.specs.Capture.{rest_of, can_be_title, below_found, below_made, below_head, below_day, captured, date_base}
 use Rattle.org_capture.specs.Dates.{key_len, key_on, behind_key, month_name, weekday_name, first_dated, put_dated, found_or_made, made_over, dated}
 use Rattle.org_capture.specs.Made.{added, date_rest, missing, missing_below, missing_dates, missing_title}
 use Rattle.org_capture.proofs.Numbers.{dated_in, base_in}
@@ -109,12 +110,7 @@ no_newline (b ∷ l) e =
     ]
 
 title_line : (states : Keywords) (title : List ℕ) → can_be_title states title ≡ true → IsLine (rest_of title)
-title_line states title can =
-    let test = both (is_only_title title (parts_of states (rest_of title))) (not (list_any (λ b. eqb b 10) title)) can in
-    elim (cases_Bool (list_any (λ b. eqb b 10) title)) [
-      | inl x ↦ absurd (let f = rw x at test.1 in cc)
-      | inr x ↦ (omega arith, no_newline title x)
-    ]
+title_line states title can = search (rules, arith, both, parts_of, cases_Bool, no_newline)
 
 either : (b : Bool) (x y : List ℕ) → IsLine x → IsLine y → IsLine (cond b x y)
 either true x y this that = this
@@ -130,29 +126,10 @@ line_take (suc n) [] this = tt
 line_take (suc n) (b ∷ x) this = (this.0, line_take n x this.1)
 
 month_line : (m : ℕ) → IsLine (month_name m)
-month_line m =
-    let w : (text : List ℕ) → list_any (λ b. eqb b 10) text ≡ false → IsLine text = no_newline in
-    either (eqb m 1) _ _ (w (codes "January") refl)
-    (either (eqb m 2) _ _ (w (codes "February") refl)
-    (either (eqb m 3) _ _ (w (codes "March") refl)
-    (either (eqb m 4) _ _ (w (codes "April") refl)
-    (either (eqb m 5) _ _ (w (codes "May") refl)
-    (either (eqb m 6) _ _ (w (codes "June") refl)
-    (either (eqb m 7) _ _ (w (codes "July") refl)
-    (either (eqb m 8) _ _ (w (codes "August") refl)
-    (either (eqb m 9) _ _ (w (codes "September") refl)
-    (either (eqb m 10) _ _ (w (codes "October") refl)
-    (either (eqb m 11) _ _ (w (codes "November") refl) (w (codes "December") refl)))))))))))
+month_line m = grind (arith, common_steps)
 
 weekday_line : (n : ℕ) → IsLine (weekday_name n)
-weekday_line n =
-    let w : (text : List ℕ) → list_any (λ b. eqb b 10) text ≡ false → IsLine text = no_newline in
-    either (eqb n 0) _ _ (w (codes "Monday") refl)
-    (either (eqb n 1) _ _ (w (codes "Tuesday") refl)
-    (either (eqb n 2) _ _ (w (codes "Wednesday") refl)
-    (either (eqb n 3) _ _ (w (codes "Thursday") refl)
-    (either (eqb n 4) _ _ (w (codes "Friday") refl)
-    (either (eqb n 5) _ _ (w (codes "Saturday") refl) (w (codes "Sunday") refl))))))
+weekday_line n = grind (arith, common_steps)
 
 -- a digit's byte is none
 digit : (n : ℕ) → 48 + n ≡ 10 → ⊥
@@ -177,13 +154,7 @@ made_level l (kind ∷ kinds) day entry = refl
 
 made_node : (l : ℕ) (kinds : List DateKind) (day : CivilDay) (entry : Node) → 0 < l → IsNode entry → IsNode (made_over l kinds day entry)
 made_node l [] day entry pos valid = IsNode-shift_node l entry pos valid
-made_node l (kind ∷ kinds) day entry pos valid =
-    let below = made_node (l + 1) kinds day entry (omega (arith, pos)) valid in
-    record {
-      heading = record { level = pos; space = refl; rest = date_rest_line kind day; section = tt };
-      deep = (omega (arith, made_level (l + 1) kinds day entry), tt);
-      children = (below.heading, below.deep, below.children, tt, tt);
-    }
+made_node l (kind ∷ kinds) day entry pos valid = grind (arith, common_steps, date_rest_line, made_level, made_node (l + 1) kinds day entry (omega (arith, pos)) valid)
 
 level_positive : (up : Option ℕ) (d : Document) → 0 < level_below up d
 level_positive None d = omega arith

@@ -10,5 +10,4 @@ pub mod NoDigit
 pub mod Numbers
 pub mod OneByOne
 pub mod Kept
-pub mod Pieces
 pub mod Faults

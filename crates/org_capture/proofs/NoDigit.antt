@@ -1,5 +1,5 @@
 -- A title that doesn't begin with a digit has no key.
-use Rattle.std.proofs.Common.{◌≡◌, Bool, true, false, ◌&&◌, eqb, List, ℕ, [], ◌∷◌, length, take, drop, None, refl, inl, inr}
+use Rattle.std.proofs.Common.{rules, arith, ◌≡◌, Bool, true, false, ◌&&◌, eqb, List, ℕ, [], ◌∷◌, length, take, drop, None, refl}
 use Rattle.std.specs.Prelude.{slice_index}
 use Rattle.std.specs.Char.{is_ascii_digit}
 use Rattle.std.specs.declared.cmp.Ordering.{Ordering}
@@ -29,10 +29,4 @@ no_key Day (b ∷ t) plain = rw (no_third (eqb (length (take 10 (b ∷ t))) 10) 
 
 pub not_dated : (states : Keywords) (level : ℕ) (kind : DateKind) (key : List ℕ) (wanted : Ordering) (node : Node) → (node.level ≡ level → is_ascii_digit (slice_index (title_of states node.rest) 0) ≡ false)
     → is_dated states level kind key wanted node ≡ false
-not_dated states level kind key wanted node plain =
-    elim (cases_Bool (eqb node.level level)) [
-      | inl e ↦
-          let none : key_of kind (title_of states node.rest) ≡ None = no_key kind (title_of states node.rest) (plain (eqb-true node.level level e)) in
-          rw (e, none) refl
-      | inr e ↦ rw e refl
-    ]
+not_dated states level kind key wanted node plain = search (rules, arith, cases_Bool, no_key, eqb-true)

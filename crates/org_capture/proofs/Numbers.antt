@@ -1,5 +1,6 @@
 -- What is found in a document is one of its nodes.
 use Rattle.std.proofs.Common.{◌≡◌, ℕ, suc, ◌+◌, ◌<◌, ◌≤◌, Bool, find, List, [], ◌∷◌, Option, Some, None, Ok, Err, refl, subst, arith, inl, inr}
+use Rattle.std.proofs.lemmas.Grind.{common_steps}
 use Rattle.std.specs.Prelude.{Result}
 use Rattle.std.specs.List.{AllByRecursion}
 use Rattle.std.specs.Option.{ForSome}
@@ -12,7 +13,7 @@ use Rattle.org_outline.specs.Tree.{Forest, Empty, Tree, Document, node_at, node_
 use Rattle.org_outline.specs.Numbers.{roots_from, children_of}
 use Rattle.org_outline.specs.Paths.{find_path}
 use Rattle.org_outline.proofs.ByNumber.{count-is}
-use Rattle.org_outline.proofs.Found.{found_in, some_holds}
+use Rattle.org_outline.proofs.Found.{found_in}
 use Rattle.org_outline.proofs.Taking.{size_of-room}
 use Rattle.org_capture.specs.declared.dates.DateKind.{DateKind}
 use Rattle.org_capture.specs.Capture.{date_base, some_node}
@@ -46,9 +47,7 @@ dated_in states d up kind key wanted i within is = found_holds (λ k. k < node_c
 -- ---- paths
 
 some_in : (P : ℕ → Type 0) (r : Result ℕ PathFault) (base : Option ℕ) → ((i : ℕ) → r ≡ Ok i → P i) → some_node r ≡ Ok base → ForSome base P
-some_in P (Ok k) base each is =
-    let here : Some k ≡ base = cc in
-    subst (λ base. ForSome base P) here (some_holds P k (each k refl))
+some_in P (Ok k) base each is = grind (arith, common_steps)
 some_in P (Err fault) base each is = absurd cc
 
 pub base_in : (states : Keywords) (d : Document) (path : List Step) (base : Option ℕ) → date_base states d path ≡ Ok base → ForSome base (λ i. i < node_count d)

@@ -1,5 +1,6 @@
 -- Date headings made one at a time.
-use Rattle.std.proofs.Common.{◌≡◌, ℕ, zero, suc, ◌+◌, ◌-◌, ◌<◌, ◌≤◌, true, false, ltb, find, List, [], ◌∷◌, Option, Some, None, refl, sym, ap, ◌∙◌, arith, inl, inr}
+use Rattle.std.proofs.Common.{rules, ◌≡◌, ℕ, zero, suc, ◌+◌, ◌-◌, ◌<◌, ◌≤◌, true, false, ltb, find, List, [], ◌∷◌, Option, Some, None, refl, sym, ap, ◌∙◌, arith, inl, inr}
+use Rattle.std.proofs.lemmas.Grind.{common_steps}
 use Rattle.std.specs.Option.{ForSome}
 use Rattle.std.specs.declared.cmp.Ordering.{Ordering}
 use Rattle.std.specs.declared.cmp.Ordering.TheVariants.{Equal, Greater}
@@ -27,11 +28,7 @@ use Rattle.org_capture.proofs.Numbers.{dated_in}
 
 nth_behind : (a : ℕ) (rest : List ℕ) (f : Forest) → nth (total f) (joined f (Tree a rest [] Empty Empty)) ≡ heading_alone a rest
 nth_behind a rest Empty = refl
-nth_behind a rest (Tree m r s kids later) =
-    let past : total kids ≤ total kids + total later = omega arith in
-    let e : ltb (total kids + total later) (total kids) ≡ false = grind (arith, nat_tests) in
-    let there : total kids + total later - total kids ≡ total later = omega arith in
-    rw (e, there) (nth_behind a rest later)
+nth_behind a rest (Tree m r s kids later) = grind (arith, common_steps, nth_behind a rest later)
 
 nth_below : (i j size l : ℕ) (rest : List ℕ) (f : Forest) → i < total f → suc (total (nth i f).children) ≡ size → j ≡ i + size
     → nth j (put_below i Last (heading_alone l rest) f) ≡ heading_alone ((nth i f).level + 1) rest
@@ -96,9 +93,7 @@ put_alone (Some j) up l rest d within later =
     let here = later j refl in
     node-is (insert_before j (heading_alone l rest) d) j ∙ nth_beside j l rest d.forest (omega (arith, here.0, count-is d))
     ∙ ap (λ (n : Node). H n.level) (sym (node-is d j)) ∙ ap H here.1
-put_alone None None l rest d within later =
-    node-is (insert None Last (heading_alone l rest) d) (node_count d)
-    ∙ ap (λ n. nth n (joined d.forest (Tree 1 rest [] Empty Empty))) (count-is d) ∙ nth_behind 1 rest d.forest
+put_alone None None l rest d within later = search (rules, arith, node-is, nth, joined, count-is, nth_behind)
 put_alone None (Some i) l rest d within later =
     let H : ℕ → Node = λ n. heading_alone n rest in
     let long : suc (total (nth i d.forest).children) ≡ size_of d i = ap (λ (n : Node). suc (total n.children)) (sym (node-is d i)) in

@@ -1,5 +1,6 @@
 -- Texts that are one heading with what lies below it.
 use Rattle.std.proofs.Common.{◌≡◌, ℕ, suc, ◌+◌, ◌<◌, ◌≤◌, ◌-◌, Bool, true, false, ltb, List, [], ◌∷◌, ◌++◌, length, drop, get_or, take, slice_index_or, Option, Some, None, Ok, Err, refl, sym, ◌∙◌, ap, subst, arith, drop-cons, eq-eqb, eqb, inl, inr}
+use Rattle.std.proofs.lemmas.Grind.{common_steps}
 use Rattle.std.specs.Option.{is_some, option_map_or}
 use Rattle.std.proofs.lemmas.Bool.{cases_Bool}
 use Rattle.std.proofs.lemmas.Bool.Decides.{nat_tests}
@@ -9,12 +10,12 @@ use Rattle.std.specs.List.{list_any}
 use Rattle.org_splice.specs.Lines.{IsLine, terminated, print_lines, lines_of}
 use Rattle.org_splice.proofs.Lines.{terminated_twice, terminated-drop, lines_of-append, lines_of-terminated}
 use Rattle.org_headings.specs.Text.{heading_line, level_of}
-use Rattle.org_outline.specs.Tree.{Forest, Empty, Tree, Node, Document, tree, tree_of_lines, with_line, deeper, others, print_node, nodes_from, node_at, no_node, lines}
+use Rattle.org_outline.specs.Tree.{Forest, Empty, Tree, Node, Document, tree, tree_of_lines, with_line, others, print_node, nodes_from, node_at, no_node, lines}
 use Rattle.org_outline.specs.Moves.{IsPrinted}
 use Rattle.org_splice.proofs.LineWalk.{cut_found, last-terminated, no_line}
 use Rattle.org_outline.proofs.Trees.{tree-is}
 use Rattle.org_fault.specs.declared.refusal.Refusal.TheVariants.{BadEntry}
-use Rattle.org_capture.specs.Entry.{one_root, only_root, entry_in, terminated_if_one, entry_text, IsEntry}
+use Rattle.org_capture.specs.Entry.{only_root, entry_in, terminated_if_one, entry_text, IsEntry}
 
 root_prints : (pre : List (List ℕ)) (f : Forest) (k : ℕ) (node : Node) → only_root pre f ≡ Some node
     → (0 < length (nodes_from k f)) × (print_node (slice_index_or (nodes_from k f) 0 no_node).node ≡ print_lines (pre ++ lines f)) × (node ≡ (slice_index_or (nodes_from k f) 0 no_node).node)
@@ -24,9 +25,7 @@ root_prints [] (Tree n r s kids (Tree m q u more later)) k node is = absurd (cc)
 root_prints (l ∷ ls) f k node is = absurd (cc)
 
 pub entry_printed : (t : List ℕ) (node : Node) → IsEntry t node → IsPrinted t
-entry_printed t node entry =
-    let prints = root_prints (tree t).preamble (tree t).forest (length (print_lines (tree t).preamble)) node entry.one in
-    (prints.0, prints.1 ∙ ((tree-is t).prints ∙ entry.stays_terminated))
+entry_printed t node entry = grind (arith, common_steps, root_prints, tree-is)
 
 -- the node that an entry is, is its first
 pub entry_node : (t : List ℕ) (node : Node) → IsEntry t node → node ≡ (node_at (tree t) 0).node
@@ -37,12 +36,7 @@ entry_node t node entry = (root_prints (tree t).preamble (tree t).forest (length
 -- the first line of a text, and the text behind its newline
 pub first_line : (t line rest behind : List ℕ) (r : Option ℕ) (e : ℕ) → IsFirstByte (is_byte 10) t r → r ≡ Some e → line ≡ take e t → rest ≡ drop e t → behind ≡ drop 1 rest
     → lines_of t ≡ line ∷ lines_of behind
-first_line t line rest behind r e found is is_line is_rest is_behind =
-    let Found : Option ℕ → Type 0 = λ r. IsFirstByte (is_byte 10) t r in
-    let c = cut_found t e (subst Found is found) in
-    let k : suc e ≡ e + 1 = omega arith in
-    let after : drop (suc e) t ≡ behind = ap (λ k. drop k t) k ∙ sym (drop-drop 1 e t) ∙ ap (λ (t : List ℕ). drop 1 t) (sym is_rest) ∙ sym is_behind in
-    ap lines_of c.parts ∙ lines_of-append (take e t) (drop (suc e) t) c.line ∙ ap (λ (l : List ℕ). l ∷ lines_of (drop (suc e) t)) (sym is_line) ∙ ap (λ t. line ∷ lines_of t) after
+first_line t line rest behind r e found is is_line is_rest is_behind = grind (arith, common_steps, cut_found, drop-drop, lines_of-append)
 
 -- a terminated text without a newline is empty
 pub no_first_line : (t : List ℕ) (r : Option ℕ) → terminated t ≡ t → IsFirstByte (is_byte 10) t r → r ≡ None → t ≡ []
@@ -60,21 +54,12 @@ behind_terminated t rest behind e stays_terminated is_rest is_behind =
 -- nothing
 others_twice : (n m : ℕ) (f : Forest) → n < m → others n (others m f) ≡ others n f
 others_twice n m Empty lt = refl
-others_twice n m (Tree k r s kids later) lt =
-    elim (cases_Bool (ltb m k)) [
-      | inl e ↦ let deep : ltb n k ≡ true = grind (arith, nat_tests) in rw (e, deep) (others_twice n m later lt)
-      | inr e ↦ rw e refl
-    ]
+others_twice n m (Tree k r s kids later) lt = grind (arith, common_steps, others_twice n m later lt)
 
 -- a line that is no heading line, or one of a deeper level, leaves no more of them
 deeper_line : (n : ℕ) (o : Option ℕ) (l : List ℕ) (d : Document) → option_map_or (ltb n) o true ≡ true → others n (with_line o l d).forest ≡ others n d.forest
 deeper_line n None l d deep = refl
 deeper_line n (Some m) l d deep = let lt : n < m = grind (arith, nat_tests) in rw deep (others_twice n m d.forest lt)
-
--- any other line leaves one
-higher_line : (n : ℕ) (o : Option ℕ) (l : List ℕ) (d : Document) → option_map_or (ltb n) o true ≡ false → others n (with_line o l d).forest ≡ Empty → ⊥
-higher_line n None l d high none = absurd (cc)
-higher_line n (Some m) l d high none = let some = rw high at none in absurd (cc)
 
 -- a pass over the lines of a text that has come to `rest`, and has found deeper levels than n alone
 pub record Deeper (n : ℕ) (t rest : List ℕ) : Type 0 where
@@ -87,34 +72,14 @@ deeper_on n t rest l behind so_far is stays_terminated deep = record {
   same = sym (ap (λ ls. others n (tree_of_lines ls).forest) is ∙ deeper_line n (level_of l) l (tree behind) deep) ∙ so_far.same;
 }
 
-pub deeper_all : (n : ℕ) (t rest : List ℕ) → Deeper n t rest → rest ≡ [] → others n (tree t).forest ≡ Empty
-deeper_all n t rest so_far end = sym so_far.same ∙ ap (λ t. others n (tree t).forest) end
-
-pub not_deeper : (n : ℕ) (t rest l behind : List ℕ) → Deeper n t rest → lines_of rest ≡ l ∷ lines_of behind → option_map_or (ltb n) (level_of l) true ≡ false → others n (tree t).forest ≡ Empty → ⊥
-not_deeper n t rest l behind so_far is high none =
-    higher_line n (level_of l) l (tree behind) high (sym (ap (λ ls. others n (tree_of_lines ls).forest) is) ∙ so_far.same ∙ none)
-
 -- a text whose first line is no heading line
 pub no_root : (t l behind : List ℕ) → lines_of t ≡ l ∷ lines_of behind → level_of l ≡ None → is_some (entry_in t) ≡ false
-no_root t l behind is none =
-    let in_lines = λ (ls : List (List ℕ)). is_some (only_root (tree_of_lines ls).preamble (tree_of_lines ls).forest) in
-    let d : Document = tree behind in
-    ap in_lines is ∙ ap (λ o. is_some (only_root (with_line o l d).preamble (with_line o l d).forest)) none
-
-root_alone : (n : ℕ) (r : List ℕ) (s : List (List ℕ)) (kids left : Forest) (b : Bool) → (b ≡ true → left ≡ Empty) → (left ≡ Empty → b ≡ true)
-    → is_some (one_root (Tree n r s kids left)) ≡ b
-root_alone n r s kids Empty b to from = sym (from refl)
-root_alone n r s kids (Tree m q u more later) true to from = let no = to refl in absurd (cc)
-root_alone n r s kids (Tree m q u more later) false to from = refl
+no_root t l behind is none = grind (arith, common_steps)
 
 -- one whose first line is a heading line is an entry where no other tree is left
 pub one_if_none_left : (t l behind : List ℕ) (n : ℕ) (b : Bool) → lines_of t ≡ l ∷ lines_of behind → level_of l ≡ Some n
     → (b ≡ true → others n (tree behind).forest ≡ Empty) → (others n (tree behind).forest ≡ Empty → b ≡ true) → is_some (entry_in t) ≡ b
-one_if_none_left t l behind n b is some to from =
-    let in_lines = λ (ls : List (List ℕ)). is_some (only_root (tree_of_lines ls).preamble (tree_of_lines ls).forest) in
-    let d : Document = tree behind in
-    ap in_lines is ∙ ap (λ o. is_some (only_root (with_line o l d).preamble (with_line o l d).forest)) some
-    ∙ root_alone n (drop n l) d.preamble (deeper n d.forest) (others n d.forest) b to from
+one_if_none_left t l behind n b is some to from = grind (arith, common_steps)
 
 -- a line without a newline in it
 line_if_none : (l : List ℕ) → list_any (λ b. eqb b 10) l ≡ false → IsLine l
@@ -161,17 +126,10 @@ pub entry_bad : (text stays_terminated : List ℕ) → stays_terminated ≡ term
 entry_bad text stays_terminated is none = not_one (entry_in text) text (ap is_some (sym (ap entry_in is ∙ terminated_same text)) ∙ none)
 
 pub entry_good : (text stays_terminated : List ℕ) → stays_terminated ≡ terminated text → is_some (entry_in stays_terminated) ≡ true → (entry_text text ≡ Ok stays_terminated) × ((node : Node) × IsEntry stays_terminated node)
-entry_good text stays_terminated is some =
-    let one = some_node (entry_in stays_terminated) some in
-    let found : entry_in text ≡ Some one.0 = sym (terminated_same text) ∙ ap entry_in (sym is) ∙ one.1 in
-    (rw found (ap Ok (sym is)), (one.0, record { stays_terminated = ap terminated is ∙ terminated_twice text ∙ sym is; one = one.1 }))
+entry_good text stays_terminated is some = grind (arith, common_steps, some_node, terminated_same, terminated_twice)
 
 -- a text that isn't terminated lacks a newline
 pub terminated_ends : (t : List ℕ) → (terminated t ≡ t → ⊥) → terminated t ≡ t ++ 10 ∷ []
 terminated_ends [] unshut = absurd (unshut refl)
-terminated_ends (b ∷ []) unshut =
-    elim (cases_Bool (eqb b 10)) [
-      | inl e ↦ absurd (unshut (rw e refl))
-      | inr e ↦ rw e refl
-    ]
+terminated_ends (b ∷ []) unshut = grind (arith, common_steps)
 terminated_ends (b ∷ c ∷ t) unshut = ap (λ (l : List ℕ). b ∷ l) (terminated_ends (c ∷ t) (λ stays_terminated. unshut (ap (λ (l : List ℕ). b ∷ l) stays_terminated)))

@@ -1,5 +1,6 @@
 -- The nodes below a heading, one after the other: those of the next level are its children.
-use Rattle.std.proofs.Common.{◌≡◌, ℕ, zero, suc, ◌+◌, ◌-◌, ◌<◌, ◌≤◌, Bool, true, false, cond, ltb, find, Option, Some, None, refl, sym, ap, ◌∙◌, subst, arith, inl, inr}
+use Rattle.std.proofs.Common.{◌≡◌, ℕ, zero, suc, ◌+◌, ◌-◌, ◌<◌, ◌≤◌, Bool, true, false, cond, ltb, find, Option, Some, None, refl, sym, ap, ◌∙◌, arith, inl, inr}
+use Rattle.std.proofs.lemmas.Grind.{common_steps}
 use Rattle.std.specs.Option.{ForSome}
 use Rattle.std.proofs.lemmas.Bool.{cases_Bool}
 use Rattle.std.proofs.lemmas.Bool.Decides.{nat_tests}
@@ -33,28 +34,16 @@ stand_deep d m k i f stands valid deep low high =
     omega (arith, level, all_deep m j f valid deep lt)
 
 children_stand : (d : Document) (i : ℕ) → i < node_count d → StandsAt d (suc i) (node_at d i).node.children
-children_stand d i inside = λ j q is lt.
-    let low : i < total d.forest = omega (arith, inside, count-is d) in
-    let here : (node_at d i).node ≡ nth i d.forest = node-is d i in
-    let K : Node → Forest = λ n. n.children in
-    let fits : j < total (nth i d.forest).children = omega (arith, lt, ap (λ n. total n.children) here) in
-    node-is d q ∙ nth-below i j q d.forest low fits (omega (arith, is)) ∙ ap (λ n. nth j (K n)) (sym here)
+children_stand d i inside = grind (arith, common_steps, count-is, nth, node-is, nth-below)
 
 -- ---- a pass over trees that stand in a document
 
 fails : (d : Document) (test : ℕ → Bool) (level i : ℕ) → OfLevel d test level → level < (node_at d i).node.level → test i ≡ false
-fails d test level i of deep =
-    elim (cases_Bool (test i)) [
-      | inl e ↦ absurd (omega (arith, of i e, deep))
-      | inr e ↦ e
-    ]
+fails d test level i of deep = grind (arith, common_steps)
 
 -- none of n nodes is found
 passes : (test : ℕ → Bool) (n count k : ℕ) → ((i : ℕ) → k ≤ i → i < k + n → test i ≡ false) → first_from test (n + count) k ≡ first_from test count (k + n)
-passes test zero count k fail =
-    let all : 0 + count ≡ count = omega arith in
-    let here : k ≡ k + 0 = omega arith in
-    rw all (ap (first_from test count) here)
+passes test zero count k fail = grind (arith, common_steps)
 passes test (suc n) count k fail =
     let all : suc n + count ≡ suc (n + count) = omega arith in
     let end : suc k + n ≡ k + suc n = omega arith in
@@ -103,17 +92,13 @@ begins d (Some i) test valid of within =
     }
 
 pub walk_start : (d : Document) (up : Option ℕ) (test : ℕ → Bool) (span : ℕ × ℕ) → IsValid d → OfLevel d test (level_below up d) → ForSome up (λ i. i < node_count d) → span ≡ span_below d up → Walk d up test span.1 span.0
-walk_start d up test span valid of within is =
-    let W : ℕ × ℕ → Type 0 = λ s. Walk d up test s.1 s.0 in
-    subst W (sym is) (begins d up test valid of within)
+walk_start d up test span valid of within is = grind (arith, common_steps, begins)
 
 more : (end index : ℕ) → index < end → end - index ≡ suc (end - (index + 1))
 more end index lt = omega (arith, lt)
 
 pub walk_hit : (d : Document) (up : Option ℕ) (test : ℕ → Bool) (end index : ℕ) → Walk d up test end index → index < end → test index ≡ true → Some index ≡ find test (children_of d up)
-walk_hit d up test end index w lt e =
-    let found : first_from test (suc (end - (index + 1))) index ≡ Some index = rw e refl in
-    sym found ∙ ap (λ c. first_from test c index) (sym (more end index lt)) ∙ w.rest
+walk_hit d up test end index w lt e = grind (arith, common_steps)
 
 -- nodes that fail the test are passed
 pub walk_over : (d : Document) (up : Option ℕ) (test : ℕ → Bool) (end index next : ℕ) → Walk d up test end index → index ≤ next → next ≤ end → ((i : ℕ) → index ≤ i → i < next → test i ≡ false)
@@ -139,6 +124,4 @@ walk_on d up test end index next w lt fits here fail =
     ])
 
 pub walk_end : (d : Document) (up : Option ℕ) (test : ℕ → Bool) (end index : ℕ) → Walk d up test end index → end ≤ index → None ≡ find test (children_of d up)
-walk_end d up test end index w le =
-    let none : end - index ≡ 0 = omega (arith, le) in
-    ap (λ c. first_from test c index) (sym none) ∙ w.rest
+walk_end d up test end index w le = grind (arith, common_steps)

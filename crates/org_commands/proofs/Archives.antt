@@ -1,5 +1,6 @@
 -- Archivings: what their planner finds is what the outcome says.
-use Rattle.std.proofs.Common.{◌≡◌, ◌≢◌, ◌<◌, ℕ, true, false, List, [], ◌∷◌, Option, Some, None, Result, Ok, Err, refl, sym, ◌∙◌, ap, subst, rules}
+use Rattle.std.proofs.Common.{arith, ◌≡◌, ◌≢◌, ℕ, true, false, List, [], ◌∷◌, Option, Some, None, Result, Ok, Err, refl, sym, ◌∙◌, ap, subst, rules}
+use Rattle.std.proofs.lemmas.Grind.{common_steps}
 use Rattle.std.specs.Option.{IsSome}
 use Rattle.std.specs.Result.{IsErrAnd}
 use Rattle.std.specs.Str.{bytes_eq}
@@ -19,29 +20,27 @@ use Rattle.org_journal.specs.Recovered.{contents}
 use Rattle.org_outline.specs.declared.paths.PathFault.{PathFault}
 use Rattle.org_outline.specs.Paths.{find_path, refusal_of}
 use Rattle.org_outline.specs.States.{Keywords}
-use Rattle.org_outline.specs.Tree.{Document, node_count, print, tree}
+use Rattle.org_outline.specs.Tree.{Document, print, tree}
 use Rattle.org_outline.proofs.Trees.{tree-terminated}
 use Rattle.org_stamp.specs.Calendar.{Moment}
 use Rattle.org_texts.specs.declared.plan.FileEdits.{FileEdits}
 use Rattle.org_texts.specs.declared.plan.Plan.{Plan}
-use Rattle.org_texts.specs.Texts.{Holding, TextSet, bytes_or, text_of}
+use Rattle.org_texts.specs.Texts.{Holding, bytes_or, text_of}
 use Rattle.org_texts.proofs.Looking.{not_equal, the_value}
 use Rattle.org_move.specs.Answers.{IsMadeAs, IsPlaceAs}
-use Rattle.org_move.specs.Archive.{archive_across, archive_across_at, archive_within, archive_within_at}
+use Rattle.org_move.specs.Archive.{archive_across_at, archive_within_at}
 use Rattle.org_move.specs.Location.{Destination, location, location_at}
 use Rattle.org_move.specs.Refile.{Moved, with_found}
 use Rattle.org_commands.specs.declared.command.RunFault.{RunFault}
 use Rattle.org_commands.specs.declared.command.RunFault.TheVariants.{Refused}
 use Rattle.org_commands.specs.declared.tally.Tally.{Tally}
-use Rattle.org_commands.specs.Files.{AreReady, IsPlanFor, KeepsHeld, OpenFiles, new_texts}
-use Rattle.org_commands.specs.Headings.{HasHeading}
+use Rattle.org_commands.specs.Files.{AreReady, IsPlanFor, OpenFiles, new_texts}
 use Rattle.org_commands.specs.InOrder.{is_name, text_at}
 use Rattle.org_commands.specs.Keeping.{Plans, fault_of}
 use Rattle.org_commands.specs.Outcome.{Outcome, Refuses, archive, archive_at, archive_to, with_moved}
 use Rattle.org_commands.specs.Refile.{MakesDocument, MakesDocuments, text_within, texts_across}
 use Rattle.org_commands.specs.Session.{BetweenSessions, Session}
 use Rattle.org_commands.specs.Step.{Steps}
-use Rattle.org_commands.proofs.Clocks.{heading_before, still_there}
 use Rattle.org_commands.proofs.MadeReady.{session_in, still_named}
 use Rattle.org_commands.proofs.Plans.{first_name, now_held, one_name, one_text, plan_of_one, plan_of_two, ready_text, second_name, text_held, two_texts}
 use Rattle.org_commands.proofs.Refiles.{move_fails, move_planned}
@@ -59,22 +58,7 @@ the_text (Some text) some = (text, refl, refl)
 -- what is held is the store's text of the file, terminated
 pub store_text : {D : Type 0} (g : Ghosts D) (states : Keywords) (files : OpenFiles D) (tally : Tally) (s : Session) (names : List (List ℕ)) (file : List ℕ) → session_in g states files tally ≡ s → AreReady names files.held → is_name names file ≡ true
     → is_name files.names file ≡ true → (text : List ℕ) × (text_at s.names s.files file ≡ Some text) × (held_bytes files.held file ≡ terminated text)
-store_text g states files tally s names file is are there named =
-    let seen = the_text (text_of files.held.now file) (now_held names files.held file are there) in
-    let old = ready_text names files.held file seen.0 are there seen.1 in
-    let at = text_held files.names files.held (contents (g.files files.disk)) file old.0 named old.1 in
-    (old.0.bytes, subst (λ (t : Session). text_at t.names t.files file ≡ Some old.0.bytes) is at, seen.2 ∙ old.2)
-
--- a heading that it has, in these bytes
-pub heading_in : (set : TextSet) (file : List ℕ) (i : ℕ) (bytes : List ℕ) → bytes ≡ bytes_or [] (text_of set file) → HasHeading set file i → i < node_count (tree bytes)
-heading_in set file i bytes is (text, held, within) = subst (λ (b : List ℕ). i < node_count (tree b)) (sym (is ∙ ap (bytes_or []) held)) within
-
--- .. is there where another file was made ready
-pub heading_stays : (old new : Holding) (names more : List (List ℕ)) (file : List ℕ) (i : ℕ) → AreReady names old → is_name names file ≡ true → AreReady more new → is_name more file ≡ true → KeepsHeld old new → HasHeading old.now file i
-    → HasHeading new.now file i
-heading_stays old new names more file i was among are there keeps (text, held, within) =
-    let seen = the_text (text_of new.now file) (now_held more new file are there) in
-    (seen.0, seen.1, still_there old new more file i seen.0 (heading_before old names file i text was among held within) keeps are there seen.1)
+store_text g states files tally s names file is are there named = grind (arith, common_steps, the_text, now_held, ready_text, text_held, contents)
 
 -- a text that is found twice is one
 same_terminated : (text other seen : List ℕ) → Some text ≡ Some other → seen ≡ terminated other → seen ≡ terminated text
@@ -84,9 +68,7 @@ same_terminated text other seen is stays_terminated = let same : text ≡ other 
 
 module _ (plan : Plan) (held : Holding) (file : List ℕ) (new : Document) (makes : MakesDocument file (held_bytes held file) new plan) (are : AreReady (file ∷ []) held) where
   own_text : (text : EditedText) × (text_of held.now file ≡ Some text) × AreEdits plan.first.edits.items text.bytes (print new)
-  own_text =
-      let seen = the_text (text_of held.now file) (now_held (file ∷ []) held file are (one_name file)) in
-      (seen.0, seen.1, subst (λ (t : List ℕ). AreEdits plan.first.edits.items t (print new)) seen.2 makes.2)
+  own_text = grind (arith, common_steps, the_text, now_held, one_name)
 
   pub within_fits : (names : List (List ℕ)) → is_name names file ≡ true → IsPlanFor names held plan
   within_fits names named = plan_of_one plan names held file own_text.0 (print new) makes.0 makes.1 own_text.1 own_text.2 named are
@@ -100,14 +82,10 @@ module _ (plan : Plan) (held : Holding) (file to_file : List ℕ) (new : Moved) 
   second = the_value (λ (change : FileEdits). (change.file ≡ to_file) × AreEdits change.edits.items (held_bytes held to_file) (print new.target)) plan.second makes.2
 
   left_text : (text : EditedText) × (text_of held.now file ≡ Some text) × AreEdits plan.first.edits.items text.bytes (print new.source)
-  left_text =
-      let seen = the_text (text_of held.now file) (now_held (to_file ∷ file ∷ []) held file are (second_name to_file file)) in
-      (seen.0, seen.1, subst (λ (t : List ℕ). AreEdits plan.first.edits.items t (print new.source)) seen.2 makes.1)
+  left_text = grind (arith, common_steps, the_text, now_held, second_name)
 
   into_text : (text : EditedText) × (text_of held.now to_file ≡ Some text) × AreEdits second.0.edits.items text.bytes (print new.target)
-  into_text =
-      let seen = the_text (text_of held.now to_file) (now_held (to_file ∷ file ∷ []) held to_file are (first_name to_file (file ∷ []))) in
-      (seen.0, seen.1, subst (λ (t : List ℕ). AreEdits second.0.edits.items t (print new.target)) seen.2 second.2.1)
+  into_text = search (rules, arith, the_text, now_held, first_name, second)
 
   documents_planned : (names : List (List ℕ)) → is_name names file ≡ true → is_name names to_file ≡ true → IsPlanFor names held plan
   documents_planned names named also =
@@ -135,9 +113,7 @@ module _ (s : Session) (file : List ℕ) (path : List Step) (moment : Moment) wh
 
   -- the planner sees the text terminated
   told_at : (text seen : List ℕ) → text_at s.names s.files file ≡ Some text → seen ≡ terminated text → told ≡ archive_at s file path moment text (location s.states file path seen)
-  told_at text seen at stays_terminated =
-      ap (archive s file path moment) at
-      ∙ ap (archive_at s file path moment text) (sym (ap (location s.states file path) stays_terminated ∙ location_terminated s.states file path text))
+  told_at text seen at stays_terminated = grind (arith, common_steps, archive, location_terminated)
 
   -- there is no heading at the path
   pub path_refused : (text seen : List ℕ) (why : PathFault) → s.broken ≡ false → text_at s.names s.files file ≡ Some text → seen ≡ terminated text → find_path s.states (tree seen) path ≡ Err why → Steps s told (Err (Refused (refusal_of why))) s
@@ -170,24 +146,12 @@ module _ (s : Session) (file : List ℕ) (path : List Step) (moment : Moment) wh
   -- it is the file itself
   within_is : (text seen : List ℕ) (to : Destination) (i : ℕ) → text_at s.names s.files file ≡ Some text → seen ≡ terminated text → file ≡ to.file → find_path s.states (tree text) path ≡ Ok i
       → told_to text to ≡ with_moved s (text_within file) (archive_within_at s.states file moment to (tree seen) i)
-  within_is text seen to i at stays_terminated own found =
-      let there : text_at s.names s.files to.file ≡ Some text = subst (λ (n : List ℕ). text_at s.names s.files n ≡ Some text) own at in
-      let t : bytes_eq file to.file ≡ true = (bytes_eq-Decides file to.file).1 own in
-      let here : archive_to s file path moment text to (Some text) ≡ with_moved s (text_within file) (archive_within s.states file path moment to (tree text)) = rw t refl in
-      ap (archive_to s file path moment text to) there ∙ here
-      ∙ ap (λ (f : Result ℕ PathFault). with_moved s (text_within file) (with_found f (λ i. archive_within_at s.states file moment to (tree text) i))) found
-      ∙ ap (λ (d : Document). with_moved s (text_within file) (archive_within_at s.states file moment to d i)) (sym (ap tree stays_terminated ∙ tree-terminated text))
+  within_is text seen to i at stays_terminated own found = grind (arith, common_steps, bytes_eq-Decides, with_moved, text_within, tree-terminated)
 
   -- it is another one
   across_is : (text seen target into : List ℕ) (to : Destination) (i : ℕ) → text_at s.names s.files to.file ≡ Some target → seen ≡ terminated text → into ≡ terminated target → file ≢ to.file → find_path s.states (tree text) path ≡ Ok i
       → told_to text to ≡ with_moved s (texts_across file to.file) (archive_across_at s.states file moment (tree seen) s.states to (tree into) i)
-  across_is text seen target into to i there stays_terminated closes apart found =
-      let f : bytes_eq file to.file ≡ false = not_equal file to.file apart in
-      let other : archive_to s file path moment text to (Some target) ≡ with_moved s (texts_across file to.file) (archive_across s.states file path moment (tree text) s.states to (tree target)) = rw f refl in
-      ap (archive_to s file path moment text to) there ∙ other
-      ∙ ap (λ (f : Result ℕ PathFault). with_moved s (texts_across file to.file) (with_found f (λ i. archive_across_at s.states file moment (tree text) s.states to (tree target) i))) found
-      ∙ ap (λ (d : Document). with_moved s (texts_across file to.file) (archive_across_at s.states file moment d s.states to (tree target) i)) (sym (ap tree stays_terminated ∙ tree-terminated text))
-      ∙ ap (λ (d : Document). with_moved s (texts_across file to.file) (archive_across_at s.states file moment (tree seen) s.states to d i)) (sym (ap tree closes ∙ tree-terminated target))
+  across_is text seen target into to i there stays_terminated closes apart found = grind (arith, common_steps, not_equal, with_moved, tree-terminated)
 
 -- ---- what is planned
 
@@ -222,16 +186,12 @@ module _ {D : Type 0} (g : Ghosts D) (states : Keywords) (files : OpenFiles D) (
 
 pub seen_within : (file : List ℕ) (moment : Moment) (to : Destination) (i : ℕ) (result : Result Plan (Fault Refusal)) (there states : Keywords) (bytes seen : List ℕ) → bytes ≡ seen → there ≡ states
     → IsMadeAs (archive_within_at there file moment to (tree bytes) i) (MakesDocument file bytes) result → IsMadeAs (archive_within_at states file moment to (tree seen) i) (MakesDocument file seen) result
-seen_within file moment to i result there states bytes seen text same made =
-    let Made : Keywords → List ℕ → Type 0 = λ k b. IsMadeAs (archive_within_at k file moment to (tree b) i) (MakesDocument file b) result in
-    subst (λ (k : Keywords). Made k seen) same (subst (Made there) text made)
+seen_within file moment to i result there states bytes seen text same made = grind (arith, common_steps)
 
 pub seen_across : (file : List ℕ) (moment : Moment) (to : Destination) (i : ℕ) (result : Result Plan (Fault Refusal)) (own there states : Keywords) (bytes into seen found : List ℕ) → bytes ≡ seen → own ≡ states → into ≡ found → there ≡ states
     → IsMadeAs (archive_across_at own file moment (tree bytes) there to (tree into) i) (MakesDocuments file to.file bytes into) result
     → IsMadeAs (archive_across_at states file moment (tree seen) states to (tree found) i) (MakesDocuments file to.file seen found) result
-seen_across file moment to i result own there states bytes into seen found text same texts also made =
-    let Made : Keywords → Keywords → List ℕ → List ℕ → Type 0 = λ k m b t. IsMadeAs (archive_across_at k file moment (tree b) m to (tree t) i) (MakesDocuments file to.file b t) result in
-    subst (λ (k : Keywords). Made k states seen found) same (subst (λ (m : Keywords). Made own m seen found) also (subst (λ (b : List ℕ). Made own there b found) text (subst (Made own there bytes) texts made)))
+seen_across file moment to i result own there states bytes into seen found text same texts also made = grind (arith, common_steps)
 
 -- Two files are ready, of which the second one is the location's: they were `old` before that one
 -- was made ready, and are `new`.

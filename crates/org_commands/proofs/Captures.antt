@@ -58,19 +58,6 @@ entry_made bytes said result is answers = subst (λ (s : Result (List ℕ) Refus
     go (Err fault.OutOfMemory) answers = tt
     go (Err (fault.Refused why)) answers = no_one bytes (entry_in bytes) why answers
 
--- a template that isn't expanded
-pub no_entry_made : (said : Result (List ℕ) Refusal) (result : Result (Vec ℕ Global) (Fault Refusal)) (given : Result (Vec ℕ Global) (Fault Refusal)) (why : Fault Refusal) → result ≡ Err why → given ≡ Err why
-    → AnswersBytes said result → MakesEntry (entry_of_text said) given
-no_entry_made said result given why was is answers =
-    subst (MakesEntry (entry_of_text said)) (sym is) (go why (subst (AnswersBytes said) was answers))
-  where
-    handed : (w : Refusal) → said ≡ Err w → entry_of_text said ≡ Err w
-    handed w same = ap entry_of_text same
-
-    go : (w : Fault Refusal) → AnswersBytes said (Err w) → MakesEntry (entry_of_text said) (Err w)
-    go fault.OutOfMemory answers = tt
-    go (fault.Refused w) answers = handed w answers
-
 -- ---- the outcome
 
 -- what is refused before the text is looked at

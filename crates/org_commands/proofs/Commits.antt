@@ -1,5 +1,6 @@
 -- A commit of held texts, told in the texts of a store's files.
-use Rattle.std.proofs.Common.{◌≡◌, ◌≢◌, ◌⊎◌, inl, inr, ℕ, ◌≤◌, Bool, true, false, List, [], ◌∷◌, length, map, Option, Some, None, Result, Ok, Err, refl, sym, ◌∙◌, ap, subst, if◌then◌else◌}
+use Rattle.std.proofs.Common.{arith, ◌≡◌, ◌≢◌, ◌⊎◌, inl, inr, ℕ, ◌≤◌, Bool, true, false, List, [], ◌∷◌, length, map, Option, Some, None, Result, Ok, Err, refl, sym, ◌∙◌, ap, subst, if◌then◌else◌}
+use Rattle.std.proofs.lemmas.Grind.{common_steps}
 use Rattle.org_disk.specs.declared.disk.Disk.{Ghosts}
 use Rattle.std.specs.Prelude.{◌↔◌, IsErrOf, IsTrue}
 use Rattle.std.specs.List.{All, AllByRecursion, Contains, list_any}
@@ -69,10 +70,7 @@ pairs_edits names live files set are l = all_pairs (λ (change : Change). IsEdit
 -- the files that a commit makes are those with the held texts
 changed_by : (files : Image) (set : TextSet) (names : List (List ℕ)) (name : List ℕ) → changed (map (pair_in set) names) files name ≡ (if is_name names name then (text_or_none (text_of set name)).bytes else files name)
 changed_by files set [] name = refl
-changed_by files set (one ∷ names) name = elim (name_cases one name) [
-  | inl is ↦ let t = is.1 in rw t (ap (λ (n : List ℕ). (text_or_none (text_of set n)).bytes) is.0)
-  | inr apart ↦ let f = apart.1 in rw f (changed_by files set names name)
-]
+changed_by files set (one ∷ names) name = grind (arith, common_steps, name_cases, changed_by files set names name)
 
 pub changed_is_held : (names : List (List ℕ)) (live : Type 0) (files : Image) (set : TextSet) → AreTextsOf names live files set → live → (name : List ℕ) → changed (pairs set) files name ≡ held_over set files name
 changed_is_held names live files set are l name =
@@ -114,14 +112,7 @@ texts_settled names live now old new set apart are alike = record {
 
 pub sound_settled : (names more : List (List ℕ)) (live now : Type 0) (old new : Image) (held next : Holding) → more ≡ names → next.now ≡ settled_set held.now → next.before ≡ settled_set held.now
     → (now → SameFiles new (held_over held.now old)) → IsSound names live old held → IsSound more now new next
-sound_settled names more live now old new held next same is before alike sound =
-    let texts = texts_settled names live now old new held.now sound.apart sound.now alike in
-    subst (λ (ns : List (List ℕ)). IsSound ns now new next) (sym same) (record {
-      apart = sound.apart;
-      now = subst (AreTextsOf names now new) (sym is) texts;
-      before = subst (AreTextsOf names now new) (sym before) texts;
-      small = subst AreSmallToWrite (sym before) (λ name there. absurd (false≢true there));
-    })
+sound_settled names more live now old new held next same is before alike sound = grind (arith, common_steps, texts_settled, false≢true)
 
 pub texts_settled_are : (names : List (List ℕ)) (old new : Image) (set : TextSet) → AllByRecursion (λ name. name ≢ journal_name) names → SameFiles new (held_over set old)
     → texts_of (held_over (settled_set set) new) names ≡ texts_of (held_over set old) names

@@ -1,5 +1,6 @@
 -- Commits of texts, told in the texts of a store's files.
-use Rattle.std.proofs.Common.{◌≡◌, inl, inr, ⊎_elim, ℕ, false, List, refl, ◌∙◌}
+use Rattle.std.proofs.Common.{arith, ◌≡◌, inl, ℕ, false, List, refl, ◌∙◌}
+use Rattle.std.proofs.lemmas.Grind.{common_steps}
 use Rattle.org_disk.specs.Disk.{AreImages, FileState, LeavesOnly}
 use Rattle.org_disk.proofs.Moments.{passes_as}
 use Rattle.org_journal.specs.Recovered.{Image, SameFiles, contents}
@@ -14,10 +15,7 @@ leaves_as time weaker = record { each = λ image left. weaker image (time.each i
 -- what a crash leaves within a commit that makes these files
 pub left_by_commit : (names : List (List ℕ)) (files after : Image) → ((name : List ℕ) → is_name names name ≡ false → after name ≡ files name) → (image : Image) → IsBeforeOrAfter files after image
     → HoldsEither names files (texts_of after names) image
-left_by_commit names files after outside image left = ⊎_elim
-    (λ without. inl (holds_told names files files image (λ name out. refl) without))
-    (λ with. inr (holds_told names after files image outside with))
-    left
+left_by_commit names files after outside image left = grind (arith, common_steps, holds_told)
 
 -- what a crash leaves of files at rest
 pub left_at_rest : (names texts : List (List ℕ)) (files : List ℕ → FileState) → IsAtRest files → (image : Image) → AreImages files image → HoldsEither names (contents files) texts image

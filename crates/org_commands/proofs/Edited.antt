@@ -1,22 +1,20 @@
 -- Edits of a file as it is: what their planner finds is what the outcome says.
-use Rattle.std.proofs.Common.{◌≡◌, inl, inr, ℕ, ◌+◌, ◌≤◌, true, false, List, [], ◌∷◌, length, Option, Some, None, Result, Ok, Err, refl, sym, ◌∙◌, ap, subst}
-use Rattle.std.specs.Prelude.{IsSomeAnd, IsTrue}
-use Rattle.std.specs.List.{AllByRecursion}
+use Rattle.std.proofs.Common.{rules, arith, ◌≡◌, ℕ, ◌+◌, ◌≤◌, true, false, List, [], ◌∷◌, length, Option, Some, None, Result, Ok, Err, refl, sym, ◌∙◌, ap, subst}
+use Rattle.std.proofs.lemmas.Grind.{common_steps}
+use Rattle.std.specs.Prelude.{IsTrue}
 use Rattle.std.specs.Option.{IsSome, is_some, option_map}
 use Rattle.std.specs.Result.{IsErrAnd}
 use Rattle.std.proofs.lemmas.Bool.{false≢true}
 use Rattle.org_disk.specs.declared.disk.Disk.{Ghosts}
 use Rattle.org_disk.proofs.Names.{name_cases}
 use Rattle.org_splice.specs.declared.edit.Edit.{Edit}
-use Rattle.org_splice.specs.Edits.{CanApply, applied, applied_each}
+use Rattle.org_splice.specs.Edits.{applied, applied_each}
 use Rattle.org_splice.specs.Lines.{terminated}
 use Rattle.org_splice.specs.Replaced.{replaced}
 use Rattle.org_splice.specs.Texts.{EditedText}
 use Rattle.org_journal.specs.Recovered.{contents}
 use Rattle.org_outline.specs.States.{Keywords}
-use Rattle.org_texts.specs.declared.plan.FileEdits.{FileEdits}
 use Rattle.org_texts.specs.declared.plan.Plan.{Plan}
-use Rattle.org_texts.specs.Plan.{LieIn}
 use Rattle.org_texts.specs.Files.{is_dirty}
 use Rattle.org_texts.specs.Texts.{TextSet, text_of}
 use Rattle.org_commands.specs.declared.command.RunFault.{RunFault}
@@ -24,7 +22,7 @@ use Rattle.org_commands.specs.declared.command.RunFault.TheVariants.{OutOfMemory
 use Rattle.org_fault.specs.declared.refusal.Refusal.TheVariants as refusal
 use Rattle.org_commands.specs.declared.tally.Tally.{Tally}
 use Rattle.org_commands.specs.Edit.{Replaces}
-use Rattle.org_commands.specs.Files.{AreReadyForCommand, AreTouched, IsPlanFor, OpenFiles, files_of, new_texts, second_file}
+use Rattle.org_commands.specs.Files.{AreReadyForCommand, AreTouched, IsPlanFor, OpenFiles, new_texts}
 use Rattle.org_commands.specs.InOrder.{is_name, text_at}
 use Rattle.org_commands.specs.Keeping.{Plans}
 use Rattle.org_commands.specs.Outcome.{changed, edit, with_replaced}
@@ -41,10 +39,7 @@ the_text (Some text) bytes is = let same : text.bytes ≡ bytes = cc in (text, r
 
 -- the only name is the file's
 same_as : (file name : List ℕ) → is_name (file ∷ []) name ≡ true → file ≡ name
-same_as file name there = elim (name_cases file name) [
-  | inl is ↦ is.0
-  | inr apart ↦ let f = apart.1 in absurd (false≢true (rw f at there))
-]
+same_as file name there = grind (arith, common_steps, name_cases, false≢true)
 
 -- a fault of finding the bytes is the command's own
 pub replaces_own : (text : List ℕ) (at : ℕ) (old new : List ℕ) (fault : RunFault) → Replaces text at old new (Err fault) → IsOwn fault
@@ -108,23 +103,7 @@ module _ {D : Type 0} {g : Ghosts D} {states : Keywords} {old new : OpenFiles D}
 
     -- what is planned is for the files as they are
     pub edit_fits : (IsTrue plan.of_lines → terminated bytes ≡ bytes) → (IsTrue plan.of_lines → terminated (applied e bytes) ≡ applied e bytes) → IsPlanFor new.names new.held plan
-    edit_fits ends behind =
-        let files : files_of plan ≡ file ∷ [] = ap (λ (n : List ℕ). n ∷ second_file plan.second) own ∙ ap (λ (s : Option FileEdits). file ∷ second_file s) none in
-        let lie : LieIn plan.first.edits.items has.text.bytes = subst (λ (es : List Edit). LieIn es has.text.bytes) (sym are) (within, tt) in
-        let lines : IsTrue plan.of_lines → (terminated has.text.bytes ≡ has.text.bytes) × CanApply plan.first.edits.items has.text.bytes = λ yes. subst (λ (t : List ℕ). (terminated t ≡ t) × CanApply plan.first.edits.items t) (sym has.are)
-        (ends yes, subst (λ (es : List Edit). CanApply es bytes) (sym are) (answers.0, behind yes, refl)) in
-        record {
-          is = record {
-            first = subst (λ (o : Option EditedText). IsSomeAnd o (λ t. LieIn plan.first.edits.items t.bytes)) (sym here) lie;
-            second = λ change is. let no : None ≡ Some change = sym none ∙ is in absurd (cc);
-          };
-          named = subst (λ (fs : List (List ℕ)). AllByRecursion (λ name. is_name new.names name ≡ true) fs) (sym files) (has.named, tt);
-          touched = subst (λ (fs : List (List ℕ)). AreTouched fs new.held) (sym files) touched;
-          lines = λ yes. record {
-            first = subst (λ (o : Option EditedText). IsSomeAnd o (λ t. (terminated t.bytes ≡ t.bytes) × CanApply plan.first.edits.items t.bytes)) (sym here) (lines yes);
-            second = λ change is. let no : None ≡ Some change = sym none ∙ is in absurd (cc);
-          };
-        }
+    edit_fits ends behind = search (rules, arith, within, here)
 
     edit_texts : new_texts plan new.held.now ≡ (file, applied e bytes) ∷ []
     edit_texts = one_text_by plan new.held file has.text (applied e bytes) own none has.at (ap (applied e) (sym has.are) ∙ ap (λ (es : List Edit). applied_each es has.text.bytes) (sym are))

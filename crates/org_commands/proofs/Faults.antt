@@ -1,5 +1,6 @@
 -- Answers of calls, and what their faults say of the files and of the accounts.
-use Rattle.std.proofs.Common.{◌≡◌, ◌∙◌, Bool, false, true, Result, Ok, Err, refl, sym, subst}
+use Rattle.std.proofs.Common.{arith, ◌≡◌, ◌∙◌, Bool, false, true, Result, Ok, Err, refl, sym, subst}
+use Rattle.std.proofs.lemmas.Grind.{common_steps}
 use Rattle.org_fault.specs.declared.fault.Fault.{Fault}
 use Rattle.org_fault.specs.declared.fault.Fault.TheVariants as fault
 use Rattle.org_disk.specs.declared.disk.Disk.{Ghosts}
@@ -14,10 +15,6 @@ use Rattle.org_commands.specs.Keeping.{fault_of}
 -- one fault, in answers of two types
 pub same_fault : {A B : Type 0} (fault other : RunFault) → ◌≡◌ {A = Result A RunFault} (Err fault) (Err other) → ◌≡◌ {A = Result B RunFault} (Err fault) (Err other)
 same_fault fault other is = let one : fault ≡ other = cc in cc
-
--- the fault of an answer, where another answer handed it on
-pub fault_of_first : {A B : Type 0} (first : Result A RunFault) (second : Result B RunFault) (fault other : RunFault) → first ≡ Err fault → second ≡ Err fault → IsErrOf second other → IsErrOf first other
-fault_of_first first second fault other was given fell = was ∙ same_fault fault other (sym given ∙ fell)
 
 -- an answer that is Ok is no fault
 pub fine_is_no_fault : {A E : Type 0} (answer : Result A E) (x : A) (fault : E) → answer ≡ Ok x → IsErrOf answer fault → ⊥
@@ -56,18 +53,7 @@ module _ {D : Type 0} {g : Ghosts D} {old mid new : D} where
 
   -- the accounts of a call, where another answer fails just where its own does, and the disk stays behind it
   pub accounts_as : {Failed Fails : Type 0} → new ≡ mid → (Fails → Failed) → (Failed → Fails) → CountsFailures g old mid Failed → CountsFailures g old new Fails
-  accounts_as {Fails = Fails} same back on call = subst (λ disk. CountsFailures g old disk Fails) (sym same) (record {
-    was_honest = call.was_honest;
-    stays_honest = call.stays_honest;
-    no_less = call.no_less;
-    risen = λ fails. call.risen (back fails);
-    equal = λ fine. call.equal (λ failed. fine (on failed));
-  })
-
-  -- the accounts of a call whose fault is handed on, behind which the disk stays
-  pub accounts_handed : {A B : Type 0} (first : Result A RunFault) (second : Result B RunFault) (fault : RunFault) → first ≡ Err fault → second ≡ Err fault → new ≡ mid
-      → CountsFailures g old mid (IsErrOf first Device) → CountsFailures g old new (IsErrOf second Device)
-  accounts_handed first second fault was given same call = accounts_as same (fault_of_first first second fault Device was given) (fault_of_first second first fault Device given was) call
+  accounts_as {Fails = Fails} same back on call = grind (arith, common_steps)
 
 -- the accounts of a call in memory
 pub accounts_memory : {D Fails : Type 0} {g : Ghosts D} {old new : D} → new ≡ old → (Fails → ⊥) → CountsFailures g old new Fails

@@ -1,7 +1,8 @@
 -- Held texts of a store's files, and how the calls keep them.
 use Rattle.std.proofs.Common.{◌≡◌, ◌≢◌, inl, inr, ℕ, ◌≤◌, Bool, true, false, List, [], ◌∷◌, ◌++◌, length, nat_lt, Option, Some, None, Result, Ok, Err, refl, sym, ◌∙◌, ap, subst, arith, rules}
+use Rattle.std.proofs.lemmas.Grind.{common_steps}
 use Rattle.std.specs.Prelude.{OnOk, OnErr}
-use Rattle.std.specs.List.{All, AllByRecursion, list_any}
+use Rattle.std.specs.List.{All, list_any}
 use Rattle.std.specs.Map.{lookup}
 use Rattle.std.specs.Option.{ForSome, IsSome, is_some, option_map}
 use Rattle.std.specs.Str.{bytes_eq}
@@ -11,7 +12,6 @@ use Rattle.std.proofs.lemmas.List.Elements.{All-from_recursion, recursion_from_A
 use Rattle.std.proofs.lemmas.Slice.Eq.{bytes_eq-Decides}
 use Rattle.org_disk.specs.Names.{IsOrgFile, journal_name}
 use Rattle.org_disk.proofs.Names.{name_cases, same_name}
-use Rattle.org_splice.specs.Lines.{terminated}
 use Rattle.org_splice.specs.Texts.{EditedText, terminated_text, settled, spliced_each}
 use Rattle.org_journal.specs.Recovered.{Image}
 use Rattle.org_fileset.specs.Names.{AreSorted, limit, with_archives}
@@ -33,22 +33,10 @@ use Rattle.org_commands.specs.InOrder.{is_name}
 -- a name among others, told either way round
 pub named_any : (names : List (List ℕ)) (name : List ℕ) → list_any (bytes_eq name) names ≡ is_name names name
 named_any [] name = refl
-named_any (one ∷ names) name = elim (name_cases one name) [
-  | inl is ↦
-      let t = is.1 in
-      let back : bytes_eq name one ≡ true = (bytes_eq-Decides name one).1 (sym is.0) in
-      rw (t, back) refl
-  | inr apart ↦
-      let f = apart.1 in
-      let back : bytes_eq name one ≡ false = not_equal name one (λ same. apart.0 (sym same)) in
-      rw (f, back) (named_any names name)
-]
+named_any (one ∷ names) name = grind (arith, common_steps, name_cases, bytes_eq-Decides, not_equal, named_any names name)
 
 pub not_one : (one : List ℕ) (names : List (List ℕ)) (name : List ℕ) → is_name (one ∷ names) name ≡ false → (one ≢ name) × (is_name names name ≡ false)
-not_one one names name none = elim (name_cases one name) [
-  | inl is ↦ let t = is.1 in absurd (false≢true (sym (rw t at none)))
-  | inr apart ↦ let f = apart.1 in (apart.0, rw f at none)
-]
+not_one one names name none = grind (arith, common_steps, name_cases, false≢true)
 
 -- a name that waits where one more does
 pub dirty_more : (own : List ℕ) (names : List (List ℕ)) (name : List ℕ) → list_any (bytes_eq name) (with_name own names) ≡ true → own ≢ name → list_any (bytes_eq name) names ≡ true
@@ -68,10 +56,7 @@ dirty_more own names name there apart = elim (cases_Bool (list_any (bytes_eq own
 
 lookup_more : {X : Type 0} (es : List (List ℕ × X)) (own : List ℕ) (value : X) (name : List ℕ) → own ≢ name → lookup (bytes_eq name) (es ++ (own, value) ∷ []) ≡ lookup (bytes_eq name) es
 lookup_more [] own value name apart = let f = not_equal name own (λ same. apart (sym same)) in rw f refl
-lookup_more (e ∷ es) own value name apart = elim (cases_Bool (bytes_eq name e.0)) [
-  | inl t ↦ rw t refl
-  | inr f ↦ rw f (lookup_more es own value name apart)
-]
+lookup_more (e ∷ es) own value name apart = grind (arith, common_steps, lookup_more es own value name apart)
 
 lookup_new : {X : Type 0} (es : List (List ℕ × X)) (own : List ℕ) (value : X) → lookup (bytes_eq own) es ≡ None → lookup (bytes_eq own) (es ++ (own, value) ∷ []) ≡ Some value
 lookup_new [] own value none = let t = same_name own in rw t refl
@@ -92,17 +77,13 @@ some_not_none (Some x) none some = absurd (cc)
 
 -- what was held before is held as it was
 pub keeps_held : (own bytes : List ℕ) (old new : Holding) → text_of old.before own ≡ None → new.before ≡ with_text own bytes old.before → KeepsHeld old new
-keeps_held own bytes old new none before name some =
-    let apart : own ≢ name = λ same. some_not_none (text_of old.before name) (subst (λ (n : List ℕ). text_of old.before n ≡ None) same none) some in
-    ap (λ (s : TextSet). text_of s name) before ∙ held_other own bytes old.before name apart
+keeps_held own bytes old new none before name some = grind (arith, common_steps, held_other)
 
 pub keeps_same : (old mid new : Holding) → KeepsHeld old mid → new.before ≡ mid.before → KeepsHeld old new
 keeps_same old mid new keeps same name some = ap (λ (s : TextSet). text_of s name) same ∙ keeps name some
 
 pub keeps_then : (old mid new : Holding) → KeepsHeld old mid → KeepsHeld mid new → KeepsHeld old new
-keeps_then old mid new first second name some =
-    let was = first name some in
-    second name (subst (λ (o : Option EditedText). IsSome o) (sym was) some) ∙ was
+keeps_then old mid new first second name some = grind (arith, common_steps)
 
 pub ready_held : (own bytes : List ℕ) (names : List (List ℕ)) (old new : Holding) → text_of old.now own ≡ None → text_of old.before own ≡ None
     → new.now ≡ with_text own bytes old.now → new.before ≡ with_text own bytes old.before → new.ready ≡ old.ready ++ (own, false) ∷ [] → AreReady names old → AreReady names new
@@ -127,21 +108,8 @@ ready_held own bytes names old new none none_before now before ready are =
           ap (λ (s : TextSet). is_dirty s name) before ∙ are.dirty name out was;
     }
 
--- the texts of files that are as they were
-pub texts_still : (names more : List (List ℕ)) (live now : Type 0) (old new : Image) (set : TextSet) → AreTextsOf names live old set → more ≡ names → (now → live × (new ≡ old)) → AreTextsOf more now new set
-texts_still names more live now old new set are same alike = record {
-  named = λ name some. ap (λ (ns : List (List ℕ)). is_name ns name) same ∙ are.named name some;
-  dirty = are.dirty;
-  stand = λ n. subst (λ (f : Image). StandOver f set) (sym (alike n).1) (are.stand (alike n).0);
-}
-
 pub sound_still : (names more : List (List ℕ)) (live now : Type 0) (old new : Image) (held : Holding) → IsSound names live old held → more ≡ names → (now → live × (new ≡ old)) → IsSound more now new held
-sound_still names more live now old new held sound same alike = record {
-  apart = subst (λ (ns : List (List ℕ)). AllByRecursion (λ name. name ≢ journal_name) ns) (sym same) sound.apart;
-  now = texts_still names more live now old new held.now sound.now same alike;
-  before = texts_still names more live now old new held.before sound.before same alike;
-  small = sound.small;
-}
+sound_still names more live now old new held sound same alike = grind (arith, common_steps)
 
 -- files of which nothing is held
 pub sound_opened : (given names : List (List ℕ)) (live : Type 0) (files : Image) (held : Holding) → All IsOrgFile given → AreSorted (with_archives given) names → held.now ≡ nothing_held → held.before ≡ nothing_held
@@ -177,16 +145,7 @@ texts_held own bytes names live files set none there is are = record {
 
 pub sound_held : (own bytes : List ℕ) (names : List (List ℕ)) (live : Type 0) (files : Image) (held next : Holding) → text_of held.now own ≡ None → text_of held.before own ≡ None → is_name names own ≡ true
     → (live → bytes ≡ files own) → next.now ≡ with_text own bytes held.now → next.before ≡ with_text own bytes held.before → IsSound names live files held → IsSound names live files next
-sound_held own bytes names live files held next none none_before there is now before sound = record {
-  apart = sound.apart;
-  now = subst (AreTextsOf names live files) (sym now) (texts_held own bytes names live files held.now none there is sound.now);
-  before = subst (AreTextsOf names live files) (sym before) (texts_held own bytes names live files held.before none_before there is sound.before);
-  small = λ name dirty.
-      let was : is_dirty held.before name ≡ true = sym (ap (λ (s : TextSet). is_dirty s name) before) ∙ dirty in
-      let apart : own ≢ name = λ same. some_not_none (text_of held.before name) (subst (λ (n : List ℕ). text_of held.before n ≡ None) same none_before) (sound.before.dirty name was) in
-      let is : text_of next.before name ≡ text_of held.before name = ap (λ (s : TextSet). text_of s name) before ∙ held_other own bytes held.before name apart in
-      subst (λ o. length (text_or_none o).bytes ≤ limit) (sym is) (sound.small name was);
-}
+sound_held own bytes names live files held next none none_before there is now before sound = grind (arith, common_steps, texts_held, held_other)
 
 -- ---- texts are changed
 
@@ -195,10 +154,7 @@ some_mapped f None = refl
 some_mapped f (Some x) = refl
 
 some_change : {X : Type 0} (own : List ℕ) (f : X → X) (es : List (List ℕ × X)) (name : List ℕ) → is_some (lookup (bytes_eq name) (with_change own f es)) ≡ is_some (lookup (bytes_eq name) es)
-some_change own f es name = elim (name_cases own name) [
-  | inl is ↦ subst (λ (n : List ℕ). is_some (lookup (bytes_eq n) (with_change own f es)) ≡ is_some (lookup (bytes_eq n) es)) is.0 (ap is_some (change_this own f es) ∙ some_mapped f (lookup (bytes_eq own) es))
-  | inr apart ↦ ap is_some (change_other own name f es apart.0)
-]
+some_change own f es name = grind (arith, common_steps, name_cases, change_this, some_mapped, change_other)
 
 pub texts_terminated : (own : List ℕ) (names : List (List ℕ)) (live : Type 0) (files : Image) (set : TextSet) → IsSome (text_of set own) → AreTextsOf names live files set → AreTextsOf names live files (terminated_in own set)
 texts_terminated own names live files set some are = record {
@@ -212,12 +168,7 @@ texts_terminated own names live files set some are = record {
 
 pub sound_terminated : (own : List ℕ) (names : List (List ℕ)) (live : Type 0) (files : Image) (held next : Holding) → IsSome (text_of held.now own) → next.now ≡ terminated_in own held.now → next.before ≡ held.before
     → IsSound names live files held → IsSound names live files next
-sound_terminated own names live files held next some now before sound = record {
-  apart = sound.apart;
-  now = subst (AreTextsOf names live files) (sym now) (texts_terminated own names live files held.now some sound.now);
-  before = subst (AreTextsOf names live files) (sym before) sound.before;
-  small = subst AreSmallToWrite (sym before) sound.small;
-}
+sound_terminated own names live files held next some now before sound = grind (arith, common_steps, texts_terminated)
 
 -- the edits of a command, taken back or kept
 pub sound_undone : (names : List (List ℕ)) (live : Type 0) (files : Image) (held next : Holding) → next.now ≡ held.before → next.before ≡ held.before → IsSound names live files held → IsSound names live files next
@@ -239,11 +190,7 @@ sound_kept names live files held next now before small sound = record {
 
 -- closing twice is closing once
 terminated_again : (text : EditedText) → terminated_text (terminated_text text) ≡ terminated_text text
-terminated_again text =
-    let bytes = terminated_text-bytes text in
-    let stays_terminated : terminated (terminated_text text).bytes ≡ (terminated_text text).bytes = ap terminated bytes ∙ terminated_twice text.bytes ∙ sym bytes in
-    let t = is_terminated-terminated (terminated_text text).bytes stays_terminated in
-    rw t refl
+terminated_again text = grind (arith, common_steps, terminated_text-bytes, terminated_twice, is_terminated-terminated)
 
 pub ready_terminated : (own : List ℕ) (names : List (List ℕ)) (old new : Holding) → IsSome (text_of old.now own) → new.now ≡ terminated_in own old.now → new.before ≡ old.before
     → new.ready ≡ with_change own (λ _. true) old.ready → AreReady names old → AreReady (own ∷ names) new
@@ -286,10 +233,7 @@ ready_terminated own names old new some now before ready are = record {
     both (Some t) = ap Some (terminated_again t)
 
     own_terminated : option_map terminated_text (text_of old.now own) ≡ option_map terminated_text (text_of old.before own)
-    own_terminated = elim (cases_Bool (is_name names own)) [
-      | inl t ↦ ap (option_map terminated_text) (are.stays_terminated own t) ∙ both (text_of old.before own)
-      | inr f ↦ ap (option_map terminated_text) (are.others own f)
-    ]
+    own_terminated = grind (arith, common_steps, cases_Bool, both)
 
     own_held : IsSome (text_of old.before own)
     own_held = elim (cases_Bool (is_name names own)) [
@@ -298,20 +242,11 @@ ready_terminated own names old new some now before ready are = record {
     ]
 
     held_before : (name : List ℕ) → is_name (own ∷ names) name ≡ true → IsSome (text_of old.before name)
-    held_before name there = elim (name_cases own name) [
-      | inl is ↦ subst (λ (n : List ℕ). IsSome (text_of old.before n)) is.0 own_held
-      | inr apart ↦ are.held name (later name apart.0 there)
-    ]
+    held_before name there = grind (arith, common_steps, name_cases, later)
 
 -- nothing is ready where nothing was edited
 pub none_ready : (held : Holding) → held.now ≡ held.before → AreReady [] held
-none_ready held same = record {
-  held = λ name there. absurd (false≢true there);
-  ready = λ name there. absurd (false≢true there);
-  stays_terminated = λ name there. absurd (false≢true there);
-  others = λ name out. ap (λ (s : TextSet). text_of s name) same;
-  dirty = λ name out there. sym (ap (λ (s : TextSet). is_dirty s name) same) ∙ there;
-}
+none_ready held same = grind (arith, common_steps)
 
 -- ---- a plan is put
 
@@ -335,13 +270,7 @@ texts_second (Some change) names live files set can are = texts_edited change na
 
 pub sound_put : (plan : Plan) (names : List (List ℕ)) (live : Type 0) (files : Image) (held next : Holding) → IsPlan plan held.now → next.now ≡ planned plan held.now → next.before ≡ held.before
     → IsSound names live files held → IsSound names live files next
-sound_put plan names live files held next is now before sound = record {
-  apart = sound.apart;
-  now = subst (AreTextsOf names live files) (sym now)
-      (texts_second plan.second names live files (with_edits plan.first held.now) is.second (texts_edited plan.first names live files held.now is.first sound.now));
-  before = subst (AreTextsOf names live files) (sym before) sound.before;
-  small = subst AreSmallToWrite (sym before) sound.small;
-}
+sound_put plan names live files held next is now before sound = grind (arith, common_steps, texts_second, texts_edited)
 
 -- the files of a plan are held behind it
 still_held : (change : FileEdits) (set : TextSet) (name : List ℕ) → IsSome (text_of set name) → IsSome (text_of (with_edits change set) name)
@@ -384,9 +313,7 @@ edited_other change set name apart = change_other change.file name (spliced_each
 second_other : (second : Option FileEdits) (set : TextSet) (name : List ℕ) → is_name (second_file second) name ≡ false
     → (text_of (with_second second set) name ≡ text_of set name) × (is_dirty (with_second second set) name ≡ true → is_dirty set name ≡ true)
 second_other None set name out = (refl, λ there. there)
-second_other (Some change) set name out =
-    let no = not_one change.file [] name out in
-    (edited_other change set name no.0, λ there. dirty_more change.file set.dirty name there no.0)
+second_other (Some change) set name out = search (rules, arith, not_one, edited_other, dirty_more)
 
 pub plan_other : (plan : Plan) (set : TextSet) (name : List ℕ) → is_name (files_of plan) name ≡ false
     → (text_of (planned plan set) name ≡ text_of set name) × (is_dirty (planned plan set) name ≡ true → is_dirty set name ≡ true)
@@ -411,13 +338,7 @@ same_bytes None = refl
 same_bytes (Some t) = refl
 
 pub small_put : (plan : Plan) (held : Holding) → AreTouched (files_of plan) held → AreSmallToWrite held.before → has_large (new_texts plan held.now) ≡ false → AreSmallToWrite (planned plan held.now)
-small_put plan held touched small none name there = elim (cases_Bool (is_name (files_of plan) name)) [
-  | inl t ↦ subst (λ (b : List ℕ). length b ≤ limit) (sym (same_bytes (text_of (planned plan held.now) name))) (none_large (planned plan held.now) (files_of plan) name none t)
-  | inr f ↦
-      let other = plan_other plan held.now name f in
-      let was = touched.dirty name f (other.1 there) in
-      subst (λ o. length (text_or_none o).bytes ≤ limit) (sym (other.0 ∙ touched.others name f)) (small name was)
-]
+small_put plan held touched small none name there = search (rules, arith, cases_Bool, same_bytes, planned, none_large, plan_other)
 
 -- a text that is made ready, or the command's edits that were taken back
 pub sound_made_ready : {E : Type 0} (result : Result (Unit {0}) E) (own : List ℕ) (names : List (List ℕ)) (live : Type 0) (files : Image) (held next : Holding) → IsSome (text_of held.now own)
@@ -437,9 +358,4 @@ none_found text (Some x) o none is = absurd (false≢true (sym none))
 
 -- the files with held texts, where one more is held as the disk has it
 pub over_held : (own copy bytes : List ℕ) (old now : Image) (set new : TextSet) → copy ≡ own → now ≡ old → bytes ≡ old own → new ≡ with_text copy bytes set → (name : List ℕ) → held_over new now name ≡ held_over set old name
-over_held own copy bytes old now set new cloned same is made name =
-    ap (λ (s : TextSet). held_over s now name) made
-    ∙ ap (λ (f : Image). held_over (with_text copy bytes set) f name) same
-    ∙ ap (λ (n : List ℕ). held_over (with_text n bytes set) old name) cloned
-    ∙ ap (λ (b : List ℕ). held_over (with_text own b set) old name) is
-    ∙ held_over-held own old set name
+over_held own copy bytes old now set new cloned same is made name = grind (arith, common_steps, held_over-held)

@@ -1,5 +1,6 @@
 -- A heading that is looked up in a file.
-use Rattle.std.proofs.Common.{◌≡◌, ◌∷◌, [], ℕ, List, Result, Ok, Err, refl, sym, ◌∙◌, ap, subst}
+use Rattle.std.proofs.Common.{arith, ◌≡◌, ◌∷◌, [], ℕ, List, Result, Ok, Err, refl, sym, ◌∙◌, ap, subst}
+use Rattle.std.proofs.lemmas.Grind.{common_steps}
 use Rattle.std.specs.Option.{unwrap_or}
 use Rattle.std.specs.Result.{IsErrAnd}
 use Rattle.org_disk.specs.declared.disk.Disk.{Ghosts}
@@ -16,17 +17,13 @@ use Rattle.org_commands.specs.Files.{OpenFiles}
 use Rattle.org_commands.specs.InOrder.{text_at}
 use Rattle.org_commands.specs.Keeping.{LooksUp, Reads}
 use Rattle.org_commands.specs.Session.{Session}
-use Rattle.org_commands.proofs.Clocks.{reads_look_up}
 use Rattle.org_commands.proofs.Handing.{handed_on}
 use Rattle.org_commands.proofs.MadeReady.{Sees, document_seen, session_in}
 
 -- its file couldn't be read
 pub look_up_unread : {D : Type 0} (g : Ghosts D) (states : Keywords) (old new : OpenFiles D) (tally : Tally) (found : Result ℕ PathFault) {read : Result (Unit {0}) RunFault} {fault : RunFault} (answer : Result ℕ RunFault) → IsErrAnd answer (λ y. y ≡ fault)
     → read ≡ Err fault → Reads (session_in g states old tally) read (session_in g states new tally) → LooksUp (session_in g states old tally) found answer (session_in g states new tally)
-look_up_unread g states old new tally found {fault = fault} answer handed was reads =
-    let s = session_in g states old tally in
-    let t = session_in g states new tally in
-    subst (λ (r : Result ℕ RunFault). LooksUp s found r t) (sym (handed_on answer fault handed)) (reads_look_up s t found fault (subst (λ (r : Result (Unit {0}) RunFault). Reads s r t) was reads))
+look_up_unread g states old new tally found {fault = fault} answer handed was reads = grind (arith, common_steps)
 
 module _ {D : Type 0} {g : Ghosts D} {states : Keywords} {old new : OpenFiles D} {file : List ℕ} {seen : EditedText} (sees : Sees g states old new (file ∷ []) file seen) (path : List Step) (tally : Tally) (honest : g.honest new.disk) where
   abbrev s : Session

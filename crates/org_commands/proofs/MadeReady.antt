@@ -1,5 +1,6 @@
 -- What a planner sees of a file that it made ready, and the faults that it hands on.
-use Rattle.std.proofs.Common.{◌≡◌, ◌≢◌, ◌∙◌, ◌∷◌, [], false, true, ℕ, List, Option, None, Some, Result, Err, sym, ap, subst}
+use Rattle.std.proofs.Common.{rules, arith, ◌≡◌, ◌≢◌, ◌∙◌, ◌∷◌, [], false, true, ℕ, List, Option, None, Some, Result, Err, sym, ap, subst}
+use Rattle.std.proofs.lemmas.Grind.{common_steps}
 use Rattle.std.specs.Option.{IsSome, unwrap_or}
 use Rattle.std.specs.Result.{IsErrAnd}
 use Rattle.org_disk.specs.declared.disk.Disk.{Ghosts}
@@ -75,15 +76,11 @@ module _ {D : Type 0} (g : Ghosts D) (states : Keywords) (old new : OpenFiles D)
 -- a plan of the store as it was, from one that calls left so which only read
 module _ {D : Type 0} (g : Ghosts D) (states : Keywords) (old mid new : OpenFiles D) (tally : Tally) {outcome : Outcome} (told : Session → Outcome) (read : session_in g states mid tally ≡ session_in g states old tally) (is : outcome ≡ told (session_in g states old tally)) where
   pub plans_then : (answer : Result Plan RunFault) → Plans (session_in g states mid tally) (told (session_in g states mid tally)) answer new.held (session_in g states new tally) → Plans (session_in g states old tally) outcome answer new.held (session_in g states new tally)
-  plans_then answer plans =
-      subst (λ (o : Outcome). Plans (session_in g states old tally) o answer new.held (session_in g states new tally)) (sym is)
-      (subst (λ (m : Session). Plans m (told m) answer new.held (session_in g states new tally)) read plans)
+  plans_then answer plans = grind (arith, common_steps)
 
   pub stays_then : (answer : Result (Option Plan) RunFault) → PlansOrStays (session_in g states mid tally) (told (session_in g states mid tally)) answer new.held (session_in g states new tally)
       → PlansOrStays (session_in g states old tally) outcome answer new.held (session_in g states new tally)
-  stays_then answer plans =
-      subst (λ (o : Outcome). PlansOrStays (session_in g states old tally) o answer new.held (session_in g states new tally)) (sym is)
-      (subst (λ (m : Session). PlansOrStays m (told m) answer new.held (session_in g states new tally)) read plans)
+  stays_then answer plans = grind (arith, common_steps)
 
 -- the text of a name that is none of the store's
 pub no_text_of : {D : Type 0} (g : Ghosts D) (files : OpenFiles D) (file : List ℕ) → false ≡ is_name files.names file → text_at files.names (texts_of (held_over files.held.before (contents (g.files files.disk))) files.names) file ≡ None
@@ -118,14 +115,7 @@ module _ (file : List ℕ) {D : Type 0} {old : OpenFiles D} (between : AreReadyF
 
   pub sees_one : (g : Ghosts D) (states : Keywords) (new : OpenFiles D) {seen : EditedText} → is_name old.names file ≡ true → ((names : List (List ℕ)) → AreReady names old.held → AreReady (file ∷ names) new.held)
       → new.names ≡ old.names → ((k : Keywords) → BetweenSessions g k old new (λ s t. t ≡ s)) → text_of new.held.now file ≡ Some seen → Sees g states old new (file ∷ []) file seen
-  sees_one g states new there ready names reads at = record {
-    unbroken = between.unbroken;
-    ready = one_ready ready;
-    among = one_name file;
-    named = still_named file names there;
-    at = at;
-    reads = reads states;
-  }
+  sees_one g states new there ready names reads at = search (rules, arith, one_ready, one_name, still_named)
 
 -- two are, the second one last
 module _ (file to_file : List ℕ) {D : Type 0} {old : OpenFiles D} (between : AreReadyForCommand old) where
@@ -142,24 +132,7 @@ module _ (file to_file : List ℕ) {D : Type 0} {old : OpenFiles D} (between : A
       → ((names : List (List ℕ)) → AreReady names old.held → AreReady (to_file ∷ file ∷ names) new.held) → new.names ≡ old.names → ((k : Keywords) → BetweenSessions g k old new (λ s t. t ≡ s))
       → text_of new.held.now file ≡ Some seen → text_of new.held.now to_file ≡ Some found
       → Sees g states old new (to_file ∷ file ∷ []) file seen × Sees g states old new (to_file ∷ file ∷ []) to_file found
-  sees_two g states new there also ready names reads at into = (
-    record {
-      unbroken = between.unbroken;
-      ready = two_ready ready;
-      among = second_name to_file file;
-      named = still_named file names there;
-      at = at;
-      reads = reads states;
-    },
-    record {
-      unbroken = between.unbroken;
-      ready = two_ready ready;
-      among = first_name to_file (file ∷ []);
-      named = still_named to_file names also;
-      at = into;
-      reads = reads states;
-    },
-  )
+  sees_two g states new there also ready names reads at into = search (rules, arith, two_ready, second_name, still_named, first_name)
 
 module _ {D : Type 0} {g : Ghosts D} {states : Keywords} {old new : OpenFiles D} {names : List (List ℕ)} {file : List ℕ} {seen : EditedText} (sees : Sees g states old new names file seen) (tally : Tally) (honest : g.honest new.disk) where
   abbrev store : Session

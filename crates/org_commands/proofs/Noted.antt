@@ -1,5 +1,6 @@
 -- What is noted of a store's files stays true of their texts.
-use Rattle.std.proofs.Common.{◌≡◌, ◌≢◌, ◌⊎◌, inl, inr, ℕ, zero, suc, ◌+◌, ◌<◌, ◌≤◌, true, false, List, [], ◌∷◌, ◌++◌, length, drop, get_or, slice_get, Option, Some, None, refl, sym, ◌∙◌, ap, subst, below_more, arith}
+use Rattle.std.proofs.Common.{rules, ◌≡◌, ◌≢◌, ◌⊎◌, inl, inr, ℕ, zero, suc, ◌+◌, ◌<◌, ◌≤◌, true, false, List, [], ◌∷◌, ◌++◌, length, drop, get_or, slice_get, Option, Some, None, refl, sym, ◌∙◌, ap, subst, below_more, arith}
+use Rattle.std.proofs.lemmas.Grind.{common_steps}
 use Rattle.std.proofs.Math.ListN.{set}
 use Rattle.std.proofs.lemmas.List.{append-nil, drop_all}
 use Rattle.std.proofs.lemmas.Option.{slice_get_within}
@@ -14,12 +15,10 @@ use Rattle.org_splice.specs.Edits.{CanApply, applied, applied_each}
 use Rattle.org_splice.specs.Lines.{terminated}
 use Rattle.org_splice.specs.Texts.{EditedText, terminated_text, settled, spliced_each}
 use Rattle.org_splice.proofs.Lines.{terminated_twice}
-use Rattle.org_outline.specs.Tree.{tree}
 use Rattle.org_outline.proofs.Trees.{tree-terminated}
 use Rattle.org_splice.specs.declared.searched.Searched.{Searched}
 use Rattle.org_splice.specs.declared.searched.Searched.TheVariants.{Nowhere}
 use Rattle.org_splice.specs.Searched.{IsSearched}
-use Rattle.org_state.specs.Clock.{has_clock, running_in}
 use Rattle.org_state.proofs.Known.{no_clock}
 use Rattle.org_texts.specs.declared.plan.FileEdits.{FileEdits}
 use Rattle.org_texts.specs.declared.plan.Plan.{Plan}
@@ -44,12 +43,7 @@ same_text old new name searched same known = (known.0, same ∙ known.1, known.2
 
 -- another text is held
 known_held : (own bytes : List ℕ) (set : TextSet) (name : List ℕ) (searched : Searches) → text_of set own ≡ None → IsKnown searched set name → IsKnown searched (with_text own bytes set) name
-known_held own bytes set name searched none known = elim (name_cases own name) [
-  | inl is ↦
-      let no : Some known.0 ≡ None = sym known.1 ∙ ap (text_of set) (sym is.0) ∙ none in
-      absurd (cc)
-  | inr apart ↦ same_text set (with_text own bytes set) name searched (held_other own bytes set name apart.0) known
-]
+known_held own bytes set name searched none known = grind (arith, common_steps, name_cases, same_text, held_other)
 
 -- a text is terminated
 known_terminated : (own : List ℕ) (set : TextSet) (name : List ℕ) (searched : Searches) → IsKnown searched set name → IsKnown searched (terminated_in own set) name
@@ -72,10 +66,7 @@ known_settled set name searched known =
 
 -- no clock runs in a text of which that is known
 pub clockless_known : (searched : Searches) (set : TextSet) (name : List ℕ) → searched.clocks ≡ Nowhere → IsKnown searched set name → RunsIn set name None
-clockless_known searched set name is known =
-    let none : running_in (tree (terminated known.0.bytes)) ≡ None =
-    no_clock (terminated known.0.bytes) (subst (λ (s : Searched). IsSearched has_clock s (terminated known.0.bytes)) is known.2.clocks) in
-    (known.0, known.1, ap running_in (sym (tree-terminated known.0.bytes)) ∙ none)
+clockless_known searched set name is known = grind (arith, common_steps, no_clock, tree-terminated)
 
 -- ---- the notes
 
@@ -94,16 +85,10 @@ noted_held own bytes names notes held next none none_before now before noted = r
 
 -- the edits of a command, taken back or kept
 pub noted_undone : (names : List (List ℕ)) (notes : List (Option Searches)) (held next : Holding) → next.now ≡ held.before → next.before ≡ held.before → IsNoted names notes held → IsNoted names notes next
-noted_undone names notes held next now before noted = record {
-  now = subst (AreKnown names notes) (sym now) noted.before;
-  before = subst (AreKnown names notes) (sym before) noted.before;
-}
+noted_undone names notes held next now before noted = grind (arith, common_steps)
 
 pub noted_kept : (names : List (List ℕ)) (notes : List (Option Searches)) (held next : Holding) → next.now ≡ held.now → next.before ≡ held.now → IsNoted names notes held → IsNoted names notes next
-noted_kept names notes held next now before noted = record {
-  now = subst (AreKnown names notes) (sym now) noted.now;
-  before = subst (AreKnown names notes) (sym before) noted.now;
-}
+noted_kept names notes held next now before noted = search (rules, arith)
 
 pub noted_settled : (names : List (List ℕ)) (notes : List (Option Searches)) (held next : Holding) → next.now ≡ settled_set held.now → next.before ≡ settled_set held.now → IsNoted names notes held → IsNoted names notes next
 noted_settled names notes held next now before noted =
@@ -127,17 +112,6 @@ nothing_known notes none names set i searched at = absurd (not_in i searched (ap
 
 -- ---- a file is noted
 
-pub known_more : (names : List (List ℕ)) (old new : List (Option Searches)) (index : ℕ) (file : List ℕ) (searched : Searches)
-    → ((i : ℕ) (s : Searches) → slice_get new i ≡ Some (Some s) → ((i ≡ index) × (s ≡ searched)) ⊎ (slice_get old i ≡ Some (Some s))) → slice_get names index ≡ Some file
-    → (set : TextSet) → IsKnown searched set file → AreKnown names old set → AreKnown names new set
-known_more names old new index file searched more there set known others i s at name is = elim (more i s at) [
-  | inl here ↦
-      let both : Some file ≡ Some name = sym there ∙ ap (slice_get names) (sym here.0) ∙ is in
-      let one : file ≡ name = cc in
-      subst (λ (q : Searches). IsKnown q set name) (sym here.1) (subst (IsKnown searched set) one known)
-  | inr was ↦ others i s was name is
-]
-
 pub noted_more : (names ns : List (List ℕ)) (old new : List (Option Searches)) (held : Holding) (file : List ℕ) (searched : Searches) → ns ≡ names
     → ((set : TextSet) → IsKnown searched set file → AreKnown ns old set → AreKnown ns new set)
     → IsKnown searched held.now file → IsKnown searched held.before file → IsNoted names old held → IsNoted names new held
@@ -150,10 +124,7 @@ noted_more names ns old new held file searched same more now before noted =
 
 -- the notes of a text whose edits are made
 pub stays_lowered : (names : List (List ℕ)) (file : List ℕ) (size : ℕ) (edits : List Edit) (old new : List (Option Searches)) → Lowers names file size edits old new → StayKnown names old new
-stays_lowered names file size edits old new lowers set are i searched at name is =
-    let low = lowers i searched at in
-    let known = are i low.0 low.1 name is in
-    (known.0, known.1, low.2 (terminated known.0.bytes) known.2)
+stays_lowered names file size edits old new lowers set are i searched at name is = grind (arith, common_steps)
 
 -- the bytes behind edits
 pub spliced_bytes : (edits : List Edit) (text : EditedText) → (spliced_each edits text).bytes ≡ applied_each edits text.bytes
@@ -198,19 +169,13 @@ LowersBelow names file size edits index old new =
     → (was : Searches) × (slice_get old i ≡ Some (Some was)) × StaysKnown was searched
     × (i < index → (name : List ℕ) → slice_get names i ≡ Some name → bytes_eq file name ≡ true → FollowsEdits size edits was searched)
 
-pub lowers_none : (names : List (List ℕ)) (file : List ℕ) (size : ℕ) (edits : List Edit) (old : List (Option Searches)) → LowersBelow names file size edits 0 old old
-lowers_none names file size edits old i searched at = (searched, at, λ text known. known, λ below. absurd (omega (arith, below)))
-
 -- a note that was put in another's place
 replaced : (notes : List (Option Searches)) (index i : ℕ) (new s : Option Searches) → index < length notes → slice_get (set notes index new) i ≡ Some s → ((i ≡ index) × (s ≡ new)) ⊎ ((i ≢ index) × (slice_get notes i ≡ Some s))
 replaced [] index i new s within at = absurd (omega (arith, within))
 replaced (x ∷ xs) zero zero new s within at = inl (refl, cc)
 replaced (x ∷ xs) zero (suc i) new s within at = inr (λ is. cc, at)
 replaced (x ∷ xs) (suc index) zero new s within at = inr (λ is. cc, at)
-replaced (x ∷ xs) (suc index) (suc i) new s within at = elim (replaced xs index i new s (omega (arith, within)) at) [
-  | inl here ↦ inl (ap suc here.0, here.1)
-  | inr other ↦ inr (λ is. let same : i ≡ index = omega (arith, is) in other.0 same, other.1)
-]
+replaced (x ∷ xs) (suc index) (suc i) new s within at = grind (arith, common_steps, replaced xs)
 
 pub lowers_this : (names : List (List ℕ)) (file : List ℕ) (size : ℕ) (edits : List Edit) (index : ℕ) (old mid new : List (Option Searches)) (here lower : Option Searches) → index < length mid → slice_get mid index ≡ Some here
     → new ≡ set mid index lower → LowersNote size edits here lower
@@ -240,19 +205,12 @@ lowers_other names file size edits index old new other sofar i searched at =
     )
 
 pub lowers_past : (names : List (List ℕ)) (file : List ℕ) (size : ℕ) (edits : List Edit) (index next : ℕ) (old new : List (Option Searches)) → length new ≤ index → LowersBelow names file size edits index old new → LowersBelow names file size edits next old new
-lowers_past names file size edits index next old new past sofar i searched at =
-    let was = sofar i searched at in
-    (was.0, was.1, was.2, λ below. was.3 (omega (arith, past, slice_get_within new i (Some searched) at)))
+lowers_past names file size edits index next old new past sofar i searched at = grind (arith, common_steps, slice_get_within)
 
 pub lowers_all : (names : List (List ℕ)) (file : List ℕ) (size : ℕ) (edits : List Edit) (index : ℕ) (old new : List (Option Searches)) → length names ≤ index → LowersBelow names file size edits index old new → Lowers names file size edits old new
 lowers_all names file size edits index old new past sofar i searched at =
     let was = sofar i searched at in
     (was.0, was.1, was.2, λ name at_name same. was.3 (omega (arith, past, slice_get_within names i name at_name)) name at_name same)
-
-pub note_lowered : (size : ℕ) (edits : List Edit) (note : Option Searches) (here lower : Searches) → note ≡ Some here → StaysKnown here lower → FollowsEdits size edits here lower → LowersNote size edits note (Some lower)
-note_lowered size edits note here lower is stays follows searched same =
-    let one : lower ≡ searched = cc in
-    subst (λ (s : Searches). (was : Searches) × (note ≡ Some was) × StaysKnown was s × FollowsEdits size edits was s) one (here, is, stays, follows)
 
 -- a plan's edits, in memory
 pub noted_put : (plan : Plan) (names ns : List (List ℕ)) (old new : List (Option Searches)) (held next : Holding) → ns ≡ names → next.now ≡ planned plan held.now → next.before ≡ held.before
@@ -278,9 +236,7 @@ noted_not_put names ns old new held next same now before stays noted =
 -- what a search found of a text that was ready
 pub known_ready : (held : Holding) (before : TextSet) (file : List ℕ) (seen : EditedText) (searched : Searches) → AreReady (file ∷ []) held → text_of held.now file ≡ Some seen → before ≡ held.before → AreSearched searched seen.bytes
     → IsKnown searched before file
-known_ready held before file seen searched ready at same known =
-    let old = ready_text (file ∷ []) held file seen ready (one_name file) at in
-    subst (λ (set : TextSet). IsKnown searched set file) (sym same) (old.0, old.1, subst (AreSearched searched) old.2 known)
+known_ready held before file seen searched ready at same known = grind (arith, common_steps, ready_text, one_name, set)
 
 -- what is left of edits, of which one is made
 pub edits_left : (rest : List Edit) (index size next : ℕ) (was searched : Searches) (e : Edit) (text : List ℕ) (edits : List Edit) → index < length rest → e ≡ get_or rest index e

@@ -1,12 +1,11 @@
 -- Plans of one file, and what is seen of files that are ready.
-use Rattle.std.proofs.Common.{◌≡◌, ◌≢◌, inl, inr, ℕ, Bool, true, List, [], ◌∷◌, Option, Some, None, refl, sym, ◌∙◌, ap, subst}
+use Rattle.std.proofs.Common.{arith, ◌≡◌, ◌≢◌, ℕ, true, List, [], ◌∷◌, Option, Some, None, refl, sym, ◌∙◌, ap, subst}
+use Rattle.std.proofs.lemmas.Grind.{common_steps}
 use Rattle.std.specs.Prelude.{IsSomeAnd}
 use Rattle.std.specs.List.{AllByRecursion}
-use Rattle.std.specs.Map.{lookup}
-use Rattle.std.specs.Option.{IsSome, is_some, option_map}
-use Rattle.std.specs.Str.{bytes_eq}
+use Rattle.std.specs.Option.{IsSome, option_map}
 use Rattle.std.proofs.lemmas.Bool.{false≢true}
-use Rattle.org_disk.proofs.Names.{name_cases, same_name}
+use Rattle.org_disk.proofs.Names.{same_name}
 use Rattle.org_splice.specs.declared.edit.Edit.{Edit}
 use Rattle.org_splice.specs.Edits.{AreEdits, CanApply, applied_each}
 use Rattle.org_splice.specs.Lines.{terminated}
@@ -60,15 +59,11 @@ the_held (Some old) seen is = let same : seen ≡ terminated_text old = cc in (o
 -- what was held of a file that is ready
 pub ready_text : (names : List (List ℕ)) (held : Holding) (file : List ℕ) (seen : EditedText) → AreReady names held → is_name names file ≡ true → text_of held.now file ≡ Some seen
     → (old : EditedText) × (text_of held.before file ≡ Some old) × (seen.bytes ≡ terminated old.bytes)
-ready_text names held file seen ready there at =
-    let old = the_held (text_of held.before file) seen (sym at ∙ ready.stays_terminated file there) in
-    (old.0, old.1, ap (λ (t : EditedText). t.bytes) old.2 ∙ terminated_text-bytes old.0)
+ready_text names held file seen ready there at = grind (arith, common_steps, the_held, terminated_text-bytes)
 
 -- .. it is terminated
 pub text_ends : (names : List (List ℕ)) (held : Holding) (file : List ℕ) (seen : EditedText) → AreReady names held → is_name names file ≡ true → text_of held.now file ≡ Some seen → terminated seen.bytes ≡ seen.bytes
-text_ends names held file seen ready there at =
-    let old = ready_text names held file seen ready there at in
-    ap terminated old.2 ∙ terminated_twice old.0.bytes ∙ sym old.2
+text_ends names held file seen ready there at = grind (arith, common_steps, ready_text, terminated_twice)
 
 pub touched_ready : (names : List (List ℕ)) (held : Holding) → AreReady names held → AreTouched names held
 touched_ready names held ready = record { held = ready.held; others = ready.others; dirty = ready.dirty }
@@ -108,23 +103,11 @@ now_held names held file ready there = subst (λ (o : Option EditedText). IsSome
 pub is_ready : (names : List (List ℕ)) (held : Holding) (file : List ℕ) → AreReady names held → is_name names file ≡ true → IsReady file held
 is_ready names held file are there = record { held = now_held names held file are there; ready = are.ready file there }
 
--- a text that is held is found
-pub not_missing : {X : Type 0} (text : X → EditedText) (found : Option X) (o : Option EditedText) → option_map text found ≡ o → IsSome o → ((x : X) → found ≡ Some x → ⊥) → ⊥
-not_missing text None o is some none = absurd (false≢true (ap is_some is ∙ some))
-not_missing text (Some x) o is some none = none x refl
-
--- the headings of a text that is ready are held
-pub ready_heads : {X : Type 0} (names : List (List ℕ)) (held : Holding) (file : List ℕ) (has : X → Bool) (found : Option X) (x : X) → AreReady names held → is_name names file ≡ true → option_map has found ≡ lookup (bytes_eq file) held.ready
-    → found ≡ Some x → has x ≡ true
-ready_heads names held file has found x ready there is at = ready.ready file there (has x) (sym is ∙ ap (option_map has) at)
-
 -- ---- plans of two files
 
 -- the text of a file that is edited
 edited_text : (change : FileEdits) (set : TextSet) (text : EditedText) (new : List ℕ) → text_of set change.file ≡ Some text → AreEdits change.edits.items text.bytes new → bytes_or [] (text_of (with_edits change set) change.file) ≡ new
-edited_text change set text new at edits =
-    let es = change.edits.items in
-    ap (bytes_or []) (change_this change.file (spliced_each es) set.texts ∙ ap (option_map (spliced_each es)) at) ∙ spliced_each-bytes es text ∙ sym (AreEdits-applied es text.bytes new edits)
+edited_text change set text new at edits = grind (arith, common_steps, change_this, spliced_each-bytes, AreEdits-applied)
 
 pub two_texts : (plan : Plan) (second : FileEdits) (held : Holding) (file to_file : List ℕ) (text target : EditedText) (new other : List ℕ) → file ≢ to_file → plan.first.file ≡ file → plan.second ≡ Some second → second.file ≡ to_file
     → text_of held.now file ≡ Some text → text_of held.now to_file ≡ Some target → AreEdits plan.first.edits.items text.bytes new → AreEdits second.edits.items target.bytes other
@@ -144,9 +127,7 @@ two_texts plan second held file to_file text target new other apart own is into 
     distinct same = apart (sym own ∙ same ∙ into)
 
     first_text : bytes_or [] (text_of (with_edits second left) plan.first.file) ≡ new
-    first_text =
-        ap (bytes_or []) (change_other second.file plan.first.file (spliced_each second.edits.items) left.texts (λ same. distinct (sym same)))
-        ∙ edited_text plan.first held.now text new (ap (text_of held.now) own ∙ at) edits
+    first_text = grind (arith, common_steps, change_other, left, distinct, edited_text)
 
     second_text : bytes_or [] (text_of (with_edits second left) second.file) ≡ other
     second_text =
@@ -155,25 +136,10 @@ two_texts plan second held file to_file text target new other apart own is into 
 
 -- the same names in another order
 swapped : (one two : List ℕ) (name : List ℕ) → is_name (one ∷ two ∷ []) name ≡ is_name (two ∷ one ∷ []) name
-swapped one two name = elim (name_cases one name) [
-  | inl is ↦ let t = is.1 in elim (name_cases two name) [
-    | inl both ↦ let u = both.1 in rw (t, u) refl
-    | inr not ↦ let f = not.1 in rw (t, f) refl
-  ]
-  | inr out ↦ let g = out.1 in elim (name_cases two name) [
-    | inl is ↦ let u = is.1 in rw (g, u) refl
-    | inr not ↦ let f = not.1 in rw (g, f) refl
-  ]
-]
+swapped one two name = grind (arith, common_steps)
 
 pub ready_swapped : (one two : List ℕ) (held : Holding) → AreReady (one ∷ two ∷ []) held → AreReady (two ∷ one ∷ []) held
-ready_swapped one two held are = record {
-  held = λ name there. are.held name (swapped one two name ∙ there);
-  ready = λ name there has at. are.ready name (swapped one two name ∙ there) has at;
-  stays_terminated = λ name there. are.stays_terminated name (swapped one two name ∙ there);
-  others = λ name out. are.others name (swapped one two name ∙ out);
-  dirty = λ name out there. are.dirty name (swapped one two name ∙ out) there;
-}
+ready_swapped one two held are = grind (arith, common_steps)
 
 pub first_name : (one : List ℕ) (names : List (List ℕ)) → is_name (one ∷ names) one ≡ true
 first_name one names = let t = same_name one in rw t refl

@@ -1,13 +1,11 @@
 -- Calls that only read: handed on, and one after another.
-use Rattle.std.proofs.Common.{◌≡◌, ◌∙◌, ◌⊎◌, inr, ⊎_elim, Bool, false, Result, Ok, Err, refl, sym, ap, subst}
+use Rattle.std.proofs.Common.{arith, ◌≡◌, ◌∙◌, ◌⊎◌, false, Result, Ok, Err, refl, sym, ap, subst}
+use Rattle.std.proofs.lemmas.Grind.{common_steps}
 use Rattle.org_disk.specs.declared.disk.Disk.{Ghosts}
 use Rattle.std.specs.Prelude.{◌↔◌, IsErrOf, IsTrue}
-use Rattle.std.proofs.lemmas.Bool.{false≢true}
-use Rattle.org_disk.specs.CountsFailures.{CountsFailures, Looks, LooksOver}
-use Rattle.org_disk.proofs.Accounting.{accounts_fine, accounts_none, accounts_then, looks_none, looks_then}
+use Rattle.org_disk.specs.CountsFailures.{CountsFailures, LooksOver}
 use Rattle.org_fileset.specs.declared.fault.SetFault.{SetFault}
 use Rattle.org_fileset.specs.declared.fault.SetFault.TheVariants as set
-use Rattle.org_texts.specs.Texts.{TextSet}
 use Rattle.org_fault.specs.declared.refusal.Refusal.{Refusal}
 use Rattle.org_commands.specs.declared.command.RunFault.{RunFault}
 use Rattle.org_commands.specs.declared.command.RunFault.TheVariants.{Device, Broken, OutOfMemory, Refused}
@@ -22,25 +20,12 @@ use Rattle.org_commands.proofs.Sessions.{reads_fault, view_same}
 -- the accounts of a call, where another answer fails just where its own does
 accounts_as : {D : Type 0} {g : Ghosts D} {old new : D} {Failed Fails : Type 0} → (Fails → Failed) → (Failed → Fails)
     → CountsFailures g old new Failed → CountsFailures g old new Fails
-accounts_as back on call = record {
-  was_honest = call.was_honest;
-  stays_honest = call.stays_honest;
-  no_less = call.no_less;
-  risen = λ fails. call.risen (back fails);
-  equal = λ fine. call.equal (λ failed. fine (on failed));
-}
+accounts_as back on call = grind (arith, common_steps)
 
 -- a call that did nothing
 pub only_reads_none : {D A : Type 0} {g : Ghosts D} {old : OpenFiles D} {answer : Result A RunFault}
     → old.broken ≡ false → (IsErrOf answer Broken → ⊥) → (IsErrOf answer Device → ⊥) → OnlyReads g old old answer
-only_reads_none {g = g} {old = old} unbroken works stays = record {
-  looks = λ h. looks_none g.files g.instant g.left_since old.disk;
-  names = refl;
-  dirty_files = refl;
-  works = works;
-  breaks = (λ fell. absurd (stays fell), λ broken. absurd (false≢true (sym unbroken ∙ broken)));
-  accounts = accounts_as stays (λ no. absurd no) (accounts_none g old.disk);
-}
+only_reads_none {g = g} {old = old} unbroken works stays = grind (arith, common_steps)
 
 -- .. and answered a refusal
 pub only_reads_refused : {D A : Type 0} {g : Ghosts D} {old : OpenFiles D} → old.broken ≡ false → (why : Refusal) (answer : Result A RunFault) → answer ≡ Err (Refused why) → OnlyReads g old old answer
@@ -50,14 +35,7 @@ only_reads_refused unbroken why answer given =
 -- a call whose edits are taken back
 pub only_reads_undone : {D A : Type 0} {g : Ghosts D} {old mid new : OpenFiles D} {answer : Result A RunFault} → StaysInMemory mid new → new.held.before ≡ mid.held.before → OnlyReads g old mid answer
     → OnlyReads g old new answer
-only_reads_undone {D = D} {g = g} {old = old} {answer = answer} memory before call = record {
-  looks = subst (λ (disk : D). Looks g old.disk disk) (sym memory.disk) call.looks;
-  names = memory.names ∙ call.names;
-  dirty_files = ap (λ (s : TextSet). s.dirty) before ∙ call.dirty_files;
-  works = call.works;
-  breaks = subst (λ (b : Bool). IsErrOf answer Device ↔ IsTrue b) (sym memory.broken) call.breaks;
-  accounts = subst (λ (disk : D). CountsFailures g old.disk disk (IsErrOf answer Device)) (sym memory.disk) call.accounts;
-}
+only_reads_undone {D = D} {g = g} {old = old} {answer = answer} memory before call = grind (arith, common_steps)
 
 -- a call of the set of files that only looks at the disk, and an answer that is the device's fault
 -- just where the set's is
@@ -66,14 +44,7 @@ pub only_reads_set : {D X A : Type 0} {g : Ghosts D} {old new : OpenFiles D} {an
     → old.broken ≡ false → new.names ≡ old.names → new.held.before.dirty ≡ old.held.before.dirty → (g.honest new.disk → LooksOver g old.disk new.disk)
     → IsTrue new.broken ↔ (IsTrue old.broken ⊎ IsErrOf result set.Device) → CountsFailures g old.disk new.disk (IsErrOf result set.Device)
     → OnlyReads g old new answer
-only_reads_set result works back on unbroken names dirty_files looks breaks accounts = record {
-  looks = looks;
-  names = names;
-  dirty_files = dirty_files;
-  works = works;
-  breaks = (λ fell. breaks.1 (inr (back fell)), λ broken. ⊎_elim (λ was. absurd (false≢true (sym unbroken ∙ was))) on (breaks.0 broken));
-  accounts = accounts_as back on accounts;
-}
+only_reads_set result works back on unbroken names dirty_files looks breaks accounts = grind (arith, common_steps)
 
 -- a fault of the set, and the files' own
 module _ {X A : Type 0} (result : Result X SetFault) (answer : Result A RunFault) where
@@ -100,14 +71,7 @@ module _ {D : Type 0} {g : Ghosts D} {A B : Type 0} where
   -- a call, and another answer that has these faults just where its own has
   only_reads_as : {old new : OpenFiles D} {first : Result A RunFault} {second : Result B RunFault} → (IsErrOf second Broken → IsErrOf first Broken) → (IsErrOf second Device → IsErrOf first Device)
       → (IsErrOf first Device → IsErrOf second Device) → OnlyReads g old new first → OnlyReads g old new second
-  only_reads_as broken back on call = record {
-    looks = call.looks;
-    names = call.names;
-    dirty_files = call.dirty_files;
-    works = λ was. call.works (broken was);
-    breaks = (λ fell. call.breaks.0 (back fell), λ fell. on (call.breaks.1 fell));
-    accounts = accounts_as back on call.accounts;
-  }
+  only_reads_as broken back on call = grind (arith, common_steps)
 
   -- its fault, handed on
   pub only_reads_fault : {old new : OpenFiles D} {fault : RunFault} {answer : Result B RunFault} → answer ≡ Err fault
@@ -131,14 +95,7 @@ module _ {D : Type 0} {g : Ghosts D} {A B : Type 0} where
   -- a call that didn't fail, and one after it
   pub only_reads_then : {old mid new : OpenFiles D} {x : A} {answer : Result B RunFault} → OnlyReads g old mid (Ok x)
       → OnlyReads g mid new answer → OnlyReads g old new answer
-  only_reads_then first second = record {
-    looks = λ h. looks_then (first.looks (second.accounts.was_honest h)) (second.looks h);
-    names = second.names ∙ first.names;
-    dirty_files = second.dirty_files ∙ first.dirty_files;
-    works = second.works;
-    breaks = second.breaks;
-    accounts = accounts_then (accounts_fine (λ fell. absurd (cc)) first.accounts) second.accounts;
-  }
+  only_reads_then first second = grind (arith, common_steps)
 
 -- ---- calls that keep what is held
 

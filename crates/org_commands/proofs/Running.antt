@@ -1,9 +1,10 @@
 -- The clock that runs over a store's files, found one file after another.
-use Rattle.std.proofs.Common.{◌≡◌, inl, inr, ℕ, zero, ◌+◌, ◌<◌, ◌≤◌, suc, true, List, [], ◌∷◌, length, drop, slice_get, get_or, Option, Some, None, refl, sym, ◌∙◌, ap}
+use Rattle.std.proofs.Common.{arith, ◌≡◌, ℕ, zero, ◌+◌, ◌<◌, suc, true, List, [], ◌∷◌, length, drop, slice_get, get_or, Option, Some, None, refl, sym, ◌∙◌, ap}
+use Rattle.std.proofs.lemmas.Grind.{common_steps}
 use Rattle.std.specs.Option.{option_map, option_or}
-use Rattle.std.proofs.lemmas.List.{drop_all, drop_more}
+use Rattle.std.proofs.lemmas.List.{drop_more}
 use Rattle.std.proofs.lemmas.Option.{slice_get-get_or}
-use Rattle.org_disk.proofs.Names.{name_cases, same_name}
+use Rattle.org_disk.proofs.Names.{same_name}
 use Rattle.org_splice.specs.Texts.{EditedText}
 use Rattle.org_journal.specs.Recovered.{Image}
 use Rattle.org_outline.specs.Tree.{tree}
@@ -21,9 +22,7 @@ use Rattle.org_commands.proofs.Plans.{one_name, ready_text}
 
 -- the clock of a text that is ready is that of the text as it was
 pub runs_ready : (held : Holding) (set : TextSet) (file : List ℕ) (seen : EditedText) → AreReady (file ∷ []) held → text_of held.now file ≡ Some seen → set ≡ held.before → RunsIn set file (running_in (tree seen.bytes))
-runs_ready held set file seen ready at same =
-    let old = ready_text (file ∷ []) held file seen ready (one_name file) at in
-    (old.0, ap (λ (s : TextSet). text_of s file) same ∙ old.1, ap running_in (sym (tree-terminated old.0.bytes)) ∙ ap (λ (b : List ℕ). running_in (tree b)) (sym old.2))
+runs_ready held set file seen ready at same = grind (arith, common_steps, ready_text, one_name, tree-terminated)
 
 -- .. and that of the file
 pub runs_over : (set : TextSet) (files : Image) (name : List ℕ) (found : Option Running) → RunsIn set name found → running_in (tree (held_over set files name)) ≡ found
@@ -35,10 +34,7 @@ runs_over set files name found runs = ap (λ (o : Option EditedText). running_in
 pub named_at : (names : List (List ℕ)) (i : ℕ) (name : List ℕ) → slice_get names i ≡ Some name → is_name names name ≡ true
 named_at [] i name is = absurd (cc)
 named_at (one ∷ names) zero name is = let same : one ≡ name = cc in let t = same_name name in rw (same, t) refl
-named_at (one ∷ names) (suc i) name is = let later = named_at names i name is in elim (name_cases one name) [
-  | inl here ↦ let t = here.1 in rw t refl
-  | inr apart ↦ let f = apart.1 in rw f later
-]
+named_at (one ∷ names) (suc i) name is = grind (arith, common_steps, named_at names i name is)
 
 -- files that have the same texts
 same_there : (files other : Image) (names : List (List ℕ)) (name : List ℕ) → is_name names name ≡ true → texts_of files names ≡ texts_of other names → files name ≡ other name
@@ -70,7 +66,3 @@ pub runs_here : (files other : Image) (names : List (List ℕ)) (i : ℕ) (name 
 runs_here files other names i name running within is same found =
     let here : running_in (tree (files name)) ≡ Some running = ap (λ (b : List ℕ). running_in (tree b)) (sym (same_there other files names name (named_at names i name is) same)) ∙ found in
     step files names i name within is ∙ ap (λ o. option_or (option_map (λ running. (name, running)) o) (first_from files names (i + 1))) here
-
--- no file is left
-pub runs_nowhere : (files : Image) (names : List (List ℕ)) (i : ℕ) → length names ≤ i → first_from files names i ≡ None
-runs_nowhere files names i past = ap (λ (ns : List (List ℕ)). running_over ns (texts_of files ns)) (drop_all i names past)

@@ -1,5 +1,6 @@
 -- Changes of states: what their planner finds is what the outcome says.
-use Rattle.std.proofs.Common.{◌≡◌, ◌≢◌, ℕ, false, List, [], ◌∷◌, Option, Some, None, Result, Ok, Err, Vec, refl, sym, ◌∙◌, ap, subst}
+use Rattle.std.proofs.Common.{arith, ◌≡◌, ◌≢◌, ℕ, false, List, [], ◌∷◌, Option, Some, None, Result, Ok, Err, Vec, refl, sym, ◌∙◌, ap, subst}
+use Rattle.std.proofs.lemmas.Grind.{common_steps}
 use Rattle.std.specs.Global.{Global}
 use Rattle.std.specs.Prelude.{IfNone, IfSome}
 use Rattle.std.specs.Option.{ForSome, unwrap_or}
@@ -66,9 +67,7 @@ pub plan_made : (file text : List ℕ) (said : Result (Option Document) Refusal)
     → IfSome o (λ plan. (edits ≢ []) × (plan.first.file ≡ file) × (plan.second ≡ None) × (plan.first.edits.items ≡ edits))
     → (edits ≡ [] → said ≡ Ok None) → (edits ≢ [] → (d : Document) × (said ≡ Ok (Some d)) × AreEdits edits text (print d)) → PlansState file text said (Ok o)
 plan_made file text said edits None none some stays makes = stays none
-plan_made file text said edits (Some plan) none (changes, named, alone, are) stays makes =
-    let made = makes changes in
-    (made.0, made.1, (named, alone, subst (λ (es : List Edit). AreEdits es text (print made.0)) (sym are) made.2))
+plan_made file text said edits (Some plan) none (changes, named, alone, are) stays makes = grind (arith, common_steps)
 
 -- ---- the outcome
 

@@ -1,6 +1,6 @@
 -- One call on a file of a record, while the journal stands open with it.
-use Rattle.std.proofs.Common.{◌≡◌, ◌≢◌, inl, inr, ℕ, ◌≤◌, List, length, drop, true, Option, Some, None, Result, refl, sym, ◌∙◌, ap, subst}
-use Rattle.std.specs.Prelude.{slice_get, IsSomeAnd}
+use Rattle.std.proofs.Common.{◌≡◌, ◌≢◌, inl, inr, ℕ, ◌≤◌, List, length, drop, true, Option, Some, Result, refl, sym, ◌∙◌, ap, subst}
+use Rattle.std.specs.Prelude.{slice_get}
 use Rattle.std.specs.List.{Contains}
 use Rattle.std.specs.Option.{option_map}
 use Rattle.std.proofs.lemmas.Option.{slice_get_read, slice_get-map}
@@ -10,18 +10,16 @@ use Rattle.org_disk.specs.declared.disk.DiskFault.{DiskFault}
 use Rattle.org_disk.proofs.Images.{only_image, stable_is, left_after}
 use Rattle.org_disk.proofs.Names.{name_cases}
 use Rattle.org_splice.specs.Patches.{AreWellFormed, Fit, PatchedTo, IsPartlyPatched, patched}
-use Rattle.org_splice.specs.Texts.{EditedText, pairs_of}
+use Rattle.org_splice.specs.Texts.{pairs_of}
 use Rattle.org_splice.proofs.Again.{PatchedTo-twice, PatchedTo-partly}
 use Rattle.org_journal.specs.declared.record.Entry.{Entry}
 use Rattle.org_splice.specs.declared.patch.Patch.{Patch}
 use Rattle.org_journal.specs.Gate.{is_open}
 use Rattle.org_journal.specs.Reading.{journal_at}
 use Rattle.org_journal.specs.Record.{is_named}
-use Rattle.org_journal.specs.Recovered.{Image, SameFiles, RecoversTo, all_fit, recovered, contents}
-use Rattle.org_fileset.specs.Entries.{changed}
+use Rattle.org_journal.specs.Recovered.{Image, RecoversTo, all_fit, contents}
 use Rattle.org_fileset.specs.Replay.{EachPatchedTo, TakesTo, AreApplicable, EachTakes, IsOpenOver}
-use Rattle.org_fileset.specs.Replay.{IsBeforeOrAfter}
-use Rattle.org_fileset.specs.Laws.{IsOpenFor, KeepsTexts, IsEachOldOrNew}
+use Rattle.org_fileset.specs.Laws.{IsOpenFor, KeepsTexts}
 use Rattle.org_fileset.proofs.Patching.{may_leave, takes_write, takes_cut}
 use Rattle.org_fileset.proofs.Takes.{entry-TakesTo, named_apart, applicable_at}
 use Rattle.org_fileset.proofs.Replaying.{not_journal, entry_takes}
@@ -132,15 +130,3 @@ keeps_sync entries texts files entry is own member =
     (now (files entry.name).content (own entry.name)))
 
 -- Each file by itself
-
-old_or_new : (changes : List (List ℕ × EditedText)) (files : Image) (o : Option Image) → IsSomeAnd o (λ found. SameFiles found files) → IsSomeAnd o (IsEachOldOrNew changes files)
-old_or_new changes files None same = same
-old_or_new changes files (Some found) same = λ name not. inl (same name not)
-
-new_or_old : (changes : List (List ℕ × EditedText)) (files : Image) (o : Option Image) → IsSomeAnd o (λ found. SameFiles found (changed changes files)) → IsSomeAnd o (IsEachOldOrNew changes files)
-new_or_old changes files None same = same
-new_or_old changes files (Some found) same = λ name not. inr (same name not)
-
-pub each_old_or_new : (changes : List (List ℕ × EditedText)) (files image : Image) → IsBeforeOrAfter files (changed changes files) image → IsSomeAnd (recovered image) (IsEachOldOrNew changes files)
-each_old_or_new changes files image (inl before) = old_or_new changes files (recovered image) before
-each_old_or_new changes files image (inr after) = new_or_old changes files (recovered image) after

@@ -14,7 +14,6 @@ pub mod Recovers
 mod OpenGate
 pub mod Commits
 mod Changes
-pub mod Lookups
 mod Recorded
 pub mod Recovering
 mod Reopening

@@ -1,5 +1,6 @@
 -- A journal that stands open while its record is applied, and is then closed.
-use Rattle.std.proofs.Common.{◌≡◌, ◌≢◌, inl, inr, ℕ, ◌≤◌, List, ◌∷◌, length, drop, get_or, true, false, Some, Result, Ok, Err, OnOk, IsErr, sym, ◌∙◌, ap, subst, arith}
+use Rattle.std.proofs.Common.{◌≡◌, ◌≢◌, inl, inr, ℕ, ◌≤◌, List, ◌∷◌, length, drop, true, false, Some, Result, Ok, Err, OnOk, IsErr, sym, ◌∙◌, ap, subst, arith}
+use Rattle.std.proofs.lemmas.Grind.{common_steps}
 use Rattle.std.specs.Prelude.{nat_le, slice_index, ◌==◌}
 use Rattle.std.proofs.lemmas.Bool.{cases_Bool, and_parts, leb-true}
 use Rattle.std.proofs.lemmas.Result.{IfOk-from_err}
@@ -20,14 +21,7 @@ use Rattle.org_fileset.proofs.Recovers.{recovers_open, recovers_closed}
 -- one run of calls after another
 pub replays_then : {entries : List Entry} {texts : Image} {m n k : ℕ} {s u v : ℕ → Image → Type 0} {old mid new : List ℕ → FileState} → AreApplicable entries
     → Replays entries texts m n s u old mid → Replays entries texts n k u v mid new → Replays entries texts m k s v old new
-replays_then {entries} applicable first second = record {
-  any_moment = passes_then first.any_moment second.any_moment (λ image left. record {
-    same_journal = left.same_journal ∙ ap (λ (f : FileState). f.content) (first.others journal_name (journal_unnamed entries applicable.each));
-    each = left.each;
-  });
-  takes = second.takes;
-  others = λ name none. second.others name none ∙ first.others name none;
-}
+replays_then {entries} applicable first second = grind (arith, common_steps, passes_then, journal_unnamed)
 
 -- what is left while the record is applied recovers to what it makes
 pub taking_recovers : (entries : List Entry) (texts : Image) (journal : List ℕ) → AreApplicable entries → is_open journal ≡ true → journal_at (drop 1 journal) ≡ Some entries
@@ -64,11 +58,7 @@ still_open entries old new applicable is others = record {
 
 pub still_replayable : {entries : List Entry} {m n : ℕ} {s u : ℕ → Image → Type 0} {old new : List ℕ → FileState} (can : IsReplayable entries old) → Replays entries can.texts m n s u old new
     → IsReplayable entries new
-still_replayable can replays = record {
-  others = λ name not none. subst IsStable (sym (replays.others name none)) (can.others name not none);
-  texts = can.texts;
-  takes = replays.takes;
-}
+still_replayable can replays = grind (arith, common_steps)
 
 -- all files but the journal are on the disk with their new texts
 pub record IsDone (entries : List Entry) (texts : Image) (files : List ℕ → FileState) : Type 0 where
@@ -94,13 +84,7 @@ closing_recovers entries texts files journal name_is applicable own done image l
 
 -- a gate that was written is closed on the disk
 pub closed_after : (file : FileState) (rest : List ℕ) → IsStable file → file.content ≡ 0 ∷ rest → HasClosedGate file
-closed_after file rest only is =
-    let long : 1 ≤ length file.content = omega (arith, ap length is) in
-    record {
-      nonempty = long;
-      fixed = (omega (arith, long, only.least), only.fixed 0 (omega (arith, long)));
-      closed = λ one. let zero_is_one : 0 ≡ 1 = sym (ap (λ (l : List ℕ). get_or l 0 0) is) ∙ one in omega arith;
-    }
+closed_after file rest only is = grind (arith, common_steps)
 
 -- the gate closed, all is at rest
 pub rest_after : (old new : List ℕ → FileState) (rest : List ℕ) → IsStable (new journal_name) → (new journal_name).content ≡ 0 ∷ rest

@@ -1,5 +1,6 @@
 -- What an image recovers to, by what the record makes of each file.
-use Rattle.std.proofs.Common.{◌≡◌, ◌≢◌, inl, inr, ℕ, suc, List, [], ◌∷◌, length, drop, max, Bool, true, false, Some, refl, sym, ◌∙◌, ap, subst}
+use Rattle.std.proofs.Common.{arith, ◌≡◌, ◌≢◌, inl, inr, ℕ, suc, List, [], ◌∷◌, length, drop, max, Bool, true, false, Some, refl, sym, ◌∙◌, ap, subst}
+use Rattle.std.proofs.lemmas.Grind.{common_steps}
 use Rattle.std.specs.Prelude.{nat_le, if◌then◌else◌, IsSomeAnd, Option, None}
 use Rattle.std.specs.Str.{bytes_eq}
 use Rattle.std.proofs.lemmas.Bool.{cases_Bool, and_parts, and_from, le-leb, leb-true, MatchBool-at_true, MatchBool-at_false}
@@ -34,9 +35,7 @@ fits-true patches final size fit =
     and_from (begins_within size 0 patches) (nat_le final (max size (last_end 0 patches))) (begins-true size 0 patches fit.begin) (le-leb final (max size (last_end 0 patches)) fit.ends)
 
 pub true-fits : (patches : List (ℕ × List ℕ)) (final size : ℕ) → fits patches final size ≡ true → Fit patches final size
-true-fits patches final size is =
-    let parts = and_parts (begins_within size 0 patches) (nat_le final (max size (last_end 0 patches))) is in
-    record { begin = true-begins size 0 patches parts.0; ends = leb-true final (max size (last_end 0 patches)) parts.1 }
+true-fits patches final size is = grind (arith, common_steps, and_parts, true-begins, leb-true)
 
 -- what the record takes the file of a name to is what it makes of it
 pub replayed-takes : (entries : List Entry) (image : Image) (name to : List ℕ) → TakesTo entries name (image name) to → replayed entries image name ≡ to
@@ -92,10 +91,7 @@ recovers_open entries texts image applicable opened found takes =
 -- and the other way
 pub open_recovers : (entries : List Entry) (texts image : Image) → is_open (image journal_name) ≡ true → journal_at (drop 1 (image journal_name)) ≡ Some entries
     → RecoversTo texts image → (name : List ℕ) → name ≢ journal_name → TakesTo entries name (image name) (texts name)
-open_recovers entries texts image opened found stand name not = elim (cases_Bool (all_fit entries image)) [
-  | inl fit ↦ let is : SameFiles (replayed entries image) texts = rw (opened, found, fit) at stand in takes-replayed entries image name (texts name) fit (is name not)
-  | inr none ↦ absurd (rw (opened, found, none) at stand)
-]
+open_recovers entries texts image opened found stand name not = grind (arith, common_steps, cases_Bool, takes-replayed)
 
 -- what the record makes of the file of an entry is what the entry makes
 pub replayed-entry : (entries : List Entry) (image : Image) (i : ℕ) (entry : Entry) → AreApplicable entries → all_fit entries image ≡ true → slice_get entries i ≡ Some entry

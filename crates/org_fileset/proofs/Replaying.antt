@@ -1,5 +1,6 @@
 -- How a run of calls goes on that applies a record to its files.
-use Rattle.std.proofs.Common.{◌≡◌, ◌≢◌, inl, inr, ℕ, zero, suc, ◌+◌, ◌<◌, ◌≤◌, List, [], ◌∷◌, length, Bool, true, false, not, Result, Some, refl, sym, ◌∙◌, ap, subst, arith}
+use Rattle.std.proofs.Common.{rules, ◌≡◌, ◌≢◌, inl, inr, ℕ, zero, suc, ◌+◌, ◌<◌, ◌≤◌, List, [], ◌∷◌, length, Bool, true, false, not, Result, Some, refl, sym, ◌∙◌, ap, subst, arith}
+use Rattle.std.proofs.lemmas.Grind.{common_steps}
 use Rattle.std.specs.Prelude.{slice_get, ◌||◌}
 use Rattle.std.specs.Str.{bytes_eq}
 use Rattle.std.proofs.lemmas.Bool.{cases_Bool, cases_eq, and_parts, not-true, false≢true}
@@ -8,14 +9,13 @@ use Rattle.org_disk.specs.Disk.{FileState, IsImage, IsStable, AreLeftBy, Changes
 use Rattle.org_disk.specs.Names.{journal_name}
 use Rattle.org_disk.specs.declared.disk.DiskFault.{DiskFault}
 use Rattle.org_disk.proofs.Images.{only_image, stable_is}
-use Rattle.org_disk.proofs.Moments.{passes_none, passes_then}
+use Rattle.org_disk.proofs.Moments.{passes_then}
 use Rattle.org_disk.proofs.Names.{name_cases}
-use Rattle.org_splice.specs.Patches.{PatchedTo}
 use Rattle.org_splice.specs.Texts.{pairs_of}
 use Rattle.org_journal.specs.declared.record.Entry.{Entry}
 use Rattle.org_journal.specs.Record.{is_named, names_differ}
 use Rattle.org_journal.specs.Recovered.{Image, contents}
-use Rattle.org_fileset.specs.Replay.{EachPatchedTo, AppliesPatches, TakesTo, AreApplicable, EachTakes, LeavesTaking, Replays}
+use Rattle.org_fileset.specs.Replay.{EachPatchedTo, AppliesPatches, TakesTo, AreApplicable, EachTakes, Replays}
 use Rattle.org_fileset.proofs.Patching.{applies_none, applies_call}
 use Rattle.org_fileset.proofs.Takes.{TakesTo-entry, entry-TakesTo, named_apart, journal_unnamed}
 
@@ -28,13 +28,6 @@ pub entry_takes : (entries : List Entry) (texts : Image) (files : List ℕ → F
     → EachTakes entries texts files → EachPatchedTo (pairs_of entry.patches) entry.length (texts entry.name) (files entry.name)
 entry_takes entries texts files i entry applicable is takes text image =
     TakesTo-entry entries i entry text (texts entry.name) applicable.apart is (takes.each entry.name (not_journal entries i entry applicable is) text image)
-
-pub replays_none : {entries : List Entry} {texts : Image} (m : ℕ) (s : ℕ → Image → Type 0) (files : List ℕ → FileState) → EachTakes entries texts files → Replays entries texts m m s s files files
-replays_none {entries} {texts} m s files takes = record {
-  any_moment = passes_none m s (LeavesTaking (files journal_name).content entries texts);
-  takes = takes;
-  others = λ name none. refl;
-}
 
 -- calls on the file of one entry
 pub replays_entry : {entries : List Entry} {texts : Image} {m n k : ℕ} {s u v : ℕ → Image → Type 0} {old mid new : List ℕ → FileState} (i : ℕ) (entry : Entry)
@@ -69,10 +62,7 @@ replays_entry {entries} {texts} {old = old} {mid = mid} {new = new} i entry appl
 pub applies_sync : {patches : List (ℕ × List ℕ)} {final : ℕ} {name to : List ℕ} {m n : ℕ} {s u : ℕ → Image → Type 0} {old new : List ℕ → FileState} (r : Result (Unit {0}) DiskFault)
     → EachPatchedTo patches final to (old name) → IsImage (old name) (old name).content → Changes sync name old new r → Passes m n s u (AreLeftBy sync name old)
     → AppliesPatches patches final name to m n s u old new
-applies_sync {patches} {final} {name} {to} {m = m} {s = s} {old = old} r takes own changes time =
-    applies_call sync r (applies_none m s old takes)
-    (λ text image. subst (λ (t : List ℕ). PatchedTo patches final t to) (sym (only_image (stable_is (old name).content) text image)) (takes (old name).content own))
-    changes time
+applies_sync {patches} {final} {name} {to} {m = m} {s = s} {old = old} r takes own changes time = search (rules, arith, applies_call, applies_none, only_image, stable_is)
 
 -- the entries up to one have their texts
 abbrev pub HaveTexts : List Entry → Image → ℕ → (List ℕ → FileState) → Type 0
@@ -120,10 +110,7 @@ AreUntouched entries n old new = (j : ℕ) (entry : Entry) → n ≤ j → slice
 apart_at : (entries : List Entry) (i j : ℕ) (one other : Entry) → names_differ entries ≡ true → i < j → slice_get entries i ≡ Some one → slice_get entries j ≡ Some other → other.name ≢ one.name
 apart_at [] i j one other differ less at there = absurd (cc)
 apart_at (first ∷ entries) i zero one other differ less at there = absurd (omega arith)
-apart_at (first ∷ entries) zero (suc j) one other differ less at there =
-    let is : first ≡ one = cc in
-    let parts = and_parts (not (is_named first.name entries)) (names_differ entries) differ in
-    λ same. named_apart entries j other first.name (not-true (is_named first.name entries) parts.0) there (ap (λ (e : Entry). e.name) is ∙ sym same)
+apart_at (first ∷ entries) zero (suc j) one other differ less at there = grind (arith, common_steps, and_parts, named_apart, not-true)
 apart_at (first ∷ entries) (suc i) (suc j) one other differ less at there =
     apart_at entries i j one other (and_parts (not (is_named first.name entries)) (names_differ entries) differ).1 (omega arith) at there
 

@@ -1,10 +1,9 @@
 -- The names of a set's files.
-use Rattle.std.proofs.Common.{true, nat_lt, ◌≡◌, ◌≢◌, ◌+◌, ◌*◌, ◌≤◌, length, get_or, drop, ◌<◌, sym, ◌∙◌, length-append, false, ⊎_elim, ℕ, List, [], ◌∷◌, ◌++◌, refl, ap, subst, arith}
-use Rattle.std.proofs.lemmas.Bool.{lt-ltb}
-use Rattle.std.proofs.lemmas.Bool.Decides.{nat_tests}
+use Rattle.std.proofs.Common.{◌≡◌, ◌≢◌, ◌+◌, ◌*◌, ◌≤◌, length, get_or, drop, ◌<◌, sym, ◌∙◌, length-append, ⊎_elim, ℕ, List, [], ◌∷◌, ◌++◌, refl, ap, subst, arith}
+use Rattle.std.proofs.lemmas.Grind.{common_steps}
 use Rattle.std.specs.List.{Contains, All, AllByRecursion}
 use Rattle.std.proofs.lemmas.List.Elements.{All-contains, All-contains_itself, All-weaker, All-from_recursion, recursion_from_All}
-use Rattle.std.proofs.lemmas.List.{get_or-append-add, drop_more}
+use Rattle.std.proofs.lemmas.List.{get_or-append-add}
 use Rattle.org_disk.specs.Names.{archive_name, archive_suffix, journal_name, IsOrgFile}
 use Rattle.org_fileset.specs.Names.{with_archives, AreSorted, most_names, limit, first_large}
 use Rattle.org_fileset.specs.Opening.{AreSetNames}
@@ -92,18 +91,7 @@ set_names given sorted names first few all second shorter = record {
 -- a file within the limit isn't the first one past it
 pub first_large-next : (files : List ℕ → List ℕ) (names : List (List ℕ)) (i : ℕ) (name : List ℕ) → i < length names → name ≡ get_or names i name → length (files name) ≤ limit
     → first_large files (drop (i + 1) names) ≡ first_large files (drop i names)
-first_large-next files names i name within is small =
-    let none : nat_lt limit (length (files name)) ≡ false = grind (arith, nat_tests, small) in
-    let next : first_large files (name ∷ drop (i + 1) names) ≡ first_large files (drop (i + 1) names) = rw none refl in
-    sym (ap (first_large files) (drop_more names i name within ∙ ap (λ x. x ∷ drop (i + 1) names) (sym is)) ∙ next)
-
--- a file past the limit is the first one past it from its place on
-pub first_large-here : (files : List ℕ → List ℕ) (names : List (List ℕ)) (i : ℕ) (name : List ℕ) → i < length names → name ≡ get_or names i name → limit < length (files name)
-    → first_large files (drop i names) ≡ Some name
-first_large-here files names i name within is large =
-    let past : nat_lt limit (length (files name)) ≡ true = lt-ltb limit (length (files name)) large in
-    let here : first_large files (name ∷ drop (i + 1) names) ≡ Some name = rw past refl in
-    ap (first_large files) (drop_more names i name within ∙ ap (λ x. x ∷ drop (i + 1) names) (sym is)) ∙ here
+first_large-next files names i name within is small = grind (arith, common_steps)
 
 flipped : (o : Option (List ℕ → List ℕ)) (files : List ℕ → List ℕ) → IsSomeAnd o (SameFiles files) → IsSomeAnd o (λ found. SameFiles found files)
 flipped (Some found) files same = λ name not. sym (same name not)
@@ -111,10 +99,4 @@ flipped None files same = same
 
 -- where a record was brought to its end, what is left recovers to what the files recovered to
 pub left_after : (old now : List ℕ → FileState) → AreImages old (contents old) → IsSomeAnd (recovered (contents old)) (SameFiles (contents now)) → IsAtRest now → (image : List ℕ → List ℕ) → AreImages now image → RecoversAsBefore old image
-left_after old now own found rest image left = record {
-  start = contents old;
-  left = own;
-  texts = contents now;
-  recovered_then = flipped (recovered (contents old)) (contents now) found;
-  recovers_now = at_rest_recovers now rest image left;
-}
+left_after old now own found rest image left = grind (arith, common_steps, contents, flipped, at_rest_recovers)

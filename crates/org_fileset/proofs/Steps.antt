@@ -1,22 +1,19 @@
 -- The patches of an entry, one after the other.
-use Rattle.std.proofs.Common.{◌≡◌, ℕ, zero, suc, ◌+◌, ◌<◌, ◌≤◌, ◌++◌, max, List, [], ◌∷◌, length, get_or, take, map, Option, Some, refl, sym, ◌∙◌, ap, arith}
+use Rattle.std.proofs.Common.{◌≡◌, ℕ, zero, suc, ◌+◌, ◌<◌, ◌≤◌, ◌++◌, max, List, [], ◌∷◌, length, get_or, take, Some, refl, ◌∙◌, ap, arith}
+use Rattle.std.proofs.lemmas.Grind.{common_steps}
 use Rattle.std.specs.Prelude.{slice_get}
-use Rattle.std.specs.Option.{option_map}
-use Rattle.std.proofs.lemmas.List.{take_more, take_all, length-map}
+use Rattle.std.proofs.lemmas.List.{take_more}
 use Rattle.std.proofs.lemmas.Option.{slice_get_read, slice_get-map, get_or_from_slice_get, slice_get_within}
 use Rattle.org_splice.specs.Overwritten.{overwritten}
 use Rattle.org_splice.specs.Texts.{pairs_of}
-use Rattle.org_splice.specs.Patches.{patched_each, patched, end_of, last_end, Rise, BeginWithin, Fit, AreWellFormed}
+use Rattle.org_splice.specs.Patches.{patched_each, end_of, last_end, Rise, BeginWithin, Fit, AreWellFormed}
 use Rattle.org_splice.proofs.Patching.{length-patched_each, last_end-place}
 use Rattle.org_splice.specs.declared.patch.Patch.{Patch}
 
 -- the pair of an item
 pub pair_at : (items patches : List Patch) (k : ℕ) (patch : Patch) → items ≡ patches → k < length items → patch ≡ get_or items k patch
     → slice_get (pairs_of patches) k ≡ Some (patch.from, patch.bytes)
-pair_at items patches k patch same within is =
-    ap (λ (l : List Patch). slice_get (pairs_of l) k) (sym same)
-    ∙ slice_get-map (λ (p : Patch). (p.from, p.bytes)) items k
-    ∙ ap (λ (o : Option Patch). option_map (λ (p : Patch). (p.from, p.bytes)) o) (slice_get_read items (length items) k patch refl within is)
+pair_at items patches k patch same within is = grind (arith, common_steps, slice_get-map, slice_get_read)
 
 patched_each-append : (first later : List (ℕ × List ℕ)) (text : List ℕ) → patched_each (first ++ later) text ≡ patched_each later (patched_each first text)
 patched_each-append [] later text = refl
@@ -36,11 +33,7 @@ patched_each-more patches k from bytes text is =
 at_place : (patches : List (ℕ × List ℕ)) (size place k from : ℕ) (bytes : List ℕ) → Rise place patches → BeginWithin size place patches → slice_get patches k ≡ Some (from, bytes)
     → (from ≤ max size (last_end place (take k patches))) × (from + length bytes ≤ last_end place patches)
 at_place [] size place k from bytes rise begin is = absurd (cc)
-at_place (patch ∷ patches) size place zero from bytes rise begin is =
-    let same : patch ≡ (from, bytes) = cc in
-    let start : patch.0 ≡ from = ap (λ (p : ℕ × List ℕ). p.0) same in
-    let long : length patch.1 ≡ length bytes = ap (λ (p : ℕ × List ℕ). length p.1) same in
-    (omega (arith, begin.0, start), omega (arith, start, long, last_end-place (end_of patch) patches rise.1))
+at_place (patch ∷ patches) size place zero from bytes rise begin is = grind (arith, common_steps, last_end-place, end_of)
 at_place (patch ∷ patches) size place (suc k) from bytes rise begin is = at_place patches size (end_of patch) k from bytes rise.1 begin.1 is
 
 rise_front : (patches : List (ℕ × List ℕ)) (place k : ℕ) → Rise place patches → Rise place (take k patches)
@@ -65,12 +58,3 @@ pub next_small : (patches : List (ℕ × List ℕ)) (final k from : ℕ) (bytes 
     → slice_get patches k ≡ Some (from, bytes) → from + length bytes ≤ final
 next_small patches final k from bytes text formed fit is =
     omega (arith, formed.within, (at_place patches (length text) 0 k from bytes formed.rise fit.begin is).1)
-
--- all of them written, and the file cut
-pub all_applied : (items patches : List Patch) (k final : ℕ) (text now : List ℕ) → items ≡ patches → length items ≤ k → now ≡ patched_each (take k (pairs_of patches)) text
-    → take final now ≡ patched (pairs_of patches) final text
-all_applied items patches k final text now same done applied =
-    let pair : Patch → ℕ × List ℕ = λ p. (p.from, p.bytes) in
-    let long : length (map pair patches) ≡ length patches = length-map patches pair in
-    let enough : length (pairs_of patches) ≤ k = omega (arith, done, long, ap length same) in
-    ap (λ (l : List ℕ). take final l) (applied ∙ ap (λ (l : List (ℕ × List ℕ)). patched_each l text) (take_all k (pairs_of patches) enough))

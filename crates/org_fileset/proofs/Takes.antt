@@ -1,10 +1,11 @@
 -- What a record makes of the file of one name.
-use Rattle.std.proofs.Common.{◌≡◌, ◌≢◌, inl, inr, ℕ, zero, suc, List, [], ◌∷◌, Bool, true, false, not, Some, refl, sym, ◌∙◌, ap, subst}
+use Rattle.std.proofs.Common.{arith, ◌≡◌, ◌≢◌, ℕ, zero, suc, List, [], ◌∷◌, Bool, true, false, not, Some, refl, subst}
+use Rattle.std.proofs.lemmas.Grind.{common_steps}
 use Rattle.std.specs.Prelude.{slice_get, ◌||◌}
 use Rattle.std.specs.List.{AllByRecursion}
 use Rattle.std.specs.Str.{bytes_eq}
 use Rattle.std.proofs.lemmas.Bool.{and_parts, not-true, true≢false, false≢true, MatchBool-at_true, MatchBool-at_false}
-use Rattle.org_disk.specs.Names.{journal_name, is_file_name}
+use Rattle.org_disk.specs.Names.{journal_name}
 use Rattle.org_disk.proofs.Names.{name_cases, same_name}
 use Rattle.org_splice.specs.Patches.{PatchedTo}
 use Rattle.org_splice.specs.Texts.{pairs_of}
@@ -26,33 +27,19 @@ TakesTo-other (entry ∷ entries) name text to none takes =
 -- a name that no entry has isn't this entry's
 pub named_apart : (entries : List Entry) (i : ℕ) (entry : Entry) (name : List ℕ) → is_named name entries ≡ false → slice_get entries i ≡ Some entry → name ≢ entry.name
 named_apart [] i entry name none is same = absurd (cc)
-named_apart (first ∷ entries) zero entry name none is same =
-    let one : first ≡ entry = cc in
-    let parts = or_false (bytes_eq first.name name) (is_named name entries) none in
-    let here : bytes_eq first.name name ≡ true = ap (λ (n : List ℕ). bytes_eq first.name n) (same ∙ ap (λ (e : Entry). e.name) (sym one)) ∙ same_name first.name in
-    true≢false (sym here ∙ parts.0)
+named_apart (first ∷ entries) zero entry name none is same = grind (arith, common_steps, or_false, same_name, true≢false)
 named_apart (first ∷ entries) (suc i) entry name none is same =
     named_apart entries i entry name (or_false (bytes_eq first.name name) (is_named name entries) none).1 is same
 
 -- an entry behind the first has another name
 later_name : (first : Entry) (entries : List Entry) (i : ℕ) (entry : Entry) → names_differ (first ∷ entries) ≡ true → slice_get entries i ≡ Some entry → bytes_eq first.name entry.name ≡ false
-later_name first entries i entry differ is =
-    let parts = and_parts (not (is_named first.name entries)) (names_differ entries) differ in
-    let apart : first.name ≢ entry.name = named_apart entries i entry first.name (not-true (is_named first.name entries) parts.0) is in
-    elim (name_cases first.name entry.name) [
-      | inl same ↦ absurd (apart same.0)
-      | inr other ↦ other.1
-    ]
+later_name first entries i entry differ is = grind (arith, common_steps, and_parts, named_apart, not-true, name_cases)
 
 -- of the file that an entry names, the record makes what the entry makes
 pub TakesTo-entry : (entries : List Entry) (i : ℕ) (entry : Entry) (text to : List ℕ) → names_differ entries ≡ true → slice_get entries i ≡ Some entry
     → TakesTo entries entry.name text to → PatchedTo (pairs_of entry.patches) entry.length text to
 TakesTo-entry [] i entry text to differ is takes = absurd (cc)
-TakesTo-entry (first ∷ entries) zero entry text to differ is takes =
-    let one : first ≡ entry = cc in
-    let here : bytes_eq first.name entry.name ≡ true = ap (λ (e : Entry). bytes_eq first.name e.name) (sym one) ∙ same_name first.name in
-    subst (λ (e : Entry). PatchedTo (pairs_of e.patches) e.length text to) one
-    (MatchBool-at_true (PatchedTo (pairs_of first.patches) first.length text to) (TakesTo entries entry.name text to) here takes)
+TakesTo-entry (first ∷ entries) zero entry text to differ is takes = grind (arith, common_steps, same_name, MatchBool-at_true)
 TakesTo-entry (first ∷ entries) (suc i) entry text to differ is takes =
     let other = later_name first entries i entry differ is in
     TakesTo-entry entries i entry text to (and_parts (not (is_named first.name entries)) (names_differ entries) differ).1 is
@@ -61,23 +48,13 @@ TakesTo-entry (first ∷ entries) (suc i) entry text to differ is takes =
 pub entry-TakesTo : (entries : List Entry) (i : ℕ) (entry : Entry) (text to : List ℕ) → names_differ entries ≡ true → slice_get entries i ≡ Some entry
     → PatchedTo (pairs_of entry.patches) entry.length text to → TakesTo entries entry.name text to
 entry-TakesTo [] i entry text to differ is applies = absurd (cc)
-entry-TakesTo (first ∷ entries) zero entry text to differ is applies =
-    let one : first ≡ entry = cc in
-    let here : bytes_eq first.name entry.name ≡ true = ap (λ (e : Entry). bytes_eq first.name e.name) (sym one) ∙ same_name first.name in
-    rw here (subst (λ (e : Entry). PatchedTo (pairs_of e.patches) e.length text to) (sym one) applies)
-entry-TakesTo (first ∷ entries) (suc i) entry text to differ is applies =
-    let other = later_name first entries i entry differ is in
-    rw other (entry-TakesTo entries i entry text to (and_parts (not (is_named first.name entries)) (names_differ entries) differ).1 is applies)
+entry-TakesTo (first ∷ entries) zero entry text to differ is applies = grind (arith, common_steps, same_name)
+entry-TakesTo (first ∷ entries) (suc i) entry text to differ is applies = grind (arith, common_steps, later_name, and_parts, entry-TakesTo entries i entry text to (and_parts (not (is_named first.name entries)) (names_differ entries) differ).1 is applies)
 
 -- no entry names the journal
 pub journal_unnamed : (entries : List Entry) → AllByRecursion IsApplicable entries → is_named journal_name entries ≡ false
 journal_unnamed [] each = refl
-journal_unnamed (entry ∷ entries) each = elim (name_cases entry.name journal_name) [
-  | inl same ↦
-      let never : is_file_name entry.name ≡ false = ap (λ (n : List ℕ). is_file_name n) same.0 in
-      absurd (false≢true (sym never ∙ each.0.name))
-  | inr other ↦ let e = other.1 in rw e (journal_unnamed entries each.1)
-]
+journal_unnamed (entry ∷ entries) each = grind (arith, common_steps, name_cases, false≢true, journal_unnamed entries each.1)
 
 pub applicable_at : (entries : List Entry) (i : ℕ) (entry : Entry) → AllByRecursion IsApplicable entries → slice_get entries i ≡ Some entry → IsApplicable entry
 applicable_at [] i entry each is = absurd (cc)

@@ -1,5 +1,6 @@
 -- Entries that are noted one after another.
-use Rattle.std.proofs.Common.{◌≡◌, ◌∙◌, ap, sym, refl, ℕ, ◌+◌, ◌<◌, List, [], ◌∷◌, ◌++◌, map, take, length, get_or, false}
+use Rattle.std.proofs.Common.{arith, ◌≡◌, refl, ℕ, ◌+◌, ◌<◌, List, [], ◌∷◌, ◌++◌, map, take, length, get_or, false}
+use Rattle.std.proofs.lemmas.Grind.{common_steps}
 use Rattle.std.proofs.lemmas.List.{map-append, take_more}
 use Rattle.std.proofs.lemmas.Bool.{or_from, or_parts}
 use Rattle.std.specs.List.{list_any}
@@ -15,9 +16,7 @@ with_one (first ∷ names) name earlier = with_one names name (Entry first ∷ e
 module _ {S : Type 0} (f : S → List ℕ) where
   pub entries_more : (i : ℕ) (ss : List S) (s : S) (earlier : List Event) → i < length ss → s ≡ get_or ss i s
       → Entry (f s) ∷ with_entries (map f (take i ss)) earlier ≡ with_entries (map f (take (i + 1) ss)) earlier
-  entries_more i ss s earlier within is =
-      sym (with_one (map f (take i ss)) (f s) earlier)
-      ∙ ap (λ names. with_entries names earlier) (ap (λ y. map f (take i ss) ++ f y ∷ []) is ∙ sym (map-append f (take i ss) (get_or ss i s ∷ [])) ∙ ap (map f) (sym (take_more ss i s within)))
+  entries_more i ss s earlier within is = grind (arith, common_steps, with_one, map-append, take_more)
 
 unlisted : (name : List ℕ) (names : List (List ℕ)) (earlier : List Event) → list_any (bytes_eq name) names ≡ false → list_any (bytes_eq name) (entries_in earlier) ≡ false
     → list_any (bytes_eq name) (entries_in (with_entries names earlier)) ≡ false

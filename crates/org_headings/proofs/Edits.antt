@@ -1,6 +1,7 @@
 -- The headings of an edited text: those before the lines that the edit touches, those of these
 -- lines, and those behind them, moved.
-use Rattle.std.proofs.Common.{◌≡◌, ℕ, zero, suc, ◌+◌, ◌-◌, ◌<◌, ◌≤◌, ◌^◌, Bool, true, false, eqb, ltb, List, [], ◌∷◌, ◌++◌, length, drop, take, get_or, set, Option, Some, None, refl, sym, ap, subst, ◌∙◌, append_assoc, arith, add-one, add-zero, cond, eq-eqb, inl, inr}
+use Rattle.std.proofs.Common.{rules, ◌≡◌, ℕ, zero, suc, ◌+◌, ◌-◌, ◌<◌, ◌≤◌, ◌^◌, Bool, true, false, eqb, ltb, List, [], ◌∷◌, ◌++◌, length, drop, take, get_or, set, Option, Some, None, refl, sym, ap, subst, ◌∙◌, append_assoc, arith, add-zero, cond, inl, inr}
+use Rattle.std.proofs.lemmas.Grind.{common_steps}
 use Rattle.std.specs.Prelude.{map, ◌⊎◌}
 use Rattle.std.specs.List.{AllByRecursion, prefix_len}
 use Rattle.std.specs.List.Sorted.{IsNonDecreasingBy, IsPartitionPoint}
@@ -26,35 +27,14 @@ use Rattle.org_headings.proofs.HeadsFrom.{line_at-more, ends_line-append, take-p
 -- ---- line starts and line ends that the code finds
 
 pub line_begins : (t : List ℕ) (at e : ℕ) (r : Option ℕ) → IsLastByte (is_byte 10) (take at t) r → r ≡ Some e → ends_line true (take (e + 1) t) ≡ true
-line_begins t at e r h is =
-    let P : Option ℕ → Type 0 = λ r. IsLastByte (is_byte 10) (take at t) r in
-    let g = subst P is h in
-    let within : e < length (take at t) = g.0.high in
-    let here : eqb (get_or (take at t) e 0) 10 ≡ true = g.1 in
-    let less : e < at = omega (arith, within, length-take at t) in
-    let ten : get_or t e 0 ≡ 10 = sym (get_or-take at t e 0 less) ∙ eqb-true (get_or (take at t) e 0) 10 here in
-    let room : e < length t = omega (arith, within, length-take at t) in
-    ap (ends_line true) (take_more t e 0 room ∙ ap (λ b. take e t ++ b ∷ []) ten) ∙ ends_line-append true (take e t) (10 ∷ [])
+line_begins t at e r h is = grind (arith, common_steps, length-take, get_or-take, eqb-true, ends_line, take_more, ends_line-append)
 
 pub line_behind : (t : List ℕ) (at from : ℕ) → at ≤ length t → Nowhere (Passes (is_byte 10) (take at t)) from (length (take at t)) → IsLine (take (at - from) (drop from t))
-line_behind t at from within none =
-    let long = length-take-le at t within in
-    line_of (at - from) (drop from t) (λ k lt ten.
-    let less : from + k < at = omega arith in
-    let same : get_or (take at t) (from + k) 0 ≡ 10 = get_or-take at t (from + k) 0 less ∙ sym (get_or-drop from t k 0) ∙ ten in
-    none (from + k) (omega arith) (omega (arith, long, less)) (eq-eqb (get_or (take at t) (from + k) 0) 10 same))
+line_behind t at from within none = search (rules, arith, length-take-le, line_of, get_or-take, get_or-drop)
 
 pub line_ends : (t : List ℕ) (start e : ℕ) (r : Option ℕ) → IsFirstByte (is_byte 10) (take (length t - start) (drop start t)) r → r ≡ Some e
     → (before : Bool) → ends_line before (take (start + e + 1 - start) (drop start t)) ≡ true
-line_ends t start e r h is before =
-    let P : Option ℕ → Type 0 = λ r. IsFirstByte (is_byte 10) (take (length t - start) (drop start t)) r in
-    let Q : List ℕ → Type 0 = λ u. IsFirstByte (is_byte 10) u (Some e) in
-    let g = subst Q (take_rest t start) (subst P is h) in
-    let u = drop start t in
-    let within : e < length u = g.0.high in
-    let here : eqb (get_or u e 0) 10 ≡ true = g.1 in
-    let long : start + e + 1 - start ≡ e + 1 = omega arith in
-    ap (λ k. ends_line before (take k u)) long ∙ ap (ends_line before) (take_more u e 0 within ∙ ap (λ b. take e u ++ b ∷ []) (eqb-true (get_or u e 0) 10 here)) ∙ ends_line-append before (take e u) (10 ∷ [])
+line_ends t start e r h is before = grind (arith, common_steps, take_rest, ends_line, take_more, eqb-true, ends_line-append)
 
 -- ---- a slice that is moved
 
@@ -72,29 +52,18 @@ all_later P (x ∷ xs) (suc i) h = all_later P xs i h
 
 pub moving : (f : Heading → Heading) (P : Heading → Type 0) (xs hs : List Heading) (i : ℕ) (d : Heading) → (hs ≡ map f (take i xs) ++ drop i xs) × AllByRecursion P (drop i xs) → i < length xs
     → (set hs i (f (get_or hs i d)) ≡ map f (take (i + 1) xs) ++ drop (i + 1) xs) × AllByRecursion P (drop (i + 1) xs)
-moving f P xs hs i d inv lt =
-    let A : ℕ → Type 0 = λ k. (set hs i (f (get_or hs i d)) ≡ map f (take k xs) ++ drop k xs) × AllByRecursion P (drop k xs) in
-    subst A (sym (add-one i)) (ap (λ hs. set hs i (f (get_or hs i d))) inv.0 ∙ moved_more f xs i d lt, all_later P xs i inv.1)
+moving f P xs hs i d inv lt = search (rules, arith, set, moved_more, all_later)
 
 -- ---- joined parts
 
 terminated-ends : (t : List ℕ) → terminated t ≡ t → ends_line true t ≡ true
 terminated-ends [] e = refl
-terminated-ends (b ∷ []) e =
-    elim (cases_Bool (eqb b 10)) [
-      | inl is ↦ is
-      | inr other ↦ let e2 = rw other at e in absurd cc
-    ]
+terminated-ends (b ∷ []) e = grind (arith, common_steps)
 terminated-ends (b ∷ c ∷ bs) e = terminated-ends (c ∷ bs) (tail_is b b (terminated (c ∷ bs)) (c ∷ bs) e)
 
 stars_short : (f : Bool) (x : ℕ) (xs : List ℕ) → ends_line f (x ∷ xs) ≡ true → stars (x ∷ xs) < length (x ∷ xs)
 stars_short f x [] e = let is : x ≡ 10 = eqb-true x 10 e in rw is (omega arith)
-stars_short f x (y ∷ ys) e =
-    let more = stars_short (eqb x 10) y ys e in
-    elim (cases_Bool (eqb x 42)) [
-      | inl is ↦ rw is (omega (arith, more))
-      | inr other ↦ rw other (omega arith)
-    ]
+stars_short f x (y ∷ ys) e = grind (arith, common_steps, stars_short (eqb x 10) y ys e)
 
 -- what follows a line's end doesn't count
 line_short : (f : Bool) (x : ℕ) (a b : List ℕ) → ends_line f (x ∷ a) ≡ true → line_at (x ∷ (a ++ b)) ≡ line_at (x ∷ a)
@@ -172,11 +141,7 @@ begin_before k at f (x ∷ b) le =
 before_count : (k : ℕ) (xs ys : List Heading) → AllByRecursion (λ (h : Heading). h.start < k) xs → AllByRecursion (λ (h : Heading). k ≤ h.start) ys → prefix_len (λ (h : Heading). ltb h.start k) (xs ++ ys) ≡ length xs
 before_count k [] [] p q = refl
 before_count k [] (y ∷ ys) p q = let le : k ≤ y.start = q.0 in let no_more : ltb y.start k ≡ false = grind (arith, nat_tests) in rw no_more refl
-before_count k (x ∷ xs) ys p q =
-    let lt : x.start < k = p.0 in
-    let yes_more : ltb x.start k ≡ true = grind (arith, nat_tests) in
-    let one : 1 + length xs ≡ suc (length xs) = omega arith in
-    rw yes_more (ap (λ n. 1 + n) (before_count k xs ys p.1 q) ∙ one)
+before_count k (x ∷ xs) ys p q = grind (arith, common_steps, before_count k xs ys p.1 q)
 
 with_moved : (removed added p : ℕ) (o : Option ℕ) (line : List ℕ) (hs : List Heading) → map (moved removed added) (with_heading o p line hs) ≡ with_heading o (p - removed + added) line (map (moved removed added) hs)
 with_moved removed added p None line hs = refl
@@ -194,10 +159,7 @@ heads_moved removed added p q f (x ∷ b) le e =
 can_move : (removed added p q size : ℕ) (hs : List Heading) → removed ≤ p → p - removed + added ≡ q → q + size < 2 ^ 64
     → AllByRecursion (λ (h : Heading). p ≤ h.start) hs → AllByRecursion (λ (h : Heading). h.start < p + size) hs → AllByRecursion (λ h. CanMove removed added h) hs
 can_move removed added p q size [] le e room low high = tt
-can_move removed added p q size (h ∷ hs) le e room low high =
-    let l : p ≤ h.start = low.0 in
-    let g : h.start < p + size = high.0 in
-    (record { low = omega (arith, le, l); high = omega (arith, le, e, room, l, g) }, can_move removed added p q size hs le e room low.1 high.1)
+can_move removed added p q size (h ∷ hs) le e room low high = grind (arith, common_steps, can_move removed added p q size hs le e room low.1 high.1)
 
 -- ---- an edit, in parts
 
@@ -227,12 +189,8 @@ take-shorter (suc m) (suc n) (x ∷ l) le = ap (λ l. x ∷ l) (take-shorter m n
 -- a line ends at `to`, and so at `was`
 ends_at : (b c : List ℕ) (q r n : ℕ) → terminated b ≡ b → drop q c ≡ drop r b → (q + n ≡ length c) ⊎ ((f : Bool) → ends_line f (take n (drop q c)) ≡ true) → n ≤ length (drop q c)
     → ends_line true (take (r + n) b) ≡ true
-ends_at b c q r n terminated_b same (inl all) le =
-    let none : length b ≤ r + n = omega (arith, all, ap length same, length-drop q c, length-drop r b, le) in
-    ap (ends_line true) (take_all (r + n) b none) ∙ terminated-ends b terminated_b
-ends_at b c q r n terminated_b same (inr ends) le =
-    ap (ends_line true) (take-plus r n b) ∙ ends_line-append true (take r b) (take n (drop r b)) ∙ ap (λ l. ends_line (ends_line true (take r b)) (take n l)) (sym same)
-    ∙ ends (ends_line true (take r b))
+ends_at b c q r n terminated_b same (inl all) le = grind (arith, common_steps, length-drop, ends_line, take_all, terminated-ends)
+ends_at b c q r n terminated_b same (inr ends) le = grind (arith, common_steps, ends_line, take-plus, ends_line-append)
 
 parts : (hs : List Heading) (c : List ℕ) (at removed added from to : ℕ) (e : IsEdit hs c at removed added) → from ≤ at → ends_line true (take from c) ≡ true → at + added ≤ to → to ≤ length c
     → (to ≡ length c) ⊎ ((f : Bool) → ends_line f (take (to - (at + added)) (drop (at + added) c)) ≡ true)
@@ -384,15 +342,11 @@ spliced_items s all xs is long d = sym (map-same xs) ∙ items_from_drains xs (d
 -- the headings that the code has after the splice: us is their list, n the count of the fresh ones
 pub can_move_now : (hs us : List Heading) (c : List ℕ) (removed added from to first last n : ℕ) {fresh : List Heading} → Makes hs c removed added from to first last fresh
     → n ≡ length fresh → us ≡ take first hs ++ (fresh ++ drop last hs) → AllByRecursion (λ h. CanMove removed added h) (drop (first + n) us)
-can_move_now hs us c removed added from to first last n {fresh} m en eu =
-    let P : List Heading → Type 0 = λ l. AllByRecursion (λ h. CanMove removed added h) l in
-    subst P (sym (ap (λ n. drop (first + n) us) en ∙ ap (drop (first + length fresh)) eu)) m.can
+can_move_now hs us c removed added from to first last n {fresh} m en eu = grind (arith, common_steps)
 
 pub edited_now : (hs us ws : List Heading) (c : List ℕ) (removed added from to first last n : ℕ) {fresh : List Heading} → Makes hs c removed added from to first last fresh
     → n ≡ length fresh → us ≡ take first hs ++ (fresh ++ drop last hs) → ws ≡ take (first + n) us ++ map (moved removed added) (drop (first + n) us) → ws ≡ headings_of c
-edited_now hs us ws c removed added from to first last n {fresh} m en eu ew =
-    let f = moved removed added in
-    ew ∙ ap (λ n. take (first + n) us ++ map f (drop (first + n) us)) en ∙ ap (λ us. take (first + length fresh) us ++ map f (drop (first + length fresh) us)) eu ∙ m.is
+edited_now hs us ws c removed added from to first last n {fresh} m en eu ew = grind (arith, common_steps)
 
 -- where all headings begin before the lines, those of the lines go behind them: us is their list
 pub appended_now : (hs ks ls us : List Heading) (c : List ℕ) (at removed added from to first : ℕ) → IsEdit hs c at removed added → length c < 2 ^ 64

@@ -1,5 +1,6 @@
 -- The headings of a part of a text, byte by byte: what joining, skipping and moving does to them.
 use Rattle.std.proofs.Common.{◌≡◌, ℕ, zero, suc, ◌+◌, ◌-◌, ◌<◌, ◌≤◌, Bool, true, false, cond, eqb, ltb, ◌&&◌, List, [], ◌∷◌, ◌++◌, length, drop, take, get_or, Option, Some, None, refl, sym, ap, subst, ◌∙◌, append_assoc, arith, inl, inr, add-zero, eq-eqb}
+use Rattle.std.proofs.lemmas.Grind.{common_steps}
 use Rattle.std.specs.Prelude.{◌≢◌, replicate}
 use Rattle.std.specs.List.{AllByRecursion}
 use Rattle.std.proofs.lemmas.Bool.{cases_Bool, eqb-true}
@@ -8,7 +9,7 @@ use Rattle.std.proofs.lemmas.List.{append-nil, take-append-drop, length-replicat
 use Rattle.memchr.specs.Find.{IsFirstByte, is_byte}
 use Rattle.org_splice.proofs.Lines.{print_lines-lines_of, lines_of-lines}
 use Rattle.org_headings.specs.declared.heads.Heading.{Heading}
-use Rattle.org_splice.specs.Lines.{terminated, lines_of, print_lines, IsLine}
+use Rattle.org_splice.specs.Lines.{terminated, print_lines, IsLine}
 use Rattle.org_headings.specs.Text.{stars, level_of, line_at}
 use Rattle.org_headings.specs.Beginnings.{beginnings_of}
 use Rattle.org_headings.specs.Headings.{headings_of, headings_from, with_heading, heads_from, ends_line}
@@ -31,27 +32,16 @@ get_or-front (x ∷ a) b (suc k) lt = get_or-front a b k (omega arith)
 
 -- what follows the byte behind the stars doesn't count
 pub level_of-append : (a b : List ℕ) → stars a < length a → level_of (a ++ b) ≡ level_of a
-level_of-append a b lt =
-    let same : stars (a ++ b) ≡ stars a = stars-append a b lt in
-    let next : get_or (a ++ b) (stars a) 0 ≡ get_or a (stars a) 0 = get_or-front a b (stars a) lt in
-    rw (same, next) refl
+level_of-append a b lt = grind (arith, common_steps, stars-append, get_or-front)
 
 -- a newline behind a line doesn't count
 stars-newline : (l more : List ℕ) → stars (l ++ 10 ∷ more) ≡ stars l
 stars-newline [] more = refl
-stars-newline (b ∷ l) more =
-    elim (cases_Bool (eqb b 42)) [
-      | inl e ↦ rw e (ap (λ k. 1 + k) (stars-newline l more))
-      | inr e ↦ rw e refl
-    ]
+stars-newline (b ∷ l) more = grind (arith, common_steps, stars-newline l more)
 
 next-newline : (l more : List ℕ) → eqb (get_or (l ++ 10 ∷ more) (stars l) 0) 32 ≡ eqb (get_or l (stars l) 0) 32
 next-newline [] more = refl
-next-newline (b ∷ l) more =
-    elim (cases_Bool (eqb b 42)) [
-      | inl e ↦ rw (e, one-add) (next-newline l more)
-      | inr e ↦ rw e refl
-    ]
+next-newline (b ∷ l) more = grind (arith, common_steps, next-newline l more)
 
 level_of-newline : (l more : List ℕ) → level_of (l ++ 10 ∷ more) ≡ level_of l
 level_of-newline l more = rw (stars-newline l more, next-newline l more) refl
@@ -60,11 +50,7 @@ level_of-newline l more = rw (stars-newline l more, next-newline l more) refl
 
 rest_of_line : (at : ℕ) (l r : List ℕ) → IsLine l → heads_from at false (l ++ 10 ∷ r) ≡ heads_from (at + length l + 1) true r
 rest_of_line at [] r p = let one : suc at ≡ at + 0 + 1 = omega arith in ap (λ k. heads_from k true r) one
-rest_of_line at (b ∷ l) r p =
-    let ne : b ≢ 10 = p.0 in
-    let no : eqb b 10 ≡ false = grind (arith, nat_tests) in
-    let next : suc at + length l + 1 ≡ at + suc (length l) + 1 = omega arith in
-    ap (λ f. heads_from (suc at) f (l ++ 10 ∷ r)) no ∙ rest_of_line (suc at) l r p.1 ∙ ap (λ k. heads_from k true r) next
+rest_of_line at (b ∷ l) r p = grind (arith, common_steps, rest_of_line (suc at) l r p.1)
 
 -- a byte that is no newline is one of the first line
 pub line_at-more : (x : ℕ) (l : List ℕ) → eqb x 10 ≡ false → line_at (x ∷ l) ≡ x ∷ line_at l
@@ -73,10 +59,7 @@ line_at-more x l other = rw (other, one-add) refl
 -- what the first line of a text is
 pub line_at-line : (l r : List ℕ) → IsLine l → line_at (l ++ 10 ∷ r) ≡ l
 line_at-line [] r p = refl
-line_at-line (b ∷ l) r p =
-    let ne : b ≢ 10 = p.0 in
-    let no : eqb b 10 ≡ false = grind (arith, nat_tests) in
-    line_at-more b (l ++ 10 ∷ r) no ∙ ap (λ (l : List ℕ). b ∷ l) (line_at-line l r p.1)
+line_at-line (b ∷ l) r p = grind (arith, common_steps, nat_tests, line_at-more, line_at-line l r p.1)
 
 -- behind stars it goes on
 pub line_at-stars : (n : ℕ) (u : List ℕ) → line_at (replicate n 42 ++ u) ≡ replicate n 42 ++ line_at u
@@ -99,9 +82,7 @@ heads_from-lines at (l ∷ ls) p =
     first_line at l (print_lines ls) p.0 ∙ ap (with_heading (level_of l) at l) (heads_from-lines (at + length l + 1) ls p.1)
 
 pub heads_from-text : (t : List ℕ) → terminated t ≡ t → heads_from 0 true t ≡ headings_of t
-heads_from-text t c =
-    let whole : print_lines (lines_of t) ≡ t = print_lines-lines_of t ∙ c in
-    ap (heads_from 0 true) (sym whole) ∙ heads_from-lines 0 (lines_of t) (lines_of-lines t)
+heads_from-text t c = grind (arith, common_steps, print_lines-lines_of, heads_from-lines, lines_of-lines)
 
 -- ---- bytes without a star, and a run of stars
 
@@ -109,24 +90,13 @@ pub ends_line-append : (f : Bool) (a b : List ℕ) → ends_line f (a ++ b) ≡ 
 ends_line-append f [] b = refl
 ends_line-append f (x ∷ a) b = ends_line-append (eqb x 10) a b
 
-no_level : (f : Bool) (b : ℕ) (bs : List ℕ) → eqb b 42 ≡ false → cond f (level_of (b ∷ bs)) None ≡ None
-no_level true b bs e = rw e refl
-no_level false b bs e = refl
-
 pub skip_plain : (at : ℕ) (f : Bool) (a b : List ℕ) → AllByRecursion (λ x. x ≢ 42) a → heads_from at f (a ++ b) ≡ heads_from (at + length a) (ends_line f a) b
 skip_plain at f [] b p = ap (λ k. heads_from k f b) (sym (add-zero at))
-skip_plain at f (x ∷ a) b p =
-    let ne : x ≢ 42 = p.0 in
-    let no : eqb x 42 ≡ false = grind (arith, nat_tests) in
-    let next : suc at + length a ≡ at + suc (length a) = omega arith in
-    ap (λ o. with_heading o at (line_at (x ∷ (a ++ b))) (heads_from (suc at) (eqb x 10) (a ++ b))) (no_level f x (a ++ b) no)
-    ∙ skip_plain (suc at) (eqb x 10) a b p.1 ∙ ap (λ k. heads_from k (ends_line (eqb x 10) a) b) next
+skip_plain at f (x ∷ a) b p = grind (arith, common_steps, skip_plain (suc at) (eqb x 10) a b p.1)
 
 run_of_stars : (at n : ℕ) (b : List ℕ) → heads_from at false (replicate n 42 ++ b) ≡ heads_from (at + n) false b
 run_of_stars at zero b = ap (λ k. heads_from k false b) (sym (add-zero at))
-run_of_stars at (suc n) b =
-    let next : suc at + n ≡ at + suc n = omega arith in
-    run_of_stars (suc at) n b ∙ ap (λ k. heads_from k false b) next
+run_of_stars at (suc n) b = grind (arith, common_steps, run_of_stars (suc at) n b)
 
 pub ends_line-stars : (f : Bool) (n : ℕ) → ends_line f (replicate (suc n) 42) ≡ false
 ends_line-stars f zero = refl
@@ -183,11 +153,7 @@ stars-some (b ∷ bs) e = let is : b ≡ 42 = e in let yes : eqb b 42 ≡ true =
 
 stars-within : (u : List ℕ) → stars u ≤ length u
 stars-within [] = omega arith
-stars-within (b ∷ bs) =
-    elim (cases_Bool (eqb b 42)) [
-      | inl e ↦ let more = stars-within bs in rw (e, one-add) (omega (arith, more))
-      | inr e ↦ rw e (omega arith)
-    ]
+stars-within (b ∷ bs) = grind (arith, common_steps, stars-within bs)
 
 -- ---- a pass that has come to `from`
 
@@ -247,10 +213,7 @@ passes text base from s found sc h =
 
 -- the same as the code says it: what `memchr` found in `text[from..]`
 pub found_in : (c : ℕ) (text : List ℕ) (from : ℕ) (r q : Option ℕ) → IsFirstByte (is_byte c) (take (length text - from) (drop from text)) r → r ≡ q → IsFirstByte (is_byte c) (drop from text) q
-found_in c text from r q h e =
-    let P : List ℕ → Type 0 = λ t. IsFirstByte (is_byte c) t q in
-    let Q : Option ℕ → Type 0 = λ q. IsFirstByte (is_byte c) (take (length text - from) (drop from text)) q in
-    subst P (take_rest text from) (subst Q e h)
+found_in c text from r q h e = grind (arith, common_steps)
 
 pub record Looked (c : ℕ) (text : List ℕ) (from : ℕ) (r : Option ℕ) : Type 0 where
   pub first : IsFirstByte (is_byte c) (take (length text - from) (drop from text)) r
@@ -325,10 +288,6 @@ pub record ScannedOnto (text : List ℕ) (base from : ℕ) (held all : List Head
   pub behind : all ≡ held ++ found
   pub scanned : Scanned text base from found
 
-pub onto_none : (text : List ℕ) (base : ℕ) (held : List Heading) → ScannedOnto text base 0 held held
-onto_none text base held =
-    record { found = []; behind = sym (append-nil held); scanned = record { within = omega arith; all = ap (λ k. heads_from k true text) (add-zero base) } }
-
 pub onto_more : (text : List ℕ) (base from next : ℕ) (held all all2 new : List Heading) → (o : ScannedOnto text base from held all) → all2 ≡ all ++ new → Scanned text base next (o.found ++ new)
     → ScannedOnto text base next held all2
 onto_more text base from next held all all2 new o is sc =
@@ -345,10 +304,4 @@ scanned_all text base from found r sc h is =
 
 pub run_room : (text : List ℕ) (from s n : ℕ) (r : Option ℕ) → from ≤ length text → Looked 42 text from r → r ≡ Some s
     → n ≡ stars (take (length text - (from + s)) (drop (from + s) text)) → from + s + n ≤ length text
-run_room text from s n r le h is en =
-    let start = from + s in
-    let g = found_in 42 text from r (Some s) h.first is in
-    let lt : s < length (drop from text) = g.0.high in
-    let fits = stars-within (drop start text) in
-    let count : n ≡ stars (drop start text) = en ∙ ap stars (take_rest text start) in
-    omega (arith, lt, length-drop from text, length-drop start text, fits, count)
+run_room text from s n r le h is en = grind (arith, common_steps, found_in, stars-within, take_rest, length-drop)

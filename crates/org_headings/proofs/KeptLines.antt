@@ -1,5 +1,6 @@
 -- How the titles of headings can begin, kept beside them.
 use Rattle.std.proofs.Common.{◌≡◌, ℕ, ◌+◌, ◌≤◌, List, [], ◌∷◌, ◌++◌, length, drop, take, map, append_assoc, refl, sym, ap, ◌∙◌, arith, inl, inr}
+use Rattle.std.proofs.lemmas.Grind.{common_steps}
 use Rattle.std.specs.Prelude.{◌⊎◌}
 use Rattle.std.specs.List.{take-map, drop-map}
 use Rattle.std.proofs.lemmas.List.{map-append, append-nil, take_all, drop_all, drop_at, take_at, length-append, length-take, length-map}
@@ -48,13 +49,7 @@ moved_begin removed added (h ∷ hs) = ap (λ (ls : List Beginnings). h.beginnin
 
 moved_are : (hs us front later after : List Heading) (size removed added : ℕ) → size ≡ length hs → hs ≡ front ++ later → after ≡ map (moved removed added) later
     → us ≡ take size (front ++ after ++ drop (length (front ++ after)) hs) → map begin_of us ≡ map begin_of hs
-moved_are hs us front later after size removed added se he ae ue =
-    let many : length (front ++ after) ≡ size = omega (arith, se, ap (λ (l : List Heading). length l) he, ap (λ (l : List Heading). length l) ae, length-append front after, length-append front later, length-map later (moved removed added)) in
-    let none : drop (length (front ++ after)) hs ≡ [] = drop_all (length (front ++ after)) hs (omega (arith, many, se)) in
-    let all : us ≡ front ++ after =
-    ue ∙ ap (λ (l : List Heading). take size (front ++ after ++ l)) none ∙ ap (take size) (append-nil (front ++ after)) ∙ take_all size (front ++ after) (omega (arith, many)) in
-    ap (map begin_of) all ∙ map-append begin_of front after ∙ ap (λ (l : List Heading). map begin_of front ++ map begin_of l) ae
-    ∙ ap (λ (ls : List Beginnings). map begin_of front ++ ls) (moved_begin removed added later) ∙ sym (map-append begin_of front later) ∙ ap (map begin_of) (sym he)
+moved_are hs us front later after size removed added se he ae ue = grind (arith, common_steps, length-append, length-map, moved, drop_all, append-nil, take_all, map-append, moved_begin)
 
 pub kept_when_moved : (lines : List Beginnings) (hs us front later after : List Heading) (size removed added : ℕ) → AreBeginnings lines hs → size ≡ length hs → hs ≡ front ++ later
     → after ≡ map (moved removed added) later → us ≡ take size (front ++ after ++ drop (length (front ++ after)) hs) → AreBeginnings lines us

@@ -1,8 +1,7 @@
 -- Searches among headings by their levels: the lowest one, and the last heading above a level.
 use Rattle.std.proofs.Common.{◌≡◌, ℕ, suc, ◌+◌, ◌-◌, ◌<◌, ◌≤◌, true, false, cond, ltb, List, [], ◌∷◌, ◌++◌, length, take, get_or, Option, Some, None, refl, sym, ap, ◌∙◌, arith, add-zero}
-use Rattle.std.specs.Prelude.{min}
+use Rattle.std.proofs.lemmas.Grind.{common_steps}
 use Rattle.std.specs.List.{AllByRecursion}
-use Rattle.std.proofs.Math.Nat.{min-eq_left}
 use Rattle.std.proofs.lemmas.Bool.Decides.{nat_tests}
 use Rattle.std.proofs.lemmas.List.{take_more, length-take-le, get_or_default}
 use Rattle.org_headings.specs.declared.heads.Heading.{Heading}
@@ -12,10 +11,7 @@ use Rattle.org_headings.specs.Headings.{last_above, lowest_level}
 
 pub lowest_none : (floor n : ℕ) (hs : List Heading) → AllByRecursion (λ (h : Heading). floor < h.level) hs → n - 1 ≤ floor → lowest_level n hs ≡ n
 lowest_none floor n [] deep le = refl
-lowest_none floor n (h ∷ hs) deep le =
-    let above : floor < h.level = deep.0 in
-    let same : min n h.level ≡ n = min-eq_left (omega (arith, le, above)) in
-    ap (λ (n : ℕ). lowest_level n hs) same ∙ lowest_none floor n hs deep.1 le
+lowest_none floor n (h ∷ hs) deep le = grind (arith, common_steps, lowest_none floor n hs deep.1 le)
 
 -- ---- the last above a level
 
@@ -28,21 +24,12 @@ last_above-append n i best (x ∷ xs) ys =
 
 -- a pass from the end
 pub last_above-more : (n i : ℕ) (hs : List Heading) (h : Heading) → i < length hs → h ≡ get_or hs i h → (ltb h.level n ≡ true → last_above n 0 None (take (i + 1) hs) ≡ Some i) × (ltb h.level n ≡ false → last_above n 0 None (take (i + 1) hs) ≡ last_above n 0 None (take i hs))
-last_above-more n i hs h lt e =
-    let more : take (i + 1) hs ≡ take i hs ++ h ∷ [] = take_more hs i h lt ∙ ap (λ g. take i hs ++ g ∷ []) (sym e) in
-    let step = ap (last_above n 0 None) more ∙ last_above-append n 0 None (take i hs) (h ∷ []) in
-    let long : 0 + length (take i hs) ≡ i = omega (arith, length-take-le i hs (omega arith)) in
-    (λ yes. step ∙ rw (yes, long) refl, λ no. step ∙ rw no refl)
+last_above-more n i hs h lt e = grind (arith, common_steps, take_more, last_above-append, length-take-le)
 
 -- the same as the code says it: `k - 1` is looked at next
 last_looked : (n k : ℕ) (hs : List Heading) (d : Heading) → 0 < k → k ≤ length hs → last_above n 0 None (take k hs) ≡ last_above n 0 None hs
     → (ltb (get_or hs (k - 1) d).level n ≡ true → last_above n 0 None hs ≡ Some (k - 1)) × (ltb (get_or hs (k - 1) d).level n ≡ false → last_above n 0 None hs ≡ last_above n 0 None (take (k - 1) hs))
-last_looked n k hs d pos le so_far =
-    let i = k - 1 in
-    let next : k ≡ i + 1 = omega arith in
-    let whole = sym so_far ∙ ap (λ k. last_above n 0 None (take k hs)) next in
-    let more = last_above-more n i hs (get_or hs i d) (omega arith) (get_or_default hs i d (get_or hs i d) (omega arith)) in
-    (λ yes. whole ∙ more.0 yes, λ no. whole ∙ more.1 no)
+last_looked n k hs d pos le so_far = grind (arith, common_steps, last_above-more, get_or_default)
 
 pub last_found : (n k : ℕ) (hs : List Heading) (d : Heading) → 0 < k → k ≤ length hs → (get_or hs (k - 1) d).level < n → last_above n 0 None (take k hs) ≡ last_above n 0 None hs → Some (k - 1) ≡ last_above n 0 None hs
 last_found n k hs d pos le lt so_far = sym ((last_looked n k hs d pos le so_far).0 (grind (arith, nat_tests)))

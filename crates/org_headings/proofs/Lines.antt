@@ -1,5 +1,6 @@
 -- Heading lines: a line is its stars and the rest.
 use Rattle.std.proofs.Common.{◌≡◌, ℕ, zero, suc, ◌+◌, ◌<◌, Bool, true, false, cond, ◌&&◌, eqb, ltb, List, [], ◌∷◌, ◌++◌, drop, get_or, add-zero, Some, None, refl, sym, ap, ◌∙◌, arith, inl, inr}
+use Rattle.std.proofs.lemmas.Grind.{common_steps}
 use Rattle.std.specs.Prelude.{IsTrue, replicate}
 use Rattle.std.proofs.lemmas.Bool.{cases_Bool, eqb-true}
 use Rattle.std.proofs.lemmas.Bool.Decides.{nat_tests}
@@ -28,9 +29,7 @@ space-drop : (n : ℕ) (l : List ℕ) → begins_with_space (drop n l) ≡ eqb (
 space-drop n l = rw (get_or-drop n l 0 0, add-zero n) refl
 
 level_by : (m n : ℕ) (l : List ℕ) (x y : Bool) → ltb 0 m ≡ x → eqb (get_or l m 0) 32 ≡ y → replicate m 42 ++ drop m l ≡ l → cond (x && y) (Some m) None ≡ Some n → IsHeadingOf l n
-level_by m n l true true lt s parts e =
-    let same : m ≡ n = cc in
-    rw (← same) (record { level = grind (arith, nat_tests); space = space-drop m l ∙ s; parts = parts })
+level_by m n l true true lt s parts e = grind (arith, common_steps)
 level_by m n l true false lt s parts e = absurd cc
 level_by m n l false y lt s parts e = absurd cc
 
@@ -49,8 +48,4 @@ pub drop-heading : (n : ℕ) (r : List ℕ) → drop n (heading_line n r) ≡ r
 drop-heading n r = drop_at (replicate n 42) r n (length-replicate n 42)
 
 pub level_of-heading : (n : ℕ) (r : List ℕ) → 0 < n → IsTrue (begins_with_space r) → level_of (heading_line n r) ≡ Some n
-level_of-heading n r lt s =
-    let e : stars (heading_line n r) ≡ n = stars-heading n r s in
-    let b : ltb 0 n ≡ true = grind (arith, nat_tests) in
-    let c : eqb (get_or (heading_line n r) n 0) 32 ≡ true = sym (space-drop n (heading_line n r)) ∙ ap begins_with_space (drop-heading n r) ∙ s in
-    rw (e, b, c) refl
+level_of-heading n r lt s = grind (arith, common_steps, heading_line, stars-heading, nat_tests, space-drop, drop-heading)

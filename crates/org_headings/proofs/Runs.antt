@@ -1,5 +1,6 @@
 -- Lines that are asked together whether they may have a title.
-use Rattle.std.proofs.Common.{◌≡◌, ℕ, ◌+◌, ◌<◌, ◌≤◌, Bool, true, false, not, ◌||◌, eqb, List, [], ◌∷◌, ◌++◌, length, drop, take, get_or, refl, sym, ap, ◌∙◌, arith, eq-eqb}
+use Rattle.std.proofs.Common.{◌≡◌, ℕ, ◌+◌, ◌<◌, ◌≤◌, Bool, true, false, not, ◌||◌, List, ◌++◌, length, drop, take, get_or, refl, sym, ap, ◌∙◌, arith}
+use Rattle.std.proofs.lemmas.Grind.{common_steps}
 use Rattle.std.specs.List.{prefix_len}
 use Rattle.std.proofs.lemmas.List.{take_more, take-append-drop, drop-drop, length-take, length-drop}
 use Rattle.std.proofs.lemmas.List.Folds.{prefix_len-append}
@@ -15,20 +16,11 @@ neither true b e = absurd cc
 neither false b e = (refl, e)
 
 all_then : (p : Beginnings → Bool) (xs ys : List Beginnings) → prefix_len p xs ≡ length xs → prefix_len p (xs ++ ys) ≡ length xs + prefix_len p ys
-all_then p xs ys all =
-    let yes : eqb (prefix_len p xs) (length xs) ≡ true = eq-eqb (prefix_len p xs) (length xs) all in
-    prefix_len-append p xs ys ∙ (rw yes refl)
+all_then p xs ys all = grind (arith, common_steps, prefix_len-append)
 
 pub one_more_passed : (title : Sought) (lines : List Beginnings) (i : ℕ) (d : Beginnings) (any r : Bool) → (any ≡ false → prefix_len (cannot title) (take i lines) ≡ i) → i < length lines
     → r ≡ may_have title (get_or lines i d) → (any || r) ≡ false → prefix_len (cannot title) (take (i + 1) lines) ≡ i + 1
-one_more_passed title lines i d any r before lt re fails =
-    let p = cannot title in
-    let none = neither any r fails in
-    let low : length (take i lines) ≡ i = omega (arith, lt, length-take i lines) in
-    let isnt : may_have title (get_or lines i d) ≡ false = sym re ∙ none.1 in
-    let one : prefix_len p (get_or lines i d ∷ []) ≡ 1 = rw isnt refl in
-    let all = all_then p (take i lines) (get_or lines i d ∷ []) (before none.0 ∙ sym low) in
-    ap (prefix_len p) (take_more lines i d lt) ∙ all ∙ (omega (arith, low, one))
+one_more_passed title lines i d any r before lt re fails = grind (arith, common_steps, neither, length-take, may_have, all_then, take_more)
 
 -- the code asks the `m` lines from `count` on, which are n
 pub run_passed : (title : Sought) (lines : List Beginnings) (count n m : ℕ) (any : Bool) → count + prefix_len (cannot title) (drop count lines) ≡ prefix_len (cannot title) lines → count + n ≤ length lines

@@ -1,8 +1,7 @@
 -- The accounts of a call of this crate, of those of the calls that it made.
-use Rattle.std.proofs.Common.{◌≡◌, true, false, true≢false, refl, sym}
+use Rattle.std.proofs.Common.{arith, ◌≡◌, true, false, true≢false, refl, sym}
+use Rattle.std.proofs.lemmas.Grind.{common_steps}
 use Rattle.std.specs.Prelude.{Result, Ok, Err, IsErrOf, IsErrAnd}
-use Rattle.std.proofs.lemmas.Result.{err_from_is_err_and}
-use Rattle.org_journal.specs.declared.fault.FindFault.TheVariants.{BadJournal, Device, OutOfMemory}
 use Rattle.org_disk.specs.CountsFailures.{CountsFailures}
 use Rattle.org_disk.specs.declared.disk.Disk.{Ghosts}
 use Rattle.org_disk.proofs.Accounting.{accounts_fine, accounts_then}
@@ -10,13 +9,7 @@ use Rattle.org_disk.proofs.Accounting.{accounts_fine, accounts_then}
 -- failure said in other words
 accounts_as : {D : Type 0} {g : Ghosts D} {old new : D} {F G : Type 0} → (F → G) → (G → F)
     → CountsFailures g old new F → CountsFailures g old new G
-accounts_as forth back call = record {
-  was_honest = call.was_honest;
-  stays_honest = call.stays_honest;
-  no_less = call.no_less;
-  risen = λ failed. call.risen (back failed);
-  equal = λ fine. call.equal (λ failed. fine (forth failed));
-}
+accounts_as forth back call = grind (arith, common_steps)
 
 -- nothing failed, and no failure is reported
 pub accounts_quiet : {D : Type 0} {g : Ghosts D} {old new : D} {Failed : Type 0} → (Failed → ⊥)
@@ -31,28 +24,15 @@ pub accounts_answered : {D : Type 0} {T E : Type 0} {x : T} {e : E} {g : Ghosts 
     → CountsFailures g old new ⊥ → CountsFailures g old new (IsErrOf (Ok x) e)
 accounts_answered call = accounts_quiet (λ failed. cc failed) call
 
-pub accounts_bad : {D : Type 0} {T : Type 0} {g : Ghosts D} {old new : D}
-    → CountsFailures g old new ⊥ → CountsFailures g old new (IsErrOf {T = T} (Err BadJournal) Device)
-accounts_bad call = accounts_quiet (λ failed. cc failed) call
-
 -- a fault that a `?` passed on
 pub accounts_passed : {D : Type 0} {T U E : Type 0} {e fault : E} {answer : Result U E} {g : Ghosts D} {old new : D}
     → IsErrAnd answer (λ y. y ≡ e) → CountsFailures g old new (IsErrOf {T = T} (Err e) fault) → CountsFailures g old new (IsErrOf answer fault)
-accounts_passed {answer = answer} is call =
-    let p = err_from_is_err_and answer is in
-    accounts_as (λ f. cc (f, p.1, p.2)) (λ f. cc (f, p.1, p.2)) call
+accounts_passed {answer = answer} is call = grind (arith, common_steps)
 
 -- a call that failed, and that is reported
 pub accounts_failed : {D : Type 0} {g : Ghosts D} {old new : D} {Failed : Type 0} → Failed
     → CountsFailures g old new (true ≡ true) → CountsFailures g old new Failed
 accounts_failed failed call = accounts_as (λ f. failed) (λ f. refl) call
-
--- the fault of a call that failed, which a `?` made another
-pub accounts_told : {D : Type 0} {U E : Type 0} {fault : E} {answer : Result U E} {g : Ghosts D} {old new : D}
-    → IsErrAnd answer (λ y. y ≡ fault) → CountsFailures g old new (true ≡ true) → CountsFailures g old new (IsErrOf answer fault)
-accounts_told {answer = answer} is call =
-    let p = err_from_is_err_and answer is in
-    accounts_failed (cc (p.1, p.2)) call
 
 -- calls that didn't fail, and others after them
 pub accounts_after : {D : Type 0} {T E : Type 0} {x : T} {e : E} {g : Ghosts D} {old mid new : D} {Failed : Type 0}
@@ -60,12 +40,3 @@ pub accounts_after : {D : Type 0} {T E : Type 0} {x : T} {e : E} {g : Ghosts D} 
 accounts_after first second = accounts_then (accounts_fine (λ failed. cc failed) first) second
 
 -- what a fault isn't
-
-pub ok_is_no_fault : {T E : Type 0} {x : T} {e : E} → ¬ (IsErrOf (Ok x) e)
-ok_is_no_fault failed = cc failed
-
-pub bad_is_no_call : {T : Type 0} → ¬ (IsErrOf {T = T} (Err BadJournal) Device)
-bad_is_no_call failed = cc failed
-
-pub memory_is_no_call : {T : Type 0} → ¬ (IsErrOf {T = T} (Err OutOfMemory) Device)
-memory_is_no_call failed = cc failed

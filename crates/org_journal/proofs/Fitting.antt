@@ -1,8 +1,9 @@
 -- Whether patches fit a file, found patch by patch; and what a journal's front says of its record.
 use Rattle.std.proofs.Common.{◌≡◌, ℕ, suc, ◌+◌, ◌<◌, ◌≤◌, Bool, true, false, cond, ltb, leb, List, [], ◌∷◌, ◌++◌, length, take, drop, get_or, Option, Some, None, refl, sym, ap, subst, ◌∙◌, arith, add-one, drop-cons}
-use Rattle.std.specs.Prelude.{◌&&◌, ◌==◌, nat_eq, nat_le, max, slice_index, codes, is_some, Ok, Err}
-use Rattle.std.specs.List.{AllByRecursion, starts_with}
-use Rattle.std.proofs.lemmas.Bool.{false≢true, leb-true, le-leb, le-ltb, lt-leb, lt-ltb, ltb-false}
+use Rattle.std.proofs.lemmas.Grind.{common_steps}
+use Rattle.std.specs.Prelude.{◌&&◌, nat_le, max, is_some, Ok, Err}
+use Rattle.std.specs.List.{AllByRecursion}
+use Rattle.std.proofs.lemmas.Bool.{false≢true, leb-true, le-leb, le-ltb, lt-ltb, ltb-false}
 use Rattle.std.proofs.lemmas.List.{drop_all, drop-drop, length-append, length-drop, length-take, take-append-drop, take-append-le, drop-append-le, get_or_append_left}
 use Rattle.byteorder.specs.Endian.{big_number}
 use Rattle.byteorder.specs.Numbers.{big_from-append}
@@ -12,15 +13,14 @@ use Rattle.org_journal.specs.declared.record.Entry.{Entry}
 use Rattle.org_splice.specs.declared.patch.Patch.{Patch}
 use Rattle.org_journal.specs.declared.record.Version.{Version}
 use Rattle.org_journal.specs.Record.{IsEntry, IsWellFormed}
-use Rattle.org_journal.specs.Reading.{◌>>=◌, number_at, bytes_at, counted_at, version_at, record_at, header_at, journal_at}
+use Rattle.org_journal.specs.Reading.{◌>>=◌, number_at, bytes_at, counted_at, header_at, journal_at}
 use Rattle.org_disk.specs.Disk.{FileState}
 use Rattle.org_disk.specs.Names.{journal_name}
-use Rattle.org_journal.specs.declared.finding.Found.TheVariants.{Open}
 use Rattle.org_journal.specs.declared.fault.FindFault.{FindFault}
 use Rattle.org_journal.specs.declared.fault.FindFault.TheVariants.{BadJournal, Device, OutOfMemory}
 use Rattle.org_journal.specs.Gate.{front_size, is_open}
 use Rattle.org_journal.specs.Recovered.{Image, begins_within, contents, fits, all_fit, recovered}
-use Rattle.org_journal.specs.Finding.{Finds, FindsRecord, FindsSize, HaveWellFormedPatches, HoldsRecordOfSize, record_size}
+use Rattle.org_journal.specs.Finding.{Finds, FindsSize, HaveWellFormedPatches, HoldsRecordOfSize, record_size}
 
 -- the test of the patches that are left, from this place on, is that of all
 pub record FitSoFar (left : List Patch) (place final size : ℕ) (all : List Patch) : Type 0 where
@@ -38,42 +38,11 @@ first_left {A} items i item lt is = rw add-one (drop-cons items i item lt ∙ ap
 none_left : {A : Type 0} (items : List A) (i : ℕ) → length items ≤ i → drop i items ≡ []
 none_left items i le = drop_all i items le
 
--- nothing has been looked at
-pub fit_start : (patches : List Patch) (final size : ℕ) → AreWellFormed (pairs_of patches) final → FitSoFar patches 0 final size patches
-fit_start patches final size is = record { rise = is.rise; within = is.within; same = refl }
-
 at_first : (patches : List Patch) (i place final size : ℕ) (patch : Patch) → i < length patches → patch ≡ get_or patches i patch → FitSoFar (drop i patches) place final size patches → FitSoFar (patch ∷ drop (i + 1) patches) place final size patches
 at_first patches i place final size patch lt is so_far = subst (λ (left : List Patch). FitSoFar left place final size patches) (first_left patches i patch lt is) so_far
 
 pub fit_ends : (patches : List Patch) (i place final size : ℕ) (patch : Patch) → i < length patches → patch ≡ get_or patches i patch → FitSoFar (drop i patches) place final size patches → patch.from + length patch.bytes ≤ final
-fit_ends patches i place final size patch lt is so_far =
-    let now = at_first patches i place final size patch lt is so_far in
-    omega (arith, now.within, last_end_after (patch.from + length patch.bytes) (pairs_of (drop (i + 1) patches)) now.rise.1)
-
-pub fit_next : (patches : List Patch) (i place final size : ℕ) (patch : Patch) → i < length patches → patch ≡ get_or patches i patch → patch.from ≤ max size place
-    → FitSoFar (drop i patches) place final size patches → FitSoFar (drop (i + 1) patches) (patch.from + length patch.bytes) final size patches
-fit_next patches i place final size patch lt is begins so_far =
-    let now = at_first patches i place final size patch lt is so_far in
-    let left = pairs_of (drop (i + 1) patches) in
-    let place' = patch.from + length patch.bytes in
-    record {
-      rise = now.rise.1;
-      within = now.within;
-      same = ap (λ (b : Bool). (b && begins_within size place' left) && leb final (max size (last_end place' left))) (sym (le-leb _ _ begins)) ∙ now.same;
-    }
-
-pub fit_stop : (patches : List Patch) (i place final size : ℕ) (patch : Patch) → i < length patches → patch ≡ get_or patches i patch → max size place < patch.from
-    → FitSoFar (drop i patches) place final size patches → false ≡ fits (pairs_of patches) final size
-fit_stop patches i place final size patch lt is late so_far =
-    let now = at_first patches i place final size patch lt is so_far in
-    let left = pairs_of (drop (i + 1) patches) in
-    let place' = patch.from + length patch.bytes in
-    ap (λ (b : Bool). (b && begins_within size place' left) && leb final (max size (last_end place' left))) (sym (lt-leb _ _ late)) ∙ now.same
-
-pub fit_end : (patches : List Patch) (i place final size : ℕ) → length patches ≤ i → FitSoFar (drop i patches) place final size patches → leb final (max size place) ≡ fits (pairs_of patches) final size
-fit_end patches i place final size le so_far =
-    let now = subst (λ (left : List Patch). FitSoFar left place final size patches) (none_left patches i le) so_far in
-    now.same
+fit_ends patches i place final size patch lt is so_far = grind (arith, common_steps, at_first, last_end_after)
 
 -- ---- entries
 
@@ -133,9 +102,7 @@ journal_taken bytes n is within =
     sym (journal_front front (drop n bytes) (omega (arith, long, is)) (omega (arith, long, is, size))) ∙ ap (λ (x : List ℕ). journal_at x) whole
 
 pub journal_of_body : (journal body : List ℕ) (size : ℕ) → HoldsRecordOfSize journal size → body ≡ take (15 + size) (drop 1 journal) → journal_at (drop 1 journal) ≡ journal_at body
-journal_of_body journal body size held read =
-    let same : 15 + size ≡ 15 + big_number 8 (drop 7 (drop 1 journal)) = ap (λ (n : ℕ). 15 + n) (held.size_is ∙ ap (big_number 8) (sym (drop-drop 7 1 journal))) in
-    sym (journal_taken (drop 1 journal) (15 + size) same (omega (arith, held.size_is, held.within, length-drop 1 journal))) ∙ ap (λ (x : List ℕ). journal_at x) (sym read)
+journal_of_body journal body size held read = grind (arith, common_steps, drop-drop, journal_taken, length-drop)
 
 -- ---- what was found
 
@@ -163,20 +130,11 @@ either_none false r e = refl
 
 journal_short : (bytes : List ℕ) → length bytes < 15 + big_number 8 (drop 7 bytes) → journal_at bytes ≡ None
 unfolding journal_at header_at
-journal_short bytes short =
-    let none = no_size bytes short in
-    let version = version_at (slice_index bytes 4) in
-    let inside : (version >>= λ v. counted_at (drop 7 bytes) >>= λ t. Some (v, t.0)) ≡ None =
-    ap (λ (r : Option (List ℕ × List ℕ)). version >>= λ v. r >>= λ t. Some (v, t.0)) none ∙ none_then version in
-    let header : header_at bytes ≡ None =
-    either_none (leb 15 (length bytes) && (starts_with nat_eq bytes (codes "ORGJ") && (slice_index bytes 5 == 0 && slice_index bytes 6 == 0))) (version >>= λ v. counted_at (drop 7 bytes) >>= λ t. Some (v, t.0)) inside in
-    ap (λ (r : Option (Version × List ℕ)). r >>= λ found. record_at found.0 found.1) header
+journal_short bytes short = grind (arith, common_steps, no_size, none_then, either_none)
 
 -- the header gives a size that the journal doesn't hold
 size_passes : (journal : List ℕ) → length journal < front_size + record_size journal → journal_at (drop 1 journal) ≡ None
-size_passes journal short =
-    let same : big_number 8 (drop 7 (drop 1 journal)) ≡ record_size journal = ap (big_number 8) (drop-drop 7 1 journal) in
-    journal_short (drop 1 journal) (omega (arith, short, same, length-drop 1 journal))
+size_passes journal short = grind (arith, common_steps, drop-drop, journal_short, length-drop)
 
 no_record : (image : Image) → is_open (image journal_name) ≡ true → journal_at (drop 1 (image journal_name)) ≡ None → recovered image ≡ None
 no_record image opened none = rw (opened, none) refl
@@ -187,43 +145,13 @@ bad_size image BadJournal found = (found.0, no_record image found.0 (size_passes
 bad_size image Device found = tt
 bad_size image OutOfMemory found = absurd found
 
--- what the header said of an open journal holds of it later, the files being the same
-module _ (files mid : List ℕ → FileState) (journal : List ℕ) (size : ℕ) (sized : FindsSize (files journal).content (Ok (Some size))) (still : mid ≡ files) where
-  pub record_held : HoldsRecordOfSize (mid journal).content size
-  record_held = subst (λ (f : List ℕ → FileState). HoldsRecordOfSize (f journal).content size) (sym still) (record { size_is = sized.1; within = sized.2 })
-
-  -- the record behind it is bad
-  pub bad_record : (e : FindFault) → journal ≡ journal_name → FindsRecord (mid journal).content (Err e) → Finds (contents files) (Err e)
-  bad_record e named found =
-      let sized' : FindsSize (files journal_name).content (Ok (Some size)) = subst (λ (name : List ℕ). FindsSize (files name).content (Ok (Some size))) named sized in
-      by_fault e sized' (subst (λ (name : List ℕ). FindsRecord (files name).content (Err e)) named (subst (λ (f : List ℕ → FileState). FindsRecord (f journal).content (Err e)) still found))
-    where
-      by_fault : (e : FindFault) → FindsSize (files journal_name).content (Ok (Some size)) → FindsRecord (files journal_name).content (Err e) → Finds (contents files) (Err e)
-      by_fault BadJournal sized found = (sized.0, no_record (contents files) sized.0 found)
-      by_fault Device sized found = tt
-      by_fault OutOfMemory sized found = (sized.0, sized.2)
-
 -- what the calls of a look at an open journal answered, one after another, the files being the
 -- same at each
 module _ (files mid new : List ℕ → FileState) (journal : List ℕ) (size : ℕ) (entries : List Entry) (named : journal ≡ journal_name)
     (sized : FindsSize (files journal).content (Ok (Some size))) (still : mid ≡ files) (same : new ≡ mid)
     (read : journal_at (drop 1 (mid journal).content) ≡ Some entries) where
-  opened_here : is_open (contents files journal_name) ≡ true
-  opened_here = subst (λ (name : List ℕ). is_open (files name).content ≡ true) named sized.0
-
-  read_here : journal_at (drop 1 (contents files journal_name)) ≡ Some entries
-  read_here = subst (λ (name : List ℕ). journal_at (drop 1 (files name).content) ≡ Some entries) named (subst (λ (f : List ℕ → FileState). journal_at (drop 1 (f journal).content) ≡ Some entries) still read)
-
   fit_here : (b : Bool) → b ≡ all_fit entries (contents new) → b ≡ all_fit entries (contents files)
   fit_here b is = subst (λ (f : List ℕ → FileState). b ≡ all_fit entries (contents f)) (same ∙ still) is
-
-  pub found_open : (b : Bool) → b ≡ all_fit entries (contents new) → b ≡ true → Finds (contents files) (Ok (Open entries))
-  found_open b is fits_all = (opened_here, read_here, sym (fit_here b is) ∙ fits_all)
-
-  pub found_bad : (b : Bool) → b ≡ all_fit entries (contents new) → b ≡ false → Finds (contents files) (Err BadJournal)
-  found_bad b is unfits =
-      let unfit : all_fit entries (contents files) ≡ false = sym (fit_here b is) ∙ unfits in
-      (opened_here, rw (opened_here, read_here, unfit) refl)
 
 -- ---- an open gate
 

@@ -1,23 +1,19 @@
 -- What a crash leaves of the journal while its gate, or the bytes behind it, are written.
-use Rattle.std.proofs.Common.{◌≡◌, ◌≢◌, Bool, true, false, inl, inr, ⊎_elim, ℕ, ◌+◌, ◌-◌, ◌<◌, ◌≤◌, ◌∷◌, List, [], length, drop, refl, sym, ◌∙◌, ap, subst, arith}
+use Rattle.std.proofs.Common.{rules, ◌≡◌, ◌≢◌, Bool, true, false, inr, ℕ, ◌+◌, ◌-◌, ◌<◌, ◌≤◌, ◌∷◌, List, [], length, drop, refl, sym, ◌∙◌, ap, arith}
+use Rattle.std.proofs.lemmas.Grind.{common_steps}
 use Rattle.std.specs.Prelude.{IsFalse, IsErr, Result, slice_index, nat_le, ◌==◌, ◌&&◌}
 use Rattle.std.proofs.lemmas.Bool.{eqb-true}
-use Rattle.std.proofs.lemmas.Result.{on_ok_weaker, IfOk-from_err}
 use Rattle.std.proofs.lemmas.List.{same_lists, get_or-drop, length-drop, get_or_default}
 use Rattle.org_splice.specs.Overwritten.{overwritten}
 use Rattle.org_disk.specs.declared.disk.DiskFault.{DiskFault}
 use Rattle.org_disk.specs.Disk.{FileState, Changes, IsImage, IsStable, AreLeftBy, stable, write, sync}
-use Rattle.org_disk.proofs.Images.{only_image, stable_is, is_stable, fixed_after_write}
+use Rattle.org_disk.proofs.Images.{only_image, stable_is, fixed_after_write}
 use Rattle.org_journal.specs.Gate.{front_size, is_open, HasClosedGate, LeavesBody, LeavesClosed, Puts}
 
 -- the gate alone
 pub overwritten_gate : (gate : ℕ) (text : List ℕ) → overwritten 0 (gate ∷ []) text ≡ gate ∷ drop 1 text
 overwritten_gate gate [] = refl
 overwritten_gate gate (x ∷ text) = refl
-
--- too short for a header
-pub short_is_closed : (bytes : List ℕ) → length bytes < front_size → IsFalse (is_open bytes)
-short_is_closed bytes short = grind arith
 
 module _ (journal : List ℕ) (gate : ℕ) (files : List ℕ → FileState) (is : IsStable (files journal)) where
   abbrev content : List ℕ
@@ -43,26 +39,11 @@ module _ (journal : List ℕ) (gate : ℕ) (files : List ℕ → FileState) (is 
       ∙ get_or_default content (1 + k) 0 d inside ∙ sym (get_or-drop 1 content k d))
 
   pub gate_write : (image : List ℕ → List ℕ) → AreLeftBy (write 0 (gate ∷ [])) journal files image → LeavesBody journal files image
-  gate_write image left =
-      let body : HasBody (image journal) = ⊎_elim (body_before (image journal)) (body_written (image journal)) left.here in
-      record { body = body; others = left.others }
+  gate_write image left = grind (arith, common_steps, body_before, body_written)
 
   pub gate_sync : (mid : List ℕ → FileState) → mid journal ≡ write 0 (gate ∷ []) (files journal) → ((other : List ℕ) → other ≢ journal → mid other ≡ files other)
       → (image : List ℕ → List ℕ) → AreLeftBy sync journal mid image → LeavesBody journal files image
-  gate_sync mid is_written others image left =
-      let synced : (bytes : List ℕ) → IsImage (stable (mid journal).content) bytes → HasBody bytes = λ bytes now.
-      ap (λ (l : List ℕ). drop 1 l) (only_image (stable_is (mid journal).content) bytes now ∙ ap (λ (f : FileState). f.content) is_written ∙ overwritten_gate gate content) in
-      let body : HasBody (image journal) =
-      ⊎_elim (λ before. body_written (image journal) (subst (λ f. IsImage f (image journal)) is_written before)) (synced (image journal)) left.here in
-      record { body = body; others = λ other apart. subst (λ f. IsImage f (image other)) (others other apart) (left.others other apart) }
-
--- a journal that is shorter than a header stays so when its gate is written
-pub body_is_short : (journal : List ℕ) (files : List ℕ → FileState) → length (files journal).content < front_size
-    → (image : List ℕ → List ℕ) → LeavesBody journal files image → LeavesClosed journal files image
-body_is_short journal files short image left =
-    let same : length (image journal) - 1 ≡ length (files journal).content - 1 =
-    sym (length-drop 1 (image journal)) ∙ ap length left.body ∙ length-drop 1 (files journal).content in
-    record { closed = short_is_closed (image journal) (omega (arith, same, short)); others = left.others }
+  gate_sync mid is_written others image left = search (rules, arith, stable, only_image, stable_is, overwritten_gate, content, body_written)
 
 -- ---- the bytes behind a closed gate
 
@@ -84,27 +65,8 @@ gate_stays body [] some = absurd (omega arith)
 gate_stays body (x ∷ text) some = refl
 
 module _ (journal body : List ℕ) (files : List ℕ → FileState) (is : HasClosedGate (files journal)) where
-  behind_written : (bytes : List ℕ) → IsImage (write 1 body (files journal)) bytes → IsFalse (is_open bytes)
-  behind_written bytes image =
-      closed_is bytes (files journal).content (fixed_after_write 1 body (files journal) bytes image is.nonempty 0 is.fixed (inl (omega arith))) is.closed
-
   pub behind_write : (image : List ℕ → List ℕ) → AreLeftBy (write 1 body) journal files image → LeavesClosed journal files image
-  behind_write image left = record {
-    closed = ⊎_elim (λ before. closed_is (image journal) (files journal).content (before.fixed 0 is.fixed) is.closed) (behind_written (image journal)) left.here;
-    others = left.others;
-  }
-
-  pub behind_sync : (mid : List ℕ → FileState) → mid journal ≡ write 1 body (files journal) → ((other : List ℕ) → other ≢ journal → mid other ≡ files other)
-      → (image : List ℕ → List ℕ) → AreLeftBy sync journal mid image → LeavesClosed journal files image
-  behind_sync mid is_written others image left =
-      let first : slice_index (mid journal).content 0 ≡ slice_index (files journal).content 0 =
-      ap (λ (f : FileState). slice_index f.content 0) is_written ∙ gate_stays body (files journal).content is.nonempty in
-      let synced : (bytes : List ℕ) → IsImage (stable (mid journal).content) bytes → IsFalse (is_open bytes) = λ bytes now.
-      closed_is bytes (files journal).content (ap (λ (l : List ℕ). slice_index l 0) (only_image (stable_is (mid journal).content) bytes now) ∙ first) is.closed in
-      record {
-        closed = ⊎_elim (λ before. behind_written (image journal) (subst (λ f. IsImage f (image journal)) is_written before)) (synced (image journal)) left.here;
-        others = λ other apart. subst (λ f. IsImage f (image other)) (others other apart) (left.others other apart);
-      }
+  behind_write image left = grind (arith, common_steps)
 
 -- ---- what the calls put
 
@@ -112,17 +74,9 @@ module _ (journal body : List ℕ) (files : List ℕ → FileState) (is : HasClo
 pub puts : (journal : List ℕ) (from : ℕ) (bytes content : List ℕ) (old mid new : List ℕ → FileState) (result : Result (Unit {0}) DiskFault)
     → overwritten from bytes (old journal).content ≡ content → mid journal ≡ write from bytes (old journal) → ((other : List ℕ) → other ≢ journal → mid other ≡ old other)
     → Changes sync journal mid new result → Puts journal content old new result
-puts journal from bytes content old mid new result is_content is_written others synced = record {
-  stable = on_ok_weaker result (λ is. is_stable (new journal) (mid journal).content is) synced.ok;
-  is = on_ok_weaker result (λ is. ap (λ (f : FileState). f.content) is ∙ ap (λ (f : FileState). f.content) is_written ∙ is_content) synced.ok;
-  others = λ other apart. synced.others other apart ∙ others other apart;
-}
+puts journal from bytes content old mid new result is_content is_written others synced = grind (arith, common_steps)
 
 -- a call that failed
 pub puts_failed : (journal content : List ℕ) (old new : List ℕ → FileState) (result : Result (Unit {0}) DiskFault)
     → IsErr result → ((other : List ℕ) → other ≢ journal → new other ≡ old other) → Puts journal content old new result
-puts_failed journal content old new result failed others = record {
-  stable = IfOk-from_err result _ failed;
-  is = IfOk-from_err result _ failed;
-  others = others;
-}
+puts_failed journal content old new result failed others = grind (arith, common_steps)

@@ -1,12 +1,12 @@
 -- A journal whose record is read begins with the record's bytes, and from such bytes the record is
 -- read.
-use Rattle.std.proofs.Common.{◌≡◌, ℕ, zero, suc, ◌+◌, ◌*◌, ◌-◌, ◌^◌, ◌<◌, ◌≤◌, Bool, true, false, cond, leb, List, [], ◌∷◌, ◌++◌, length, take, drop, get_or, slice_index, Option, Some, None, refl, sym, ap, subst, ◌∙◌, append_assoc, arith, ◌⊎◌, inl, inr, Result, Ok, Err}
+use Rattle.std.proofs.Common.{◌≡◌, ℕ, ◌+◌, ◌*◌, ◌-◌, ◌^◌, ◌<◌, ◌≤◌, Bool, true, false, cond, leb, List, [], ◌∷◌, ◌++◌, length, take, drop, get_or, slice_index, Option, Some, None, refl, sym, ap, subst, ◌∙◌, append_assoc, arith, ◌⊎◌, inl, inr, Result, Ok, Err}
+use Rattle.std.proofs.lemmas.Grind.{common_steps}
 use Rattle.std.specs.Prelude.{◌&&◌, ◌==◌, nat_eq, codes, is_some, IsTrue, IfOk, ◌↔◌}
 use Rattle.std.specs.List.{flat_map, AllByRecursion, starts_with}
 use Rattle.std.proofs.Math.Nat.{mul-le-mul_left}
 use Rattle.std.proofs.lemmas.Bool.{false≢true, leb-true, le-leb, eqb-true}
-use Rattle.std.proofs.lemmas.List.{append-nil, take_at, drop_at, take_all, drop_all, take_more, flat_map_more, length-append}
-use Rattle.std.proofs.lemmas.List.Concat.{flat_map-cons}
+use Rattle.std.proofs.lemmas.List.{append-nil, take_at, drop_at, take_all, drop_all, length-append}
 use Rattle.std.proofs.lemmas.Option.{none-some, same_Some, some_pair_parts}
 use Rattle.byteorder.specs.Endian.{big_bytes}
 use Rattle.byteorder.specs.Numbers.{length-bytes_high_first}
@@ -29,11 +29,7 @@ use Rattle.org_journal.proofs.Spelled.{name_short, record_takes, record_again}
 -- where each item has at most this many bytes
 flat_map_within : {A : Type 0} (f : A → List ℕ) (most : ℕ) (P : A → Type 0) → ((x : A) → P x → length (f x) ≤ most) → (xs : List A) → AllByRecursion P xs → length (flat_map f xs) ≤ most * length xs
 flat_map_within f most P each [] all = omega arith
-flat_map_within f most P each (x ∷ xs) all =
-    let first = each x all.0 in
-    let others = flat_map_within f most P each xs all.1 in
-    let grown : most * suc (length xs) ≡ most + most * length xs = omega arith in
-    omega (arith, flat_map-cons f x xs, length-append (f x) (flat_map f xs), first, others, grown)
+flat_map_within f most P each (x ∷ xs) all = grind (arith, common_steps, flat_map_within f most P each xs all.1)
 
 follow_within : (place final : ℕ) (alone : Bool) (patches : List Patch) → AllFollow place final alone patches → AllByRecursion (λ patch. length patch.bytes ≤ final) patches
 follow_within place final alone [] follow = tt
@@ -44,17 +40,7 @@ patch_length most patch within =
     omega (arith, within, length-append (big_bytes 8 patch.from) (counted_bytes patch.bytes), length-append (big_bytes 8 (length patch.bytes)) patch.bytes, length-bytes_high_first 8 patch.from, length-bytes_high_first 8 (length patch.bytes))
 
 old_patch_length : (most final : ℕ) (patch : Patch) → length patch.bytes ≤ most → length (old_patch_bytes final patch) ≤ 24 + most
-old_patch_length most final patch within =
-    omega (
-      arith,
-      within,
-      length-append (big_bytes 8 patch.from) (big_bytes 8 final ++ counted_bytes patch.bytes),
-      length-append (big_bytes 8 final) (counted_bytes patch.bytes),
-      length-append (big_bytes 8 (length patch.bytes)) patch.bytes,
-      length-bytes_high_first 8 patch.from,
-      length-bytes_high_first 8 final,
-      length-bytes_high_first 8 (length patch.bytes),
-    )
+old_patch_length most final patch within = grind (arith, common_steps)
 
 name_length : (name : List ℕ) → length name ≤ 208 → length (name_bytes name) ≤ 210
 name_length name short = omega (arith, short, length-append (big_bytes 2 (length name)) name, length-bytes_high_first 2 (length name))
@@ -113,12 +99,7 @@ front_is (a ∷ b ∷ c ∷ []) long magic six seven = absurd (omega arith)
 front_is (a ∷ b ∷ c ∷ d ∷ []) long magic six seven = absurd (omega arith)
 front_is (a ∷ b ∷ c ∷ d ∷ e ∷ []) long magic six seven = absurd (omega arith)
 front_is (a ∷ b ∷ c ∷ d ∷ e ∷ f ∷ []) long magic six seven = absurd (omega arith)
-front_is (a ∷ b ∷ c ∷ d ∷ e ∷ f ∷ g ∷ rest) long magic six seven =
-    let first = both_true (nat_eq 79 a) (nat_eq 82 b && (nat_eq 71 c && (nat_eq 74 d && true))) magic in
-    let second = both_true (nat_eq 82 b) (nat_eq 71 c && (nat_eq 74 d && true)) first.1 in
-    let third = both_true (nat_eq 71 c) (nat_eq 74 d && true) second.1 in
-    let fourth = both_true (nat_eq 74 d) true third.1 in
-    rw (← eqb-true _ _ first.0, ← eqb-true _ _ second.0, ← eqb-true _ _ third.0, ← eqb-true _ _ fourth.0, six, seven) refl
+front_is (a ∷ b ∷ c ∷ d ∷ e ∷ f ∷ g ∷ rest) long magic six seven = grind (arith, common_steps)
 
 header_takes : (bytes : List ℕ) (version : Version) (text : List ℕ) → IsBytes bytes → header_at bytes ≡ Some (version, text)
     → (rest : List ℕ) × (bytes ≡ (header_bytes version (length text) ++ text) ++ rest) × IsBytes text
@@ -204,23 +185,12 @@ pub appended3 : (out o1 o2 o3 a b c : List ℕ) → o1 ≡ out ++ a → o2 ≡ o
 appended3 out o1 o2 o3 a b c e1 e2 e3 = e3 ∙ ap (λ (x : List ℕ). x ++ c) (e2 ∙ ap (λ (x : List ℕ). x ++ b) e1) ∙ append_assoc (out ++ a) b c ∙ append_assoc out a (b ++ c)
 
 pub appended5 : (out o1 o2 o3 o4 o5 a b c d e : List ℕ) → o1 ≡ out ++ a → o2 ≡ o1 ++ b → o3 ≡ o2 ++ c → o4 ≡ o3 ++ d → o5 ≡ o4 ++ e → o5 ≡ out ++ ((a ++ b) ++ (c ++ (d ++ e)))
-appended5 out o1 o2 o3 o4 o5 a b c d e e1 e2 e3 e4 e5 =
-    appended3 o2 o3 o4 o5 c d e e3 e4 e5
-    ∙ ap (λ (x : List ℕ). x ++ (c ++ (d ++ e))) (e2 ∙ ap (λ (x : List ℕ). x ++ b) e1 ∙ append_assoc out a b)
-    ∙ append_assoc out (a ++ b) (c ++ (d ++ e))
+appended5 out o1 o2 o3 o4 o5 a b c d e e1 e2 e3 e4 e5 = grind (arith, common_steps)
 
 -- one item more was written
 pub item_appended : {A : Type 0} (f : A → List ℕ) (out now next : List ℕ) (xs : List A) (i : ℕ) (x : A) → i < length xs → x ≡ get_or xs i x
     → now ≡ out ++ flat_map f (take i xs) → next ≡ now ++ f x → next ≡ out ++ flat_map f (take (i + 1) xs)
-item_appended {A} f out now next xs i x lt is so_far written =
-    let more : take (i + 1) xs ≡ take i xs ++ x ∷ [] = take_more xs i x lt ∙ ap (λ (y : A). take i xs ++ y ∷ []) (sym is) in
-    written ∙ ap (λ (l : List ℕ). l ++ f x) so_far ∙ flat_map_more f out (take i xs) x ∙ ap (λ (l : List A). out ++ flat_map f l) (sym more)
-
--- the item at a place, where each item has P
-pub item_of : {A : Type 0} (P : A → Type 0) (xs : List A) (i : ℕ) (x : A) → AllByRecursion P xs → i < length xs → x ≡ get_or xs i x → P x
-item_of P [] i x all lt is = absurd (omega (arith, lt))
-item_of P (y ∷ ys) zero x all lt is = subst P (sym is) all.0
-item_of P (y ∷ ys) (suc i) x all lt is = item_of P ys i x all.1 (omega (arith, lt)) is
+item_appended {A} f out now next xs i x lt is so_far written = grind (arith, common_steps)
 
 -- a journal of version 2 whose size is written last
 pub sized : (o1 o2 o3 o4 bytes count items : List ℕ) (len size : ℕ) → o1 ≡ 79 ∷ 82 ∷ 71 ∷ 74 ∷ 2 ∷ 0 ∷ 0 ∷ [] → o2 ≡ o1 ++ big_bytes 8 0 → o3 ≡ o2 ++ count → o4 ≡ o3 ++ items

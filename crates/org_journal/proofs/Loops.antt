@@ -1,7 +1,8 @@
 -- Reading one item after the other, as a loop does.
-use Rattle.std.proofs.Common.{◌≡◌, ℕ, suc, Bool, ◌-◌, ◌+◌, ◌≤◌, ◌<◌, List, [], ◌∷◌, ◌++◌, length, Option, Some, None, refl, sym, ap, ◌∙◌, append_assoc, arith}
+use Rattle.std.proofs.Common.{◌≡◌, ℕ, Bool, ◌-◌, ◌+◌, ◌≤◌, ◌<◌, List, [], ◌∷◌, ◌++◌, length, Option, Some, None, refl, sym, ap, ◌∙◌, append_assoc, arith}
+use Rattle.std.proofs.lemmas.Grind.{common_steps}
 use Rattle.std.proofs.lemmas.List.{append-nil}
-use Rattle.std.proofs.lemmas.Option.{none-some, some_pair_parts}
+use Rattle.std.proofs.lemmas.Option.{none-some}
 use Rattle.org_journal.specs.declared.record.Entry.{Entry}
 use Rattle.org_splice.specs.declared.patch.Patch.{Patch}
 use Rattle.org_journal.specs.declared.record.Version.{Version}
@@ -9,7 +10,7 @@ use Rattle.org_fault.specs.declared.fault.Fault.{Fault}
 use Rattle.org_fault.specs.declared.fault.Fault.TheVariants.{Refused, OutOfMemory}
 use Rattle.org_journal.specs.declared.fault.Malformed.{Malformed}
 use Rattle.org_journal.specs.Decoding.{Fails}
-use Rattle.org_journal.specs.Reading.{◌>>=◌, behind, name_behind, patch_at, patches_at, entry_at, entries_at}
+use Rattle.org_journal.specs.Reading.{behind, name_behind, patch_at, patches_at, entry_at, entries_at}
 
 -- what was read before, and what is still read
 abbrev pub with_front : {A : Type 0} → List A → Option (List A × List ℕ) → Option (List A × List ℕ)
@@ -29,51 +30,35 @@ pub behind_first : {A : Type 0} (first : A) (read : Option (List A × List ℕ))
 behind_first first (Some found) = refl
 behind_first first None = refl
 
-binds_first : {A : Type 0} (first : A) (read : Option (List A × List ℕ)) → (read >>= λ others. Some (first ∷ others.0, others.1)) ≡ with_first first read
-binds_first first (Some found) = refl
-binds_first first None = refl
-
 -- ---- the patches of an entry
 
 pub patches_next : (place final : ℕ) (alone : Bool) (count i : ℕ) (bytes : List ℕ) (first : Patch) (after : List ℕ) → i < count → patch_at place final alone bytes ≡ Some (first, after)
     → patches_at place final alone (count - i) bytes ≡ with_first first (patches_at (first.from + length first.bytes) final alone (count - (i + 1)) after)
 unfolding patches_at
-patches_next place final alone count i bytes first after lt found =
-    let left : count - i ≡ suc (count - (i + 1)) = omega arith in
-    rw (left, found) (binds_first first (patches_at (first.from + length first.bytes) final alone (count - (i + 1)) after))
+patches_next place final alone count i bytes first after lt found = grind (arith, common_steps)
 
 pub patches_stop : (place final : ℕ) (alone : Bool) (count i : ℕ) (bytes : List ℕ) → i < count → patch_at place final alone bytes ≡ None → patches_at place final alone (count - i) bytes ≡ None
 unfolding patches_at
-patches_stop place final alone count i bytes lt found =
-    let left : count - i ≡ suc (count - (i + 1)) = omega arith in
-    rw (left, found) refl
+patches_stop place final alone count i bytes lt found = grind (arith, common_steps)
 
 pub patches_end : (place final : ℕ) (alone : Bool) (count i : ℕ) (bytes : List ℕ) → count ≤ i → patches_at place final alone (count - i) bytes ≡ Some ([], bytes)
 unfolding patches_at
-patches_end place final alone count i bytes le =
-    let left : count - i ≡ 0 = omega arith in
-    rw left refl
+patches_end place final alone count i bytes le = grind (arith, common_steps)
 
 -- ---- the entries of a record
 
 pub entries_next : (version : Version) (count i : ℕ) (bytes : List ℕ) (first : Entry) (after : List ℕ) → i < count → entry_at version bytes ≡ Some (first, after)
     → entries_at version (count - i) bytes ≡ with_first first (entries_at version (count - (i + 1)) after)
 unfolding entries_at
-entries_next version count i bytes first after lt found =
-    let left : count - i ≡ suc (count - (i + 1)) = omega arith in
-    rw (left, found) (binds_first first (entries_at version (count - (i + 1)) after))
+entries_next version count i bytes first after lt found = grind (arith, common_steps)
 
 pub entries_stop : (version : Version) (count i : ℕ) (bytes : List ℕ) → i < count → entry_at version bytes ≡ None → entries_at version (count - i) bytes ≡ None
 unfolding entries_at
-entries_stop version count i bytes lt found =
-    let left : count - i ≡ suc (count - (i + 1)) = omega arith in
-    rw (left, found) refl
+entries_stop version count i bytes lt found = grind (arith, common_steps)
 
 pub entries_end : (version : Version) (count i : ℕ) (bytes : List ℕ) → count ≤ i → entries_at version (count - i) bytes ≡ Some ([], bytes)
 unfolding entries_at
-entries_end version count i bytes le =
-    let left : count - i ≡ 0 = omega arith in
-    rw left refl
+entries_end version count i bytes le = grind (arith, common_steps)
 
 -- ---- the bytes behind
 
@@ -92,9 +77,7 @@ patches_behind_end place final alone count i bytes total le so_far = sym so_far 
 
 -- what was read of an entry shows whether it was read
 pub entry_of_name : (read : Option (Entry × List ℕ)) (name after : List ℕ) → name_behind read ≡ Some (name, after) → (entry : Entry) × (read ≡ Some (entry, after)) × (entry.name ≡ name)
-entry_of_name (Some found) name after e =
-    let parts = some_pair_parts found.0.name name found.1 after e in
-    (found.0, ap (λ (rest : List ℕ). Some (found.0, rest)) parts.1, parts.0)
+entry_of_name (Some found) name after e = grind (arith, common_steps)
 entry_of_name None name after e = absurd (none-some (name, after) e)
 
 pub no_entry : (read : Option (Entry × List ℕ)) → name_behind read ≡ None → read ≡ None

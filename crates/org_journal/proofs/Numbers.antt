@@ -1,9 +1,10 @@
 -- A field that is read is the field that was written, and what was written is read again.
-use Rattle.std.proofs.Common.{◌≡◌, ℕ, ◌+◌, ◌-◌, ◌^◌, ◌<◌, ◌≤◌, Bool, true, false, cond, ltb, List, ◌++◌, length, get_or, take, drop, Option, Some, None, refl, sym, ap, subst, ◌∙◌, append_assoc, arith, inl, inr}
+use Rattle.std.proofs.Common.{◌≡◌, ℕ, ◌+◌, ◌-◌, ◌^◌, ◌<◌, ◌≤◌, Bool, true, false, cond, ltb, List, ◌++◌, length, get_or, take, drop, Option, Some, None, refl, sym, ap, subst, ◌∙◌, append_assoc, arith}
+use Rattle.std.proofs.lemmas.Grind.{common_steps}
 use Rattle.std.specs.Prelude.{IsTrue, IsUtf8, ◌&&◌}
 use Rattle.std.specs.Str.{is_utf8}
-use Rattle.std.proofs.lemmas.Bool.{false≢true, cases_lt, ltb-false, le-ltb, lt-ltb}
-use Rattle.std.proofs.lemmas.List.{take_at, drop_at, take-append-drop, length-append, length-drop, length-take, take_all, get_or-drop, get_or-take, get_or_past}
+use Rattle.std.proofs.lemmas.Bool.{false≢true, ltb-false, le-ltb}
+use Rattle.std.proofs.lemmas.List.{drop_at, take-append-drop, length-append, length-drop, length-take, take_all, get_or-drop}
 use Rattle.std.proofs.lemmas.Nat.{be_bytes_2, be_bytes_4, be_bytes_8}
 use Rattle.std.proofs.lemmas.Option.{none-some, same_Some, some_pair_parts}
 use Rattle.std.proofs.lemmas.Str.{IsUtf8-from_is_utf8, is_utf8-from_IsUtf8}
@@ -20,15 +21,7 @@ pub IsBytes-drop : (n : ℕ) (bytes : List ℕ) → IsBytes bytes → IsBytes (d
 IsBytes-drop n bytes h i = rw get_or-drop (h (n + i))
 
 pub IsBytes-take : (n : ℕ) (bytes : List ℕ) → IsBytes bytes → IsBytes (take n bytes)
-IsBytes-take n bytes h i =
-    elim (cases_lt i n) [
-      | inl lt ↦ rw (get_or-take n bytes i 0 lt) (h i)
-      | inr le ↦ rw (get_or_past (take n bytes) i 0 (omega (arith, length-take n bytes))) (omega arith)
-    ]
-
--- the number of patches has 4 bytes
-pub patches_fit : (n : ℕ) → n ≤ 1_000 → n < 4_294_967_296
-patches_fit n few = omega arith
+IsBytes-take n bytes h i = grind (arith, common_steps)
 
 -- what was read by a step, and by the steps after it
 pub bind_some : {A B : Type 0} (r : Option A) (f : A → Option B) (y : B) → (r >>= f) ≡ Some y → (x : A) × (r ≡ Some x) × (f x ≡ Some y)
@@ -91,22 +84,13 @@ number_again n x rest lt =
 pub number_is : (n : ℕ) (bytes : List ℕ) (x : ℕ) → n ≤ length bytes → x ≡ big_number n bytes → number_at n bytes ≡ Some (x, take (length bytes - n) (drop n bytes))
 number_is n bytes x long told = rw (le-ltb _ _ long, told, take_all (length bytes - n) (drop n bytes) (omega (arith, length-drop n bytes))) refl
 
-pub number_isnt : (n : ℕ) (bytes : List ℕ) → length bytes < n → number_at n bytes ≡ None
-number_isnt n bytes short = rw (lt-ltb _ _ short) refl
-
 -- ---- bytes behind their count
 
 pub bytes_takes : (n : ℕ) (bytes text rest : List ℕ) → IsBytes bytes → bytes_at n bytes ≡ Some (text, rest) → Takes bytes text rest × (length text ≡ n)
-bytes_takes n bytes text rest fits e =
-    let g = not_short (ltb (length bytes) n) (Some (take n bytes, drop n bytes)) (text, rest) e in
-    let long : n ≤ length bytes = ltb-false _ _ g.0 in
-    let parts = some_pair_parts (take n bytes) text (drop n bytes) rest g.1 in
-    (record { parts = rw (← parts.0, ← parts.1) (sym (take-append-drop n bytes)); rest_fits = rw (← parts.1) (IsBytes-drop n bytes fits) }, rw (← parts.0) (omega (arith, length-take n bytes)))
+bytes_takes n bytes text rest fits e = grind (arith, common_steps)
 
 pub bytes_again : (n : ℕ) (text rest : List ℕ) → length text ≡ n → bytes_at n (text ++ rest) ≡ Some (text, rest)
-bytes_again n text rest len =
-    let long : ltb (length (text ++ rest)) n ≡ false = le-ltb _ _ (omega (arith, len, length-append text rest)) in
-    rw (long, take_at text rest n len, drop_at text rest n len) refl
+bytes_again n text rest len = grind (arith, common_steps)
 
 pub counted_takes : (bytes text rest : List ℕ) → IsBytes bytes → counted_at bytes ≡ Some (text, rest) → Takes bytes (counted_bytes text) rest × (length text < 256 ^ 8)
 unfolding counted_at
@@ -118,9 +102,7 @@ counted_takes bytes text rest fits e =
 
 pub counted_again : (text rest : List ℕ) → length text < 256 ^ 8 → counted_at (counted_bytes text ++ rest) ≡ Some (text, rest)
 unfolding counted_at
-counted_again text rest lt =
-    ap (λ (bytes : List ℕ). counted_at bytes) (append_assoc (big_bytes 8 (length text)) text rest)
-    ∙ rw (number_again 8 (length text) (text ++ rest) lt) (bytes_again (length text) text rest refl)
+counted_again text rest lt = grind (arith, common_steps)
 
 -- ---- names
 
@@ -140,7 +122,4 @@ name_takes bytes name rest fits e =
 
 pub name_again : (name rest : List ℕ) → IsUtf8 name → is_file_name name ≡ true → length name < 256 ^ 2 → name_at (name_bytes name ++ rest) ≡ Some (name, rest)
 unfolding name_at
-name_again name rest text accepted lt =
-    let utf8 = is_utf8-from_IsUtf8 name text in
-    ap (λ (bytes : List ℕ). name_at bytes) (append_assoc (big_bytes 2 (length name)) name rest)
-    ∙ rw (number_again 2 (length name) (name ++ rest) lt, bytes_again (length name) name rest refl, utf8, accepted) refl
+name_again name rest text accepted lt = grind (arith, common_steps, is_utf8-from_IsUtf8, append_assoc, number_again, bytes_again)

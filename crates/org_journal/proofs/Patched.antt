@@ -1,8 +1,9 @@
 -- Patches that are read are those that were written, and what was written is read again.
-use Rattle.std.proofs.Common.{◌≡◌, ℕ, zero, suc, ◌+◌, ◌^◌, ◌<◌, ◌≤◌, Bool, true, false, cond, leb, List, [], ◌∷◌, ◌++◌, length, Some, None, refl, sym, ap, subst, ◌∙◌, append_assoc, arith, inl, inr, ◌⊎◌, ⊎_elim}
-use Rattle.std.specs.Prelude.{◌&&◌, ◌||◌, ◌==◌}
+use Rattle.std.proofs.Common.{◌≡◌, ℕ, zero, suc, ◌+◌, ◌^◌, ◌<◌, ◌≤◌, Bool, true, false, cond, List, [], ◌∷◌, ◌++◌, length, Some, None, refl, ap, subst, ◌∙◌, append_assoc, arith, inl, inr, ◌⊎◌, ⊎_elim}
+use Rattle.std.proofs.lemmas.Grind.{common_steps}
+use Rattle.std.specs.Prelude.{◌||◌, ◌==◌}
 use Rattle.std.specs.List.{flat_map, AllByRecursion}
-use Rattle.std.proofs.lemmas.Bool.{false≢true, leb-true, le-leb, eqb-true}
+use Rattle.std.proofs.lemmas.Bool.{false≢true, eqb-true}
 use Rattle.std.proofs.lemmas.List.Concat.{flat_map-cons}
 use Rattle.std.proofs.lemmas.Option.{same_Some}
 use Rattle.byteorder.specs.Endian.{big_bytes}
@@ -11,7 +12,7 @@ use Rattle.org_splice.specs.Texts.{pairs_of}
 use Rattle.org_splice.specs.declared.patch.Patch.{Patch}
 use Rattle.org_journal.specs.Record.{counted_bytes, patch_bytes}
 use Rattle.org_journal.specs.Reading.{◌>>=◌, number_at, counted_at, may_follow, patch_at, patches_at}
-use Rattle.org_journal.proofs.Numbers.{IsBytes, Takes, Takes-then, bind_some, passed, both_true, back8, number_takes, number_again, counted_takes, counted_again}
+use Rattle.org_journal.proofs.Numbers.{IsBytes, Takes, Takes-then, bind_some, passed, back8, number_takes, number_again, counted_takes, counted_again}
 
 -- ---- the test of a patch
 
@@ -20,29 +21,15 @@ pub record Follows (place final : ℕ) (alone : Bool) (from count : ℕ) : Type 
   pub ends : from + count ≤ final
   pub full : (alone ≡ true) ⊎ (1 ≤ count)
 
-either_true : (a b : Bool) → (a || b) ≡ true → (a ≡ true) ⊎ (b ≡ true)
-either_true true b e = inl refl
-either_true false b e = inr e
-
 pub follows_is : (place final : ℕ) (alone : Bool) (from count : ℕ) → may_follow place final alone from count ≡ true → Follows place final alone from count
-follows_is place final alone from count e =
-    let a = both_true (leb place from) (leb (from + count) final && (alone || leb 1 count)) e in
-    let b = both_true (leb (from + count) final) (alone || leb 1 count) a.1 in
-    record {
-      begins = leb-true _ _ a.0;
-      ends = leb-true _ _ b.0;
-      full = ⊎_elim (λ one. inl one) (λ one. inr (leb-true _ _ one)) (either_true alone (leb 1 count) b.1);
-    }
+follows_is place final alone from count e = grind (arith, common_steps)
 
 or_true : (b : Bool) → (b || true) ≡ true
 or_true true = refl
 or_true false = refl
 
 pub follows_again : (place final : ℕ) (alone : Bool) (from count : ℕ) → Follows place final alone from count → may_follow place final alone from count ≡ true
-follows_again place final alone from count is =
-    let full : (alone || leb 1 count) ≡ true =
-    ⊎_elim (λ one. ap (λ (b : Bool). b || leb 1 count) one) (λ some. ap (λ (b : Bool). alone || b) (le-leb _ _ some) ∙ or_true alone) is.full in
-    rw (le-leb _ _ is.begins, le-leb _ _ is.ends) full
+follows_again place final alone from count is = grind (arith, common_steps)
 
 -- ---- one patch
 
@@ -62,12 +49,7 @@ patch_takes place final alone bytes patch rest fits e =
 pub patch_again : (place final : ℕ) (alone : Bool) (patch : Patch) (rest : List ℕ) → final < 256 ^ 8 → Follows place final alone patch.from (length patch.bytes)
     → patch_at place final alone (patch_bytes patch ++ rest) ≡ Some (patch, rest)
 unfolding patch_at
-patch_again place final alone patch rest small follows =
-    let low : patch.from < 256 ^ 8 = omega (arith, follows.ends) in
-    let short : length patch.bytes < 256 ^ 8 = omega (arith, follows.ends) in
-    let test = follows_again place final alone patch.from (length patch.bytes) follows in
-    ap (λ (bytes : List ℕ). patch_at place final alone bytes) (append_assoc (big_bytes 8 patch.from) (counted_bytes patch.bytes) rest)
-    ∙ rw (number_again 8 patch.from (counted_bytes patch.bytes ++ rest) low, counted_again patch.bytes rest short, test) refl
+patch_again place final alone patch rest small follows = grind (arith, common_steps, follows_again, append_assoc, number_again, counted_again)
 
 -- ---- the patches of an entry
 
@@ -79,9 +61,7 @@ AllFollow place final alone (patch ∷ patches) =
 pub patches_take : (place final : ℕ) (alone : Bool) (n : ℕ) (bytes : List ℕ) (patches : List Patch) (rest : List ℕ) → IsBytes bytes → patches_at place final alone n bytes ≡ Some (patches, rest)
     → Takes bytes (flat_map patch_bytes patches) rest × (length patches ≡ n) × AllFollow place final alone patches
 unfolding patches_at
-patches_take place final alone zero bytes patches rest fits e =
-    subst (λ (x : List Patch × List ℕ). Takes bytes (flat_map patch_bytes x.0) x.1 × (length x.0 ≡ 0) × AllFollow place final alone x.0) (same_Some ([], bytes) (patches, rest) e)
-    (record { parts = refl; rest_fits = fits }, refl, tt)
+patches_take place final alone zero bytes patches rest fits e = grind (arith, common_steps)
 patches_take place final alone (suc n) bytes patches rest fits e =
     let a = bind_some (patch_at place final alone bytes) (λ first. patches_at (first.0.from + length first.0.bytes) final alone n first.1 >>= λ others. Some (first.0 ∷ others.0, others.1)) (patches, rest) e in
     let place' = a.0.0.from + length a.0.0.bytes in
@@ -111,9 +91,7 @@ length-pairs (patch ∷ patches) = ap suc (length-pairs patches)
 
 rise_is : (place final : ℕ) (alone : Bool) (patches : List Patch) → place ≤ final → AllFollow place final alone patches → Rise place (pairs_of patches) × (last_end place (pairs_of patches) ≤ final)
 rise_is place final alone [] le follow = (tt, le)
-rise_is place final alone (patch ∷ patches) le follow =
-    let others = rise_is (patch.from + length patch.bytes) final alone patches follow.0.ends follow.1 in
-    ((follow.0.begins, others.0), others.1)
+rise_is place final alone (patch ∷ patches) le follow = grind (arith, common_steps, rise_is (patch.from + length patch.bytes) final alone patches follow.0.ends follow.1)
 
 full_is : (place final : ℕ) (patches : List Patch) → AllFollow place final false patches → AllByRecursion (λ (p : ℕ × List ℕ). 1 ≤ length p.1) (pairs_of patches)
 full_is place final [] follow = tt
@@ -151,8 +129,4 @@ follow_full place final alone (patch ∷ patches) rise within full =
     (record { begins = rise.0; ends = omega (arith, within, last_end_after (patch.from + length patch.bytes) (pairs_of patches) rise.1); full = inr full.0 }, follow_full (patch.from + length patch.bytes) final alone patches rise.1 within full.1)
 
 pub well_formed_follow : (final : ℕ) (patches : List Patch) → AreWellFormed (pairs_of patches) final → AllFollow 0 final (length patches == 1) patches
-well_formed_follow final patches is =
-    ⊎_elim
-    (λ one. subst (λ (b : Bool). AllFollow 0 final b patches) (sym (ap (λ (n : ℕ). n == 1) (sym (length-pairs patches) ∙ one))) (follow_alone 0 final patches is.rise is.within))
-    (λ full. follow_full 0 final (length patches == 1) patches is.rise is.within full)
-    is.full
+well_formed_follow final patches is = grind (arith, common_steps, length-pairs, follow_alone, follow_full)

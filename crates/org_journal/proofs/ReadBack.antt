@@ -1,5 +1,5 @@
 -- What the laws of the journal's bytes say.
-use Rattle.std.proofs.Common.{◌≡◌, ℕ, Bool, true, false, List, ◌∷◌, ◌++◌, drop, Option, Some, refl, sym, ap, ◌∙◌}
+use Rattle.std.proofs.Common.{◌≡◌, ℕ, true, false, List, ◌∷◌, ◌++◌, drop, Some, refl, sym, ap, ◌∙◌}
 use Rattle.std.specs.Prelude.{is_some}
 use Rattle.org_disk.specs.Names.{journal_name}
 use Rattle.org_journal.proofs.Fitting.{opens}

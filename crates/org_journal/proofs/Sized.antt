@@ -1,17 +1,14 @@
 -- What the header in front of a record says of its journal.
-use Rattle.std.proofs.Common.{◌≡◌, ℕ, ◌+◌, ◌-◌, ◌<◌, ◌≤◌, true, false, List, length, get_or, take, drop, refl, sym, ap, ◌∙◌, arith, eqb}
-use Rattle.std.proofs.lemmas.Bool.{false_from_ne_true, eqb-true, le-leb}
+use Rattle.std.proofs.Common.{◌≡◌, ℕ, ◌+◌, ◌-◌, ◌≤◌, true, List, length, get_or, take, drop, refl, sym, ap, ◌∙◌, arith}
+use Rattle.std.proofs.lemmas.Bool.{le-leb}
 use Rattle.std.proofs.lemmas.List.{drop-take, get_or-take}
 use Rattle.byteorder.specs.Endian.{big_number}
 use Rattle.byteorder.specs.Numbers.{big_from-take}
 use Rattle.org_journal.specs.Gate.{front_size, is_open}
-use Rattle.org_journal.specs.Finding.{HoldsRecord, record_size}
+use Rattle.org_journal.specs.Finding.{record_size}
 
 holds : (size n total : ℕ) → size ≡ n → 16 ≤ total → size ≤ total - 16 → 16 + n ≤ total
 holds size n total is long within = omega arith
-
-too_short : (size n total : ℕ) → size ≡ n → total - 16 < size → total < 16 + n
-too_short size n total is short = omega arith
 
 module _ (header journal : List ℕ) (total : ℕ) (long : 16 ≤ total) (front : header ≡ take front_size journal) (sized : length journal ≡ total) where
   first : get_or header 0 0 ≡ get_or journal 0 0
@@ -23,15 +20,6 @@ module _ (header journal : List ℕ) (total : ℕ) (long : 16 ≤ total) (front 
   pub open_here : get_or header 0 0 ≡ 1 → is_open journal ≡ true
   open_here one = rw (le-leb _ _ longer, sym first ∙ one) refl
 
-  pub closed_here : ¬ (get_or header 0 0 ≡ 1) → is_open journal ≡ false
-  closed_here other = rw (le-leb _ _ longer) (false_from_ne_true (eqb (get_or journal 0 0) 1) (λ one. other (first ∙ eqb-true _ _ one)))
-
   module _ (size : ℕ) (whole : length header ≡ front_size) (told : size ≡ big_number 8 (take (length header - 8) (drop 8 header))) where
     pub size_here : size ≡ record_size journal
     size_here = told ∙ big_from-take 0 8 (length header - 8) (drop 8 header) (omega arith) ∙ ap (λ (l : List ℕ). big_number 8 (drop 8 l)) front ∙ ap (big_number 8) (drop-take 8 8 journal) ∙ big_from-take 0 8 8 (drop 8 journal) (omega arith)
-
-    pub holds_here : size ≤ total - 16 → HoldsRecord journal
-    holds_here within = holds size (record_size journal) (length journal) size_here longer (rw sized within)
-
-    pub short_here : total - 16 < size → length journal < front_size + record_size journal
-    short_here short = too_short size (record_size journal) (length journal) size_here (rw sized short)

@@ -1,5 +1,6 @@
 -- A record that is read is the one that was written, and what was written is read again.
 use Rattle.std.proofs.Common.{◌≡◌, ℕ, zero, suc, ◌-◌, ◌^◌, ◌<◌, ◌≤◌, Bool, true, false, cond, leb, eqb, List, [], ◌∷◌, ◌++◌, length, take, Some, None, refl, sym, ap, subst, ◌∙◌, append_assoc, arith, inl}
+use Rattle.std.proofs.lemmas.Grind.{common_steps}
 use Rattle.std.specs.Prelude.{◌&&◌, ◌==◌, IsTrue, IsUtf8}
 use Rattle.std.specs.List.{flat_map, AllByRecursion}
 use Rattle.std.proofs.lemmas.Bool.{leb-true, le-leb, eqb-true}
@@ -29,20 +30,10 @@ org_short name e = leb-true (length name) 200 (both_true _ _ (both_true _ _ (bot
 pub name_short : (name : List ℕ) → is_file_name name ≡ true → length name ≤ 208
 name_short name e = length-base name (is_archive_name name) (org_short (base_name name) e)
 
--- its length has 2 bytes
-pub name_fits : (name : List ℕ) → is_file_name name ≡ true → length name < 65_536
-name_fits name accepted = omega (arith, name_short name accepted)
-
 -- ---- an entry of version 1
 
 old_is : (name : List ℕ) (final from : ℕ) (bytes : List ℕ) → IsUtf8 name → IsTrue (is_file_name name) → final ≤ greatest_length One → Follows 0 final true from (length bytes) → IsEntry One (old_entry name final from bytes)
-old_is name final from bytes text accepted small follows = record {
-  text = text;
-  name = accepted;
-  few = omega arith;
-  patches = record { some = omega arith; few = omega arith; rise = (omega arith, tt); full = inl refl; within = follows.ends };
-  small = small;
-}
+old_is name final from bytes text accepted small follows = grind (arith, common_steps)
 
 old_takes : (bytes : List ℕ) (entry : Entry) (rest : List ℕ) → IsBytes bytes → old_entry_at bytes ≡ Some (entry, rest) → Takes bytes (entry_bytes One entry) rest × IsEntry One entry
 unfolding old_entry_at
@@ -134,9 +125,7 @@ head_again head rest is =
 
 two_of_head : (final : ℕ) (name : List ℕ) (patches : List Patch) → name_bytes name ++ (big_bytes 8 final ++ (big_bytes 4 (length patches) ++ flat_map patch_bytes patches)) ≡ head_bytes (record { name = name; final = final; count = length patches }) ++ flat_map patch_bytes patches
 unfolding head_bytes
-two_of_head final name patches =
-    ap (λ (x : List ℕ). name_bytes name ++ x) (sym (append_assoc (big_bytes 8 final) (big_bytes 4 (length patches)) (flat_map patch_bytes patches)))
-    ∙ sym (append_assoc (name_bytes name) (big_bytes 8 final ++ big_bytes 4 (length patches)) (flat_map patch_bytes patches))
+two_of_head final name patches = grind (arith, common_steps)
 
 -- ---- an entry
 
@@ -180,9 +169,7 @@ entry_again Two entry rest is =
 entries_take : (version : Version) (n : ℕ) (bytes : List ℕ) (entries : List Entry) (rest : List ℕ) → IsBytes bytes → entries_at version n bytes ≡ Some (entries, rest)
     → Takes bytes (flat_map (entry_bytes version) entries) rest × (length entries ≡ n) × AllByRecursion (IsEntry version) entries
 unfolding entries_at
-entries_take version zero bytes entries rest fits e =
-    subst (λ (x : List Entry × List ℕ). Takes bytes (flat_map (entry_bytes version) x.0) x.1 × (length x.0 ≡ 0) × AllByRecursion (IsEntry version) x.0) (same_Some ([], bytes) (entries, rest) e)
-    (record { parts = refl; rest_fits = fits }, refl, tt)
+entries_take version zero bytes entries rest fits e = grind (arith, common_steps)
 entries_take version (suc n) bytes entries rest fits e =
     let a = bind_some (entry_at version bytes) (λ first. entries_at version n first.1 >>= λ others. Some (first.0 ∷ others.0, others.1)) (entries, rest) e in
     let b = bind_some (entries_at version n a.0.1) (λ others. Some (a.0.0 ∷ others.0, others.1)) (entries, rest) a.2 in
@@ -196,11 +183,7 @@ entries_take version (suc n) bytes entries rest fits e =
 entries_again : (version : Version) (entries : List Entry) (rest : List ℕ) → AllByRecursion (IsEntry version) entries → entries_at version (length entries) (flat_map (entry_bytes version) entries ++ rest) ≡ Some (entries, rest)
 unfolding entries_at
 entries_again version [] rest each = refl
-entries_again version (entry ∷ entries) rest each =
-    let regrouped : flat_map (entry_bytes version) (entry ∷ entries) ++ rest ≡ entry_bytes version entry ++ (flat_map (entry_bytes version) entries ++ rest) =
-    ap (λ (x : List ℕ). x ++ rest) (flat_map-cons (entry_bytes version) entry entries) ∙ append_assoc (entry_bytes version entry) (flat_map (entry_bytes version) entries) rest in
-    ap (entries_at version (suc (length entries))) regrouped
-    ∙ rw (entry_again version entry (flat_map (entry_bytes version) entries ++ rest) each.0, entries_again version entries rest each.1) refl
+entries_again version (entry ∷ entries) rest each = grind (arith, common_steps, flat_map-cons, append_assoc, entry_again, entries_again version entries rest each.1)
 
 -- ---- a record
 

@@ -1,23 +1,24 @@
 -- A clock line is read where it is well formed, and only there.
-use Rattle.std.proofs.Common.{◌≡◌, eqb, ℕ, ◌+◌, ◌-◌, ◌≤◌, Bool, true, false, ◌&&◌, Option, Some, None, List, [], ◌∷◌, ◌++◌, length, take, drop, refl, sym, ap, subst, ◌∙◌, arith, inl, inr, append_assoc, append-nil, length-append}
+use Rattle.std.proofs.Common.{rules, ◌≡◌, ℕ, ◌+◌, ◌-◌, ◌≤◌, Bool, true, false, Option, Some, None, List, [], ◌∷◌, ◌++◌, length, take, drop, refl, sym, ap, subst, ◌∙◌, arith, inl, inr, append_assoc, append-nil}
+use Rattle.std.proofs.lemmas.Grind.{common_steps}
 use Rattle.std.specs.Prelude.{◌⊎◌, codes, if◌then◌else◌}
 use Rattle.std.specs.Option.{option_map_or}
 use Rattle.std.specs.Char.{is_ascii_digit}
 use Rattle.std.specs.List.{list_all, prefix_len}
 use Rattle.std.proofs.Math.Dec.{eqb-suc-zero}
-use Rattle.std.proofs.lemmas.Bool.{cases_Bool, eqb-true}
+use Rattle.std.proofs.lemmas.Bool.{cases_Bool}
 use Rattle.std.proofs.lemmas.Bool.Decides.{nat_tests}
-use Rattle.std.proofs.lemmas.List.{drop_at, length-drop, take-append-drop}
+use Rattle.std.proofs.lemmas.List.{drop_at, take-append-drop}
 use Rattle.org_splice.specs.Blanks.{is_blank, is_trailing, front, behind, end_of, trimmed_end}
 use Rattle.org_splice.proofs.Ends.{both, front_behind, front_passes, end_passes, kept_end}
 use Rattle.org_stamp.specs.Calendar.{Moment}
 use Rattle.org_stamp.specs.Parts.{◌>>=◌}
-use Rattle.org_stamp.specs.Stamp.{closing, opening, start_of}
+use Rattle.org_stamp.specs.Stamp.{closing, opening}
 use Rattle.org_stamp.proofs.Found.{bind_ok}
 use Rattle.org_meta.specs.declared.clock.Running.{Running}
 use Rattle.org_meta.specs.declared.clock.Clock.{Clock}
 use Rattle.org_meta.specs.declared.clock.Clock.TheVariants.{Open, Closed}
-use Rattle.org_meta.specs.Clocks.{clock_stamp_at, behind_some, behind_mark, behind_hours, are_minutes, is_duration, closed_minutes, clock_from, clock_of, minutes_between}
+use Rattle.org_meta.specs.Clocks.{clock_stamp_at, behind_some, behind_mark, are_minutes, is_duration, closed_minutes, clock_from, clock_of, minutes_between}
 use Rattle.org_meta.specs.WellFormed.{IsSome, IsClockStamp, IsClockFront, IsDuration, IsOpenClock, IsClosedClock, IsClockLine}
 use Rattle.org_meta.proofs.ClosedClocks.{same_some, marked, gone, some_pass, stamped, clock_front, clock_again, clock_stamp_again, from_minutes}
 use Rattle.org_meta.proofs.Trims.{behind_front, trim_all, trim_behind}
@@ -41,65 +42,24 @@ two_digits_read [] e = absurd cc
 two_digits_read (c ∷ []) e = absurd cc
 two_digits_read (c ∷ a ∷ []) e = absurd cc
 two_digits_read (c ∷ a ∷ b ∷ d ∷ more) e = absurd cc
-two_digits_read (c ∷ a ∷ b ∷ []) e =
-    let t = both (eqb c 58 && is_ascii_digit a) (is_ascii_digit b) e in
-    let u = both (eqb c 58) (is_ascii_digit a) t.0 in
-    (a, b, ap (λ (x : ℕ). x ∷ a ∷ b ∷ []) (eqb-true c 58 u.0), rw (u.1, t.1) refl)
+two_digits_read (c ∷ a ∷ b ∷ []) e = grind (arith, common_steps)
 
 passing : (o : Option (List ℕ)) → option_map_or are_minutes o false ≡ true → (text : List ℕ) × (o ≡ Some text) × (are_minutes text ≡ true)
 passing None e = absurd cc
 passing (Some text) e = (text, refl, e)
 
 duration_sound : (text : List ℕ) → is_duration text ≡ true → IsDuration text
-duration_sound text e =
-    let read = passing (behind_hours text) e in
-    let arrow = bind_ok (behind_some is_blank text) (λ arrow. behind_mark (codes "=>") arrow >>= λ gap. behind_some is_blank gap >>= λ hours. behind_some is_ascii_digit hours) read.0 read.1 in
-    let gap = bind_ok (behind_mark (codes "=>") arrow.0) (λ gap. behind_some is_blank gap >>= λ hours. behind_some is_ascii_digit hours) read.0 arrow.2 in
-    let hours = bind_ok (behind_some is_blank gap.0) (λ hours. behind_some is_ascii_digit hours) read.0 gap.2 in
-    let first = gone_some is_blank text arrow.0 arrow.1 in
-    let second = gone_some is_blank gap.0 hours.0 hours.1 in
-    let digits = gone_some is_ascii_digit hours.0 read.0 hours.2 in
-    let minutes = two_digits_read read.0 read.2 in
-    record {
-      before = first.0;
-      gap = second.0;
-      hours = digits.0;
-      tens = minutes.0;
-      ones = minutes.1;
-      is = first.2
-          ∙ ap (λ (t : List ℕ). first.0 ++ t)
-          (marked (codes "=>") arrow.0 gap.0 gap.1
-          ∙ ap (λ (t : List ℕ). codes "=>" ++ t) (second.2 ∙ ap (λ (t : List ℕ). second.0 ++ t) (digits.2 ∙ ap (λ (t : List ℕ). digits.0 ++ t) minutes.2)));
-      before_blank = first.1;
-      gap_blank = second.1;
-      digits = digits.1;
-      minutes = minutes.3;
-    }
+duration_sound text e = search (rules, arith, passing, bind_ok, gone_some, two_digits_read, marked)
 
 digit_solid : (hours more : List ℕ) → IsSome is_ascii_digit hours → prefix_len is_blank (hours ++ more) ≡ 0
 digit_solid [] more is = absurd (let some = is.some in omega arith)
-digit_solid (d ∷ hours) more is =
-    let digit : is_ascii_digit d ≡ true = (both (is_ascii_digit d) (list_all is_ascii_digit hours) is.all).0 in
-    let solid : is_blank d ≡ false = grind (arith, nat_tests) in
-    rw solid refl
+digit_solid (d ∷ hours) more is = grind (arith, common_steps)
 
 minutes_read : (a b : ℕ) → list_all is_ascii_digit (a ∷ b ∷ []) ≡ true → are_minutes (58 ∷ a ∷ b ∷ []) ≡ true
-minutes_read a b all =
-    let t = both (is_ascii_digit a) (list_all is_ascii_digit (b ∷ [])) all in
-    let u = both (is_ascii_digit b) true t.1 in
-    rw (t.0, u.0) refl
+minutes_read a b all = grind (arith, common_steps)
 
 duration_complete : (text : List ℕ) → IsDuration text → is_duration text ≡ true
-duration_complete text d =
-    let minutes : List ℕ = 58 ∷ d.tens ∷ d.ones ∷ [] in
-    let hours : List ℕ = d.hours ++ minutes in
-    let gap : List ℕ = d.gap ++ hours in
-    let read : behind_hours text ≡ Some minutes =
-    ap behind_hours d.is
-    ∙ ap (λ (o : Option (List ℕ)). o >>= λ arrow. behind_mark (codes "=>") arrow >>= λ gap. behind_some is_blank gap >>= λ hours. behind_some is_ascii_digit hours) (some_gone is_blank d.before (codes "=>" ++ gap) d.before_blank refl)
-    ∙ ap (λ (o : Option (List ℕ)). o >>= λ hours. behind_some is_ascii_digit hours) (some_gone is_blank d.gap hours d.gap_blank (digit_solid d.hours minutes d.digits))
-    ∙ some_gone is_ascii_digit d.hours minutes d.digits refl in
-    ap (λ (o : Option (List ℕ)). option_map_or are_minutes o false) read ∙ minutes_read d.tens d.ones d.minutes
+duration_complete text d = grind (arith, common_steps, some_gone, digit_solid, minutes_read)
 
 -- ---- what closes a clock
 
@@ -136,11 +96,7 @@ closes_sound start text minutes e =
 
 closes_complete : (start : Moment) (second duration : List ℕ) (end : Moment) (minutes : ℕ) → IsClockStamp second end → IsDuration duration → minutes_between start end ≡ Some minutes
     → closed_minutes start (codes "--" ++ (second ++ duration)) ≡ Some minutes
-closes_complete start second duration end minutes s lasts between =
-    let F : Moment × ℕ → Option ℕ = λ end. if is_duration (drop end.1 (second ++ duration)) then minutes_between start end.0 else None in
-    ap (λ (o : Option (Moment × ℕ)). o >>= F) (clock_stamp_again second duration s.value s.is_text s.clock)
-    ∙ ap (λ (t : List ℕ). if is_duration t then minutes_between start (start_of s.value) else None) (drop_at second duration (length second) refl)
-    ∙ rw (duration_complete duration lasts) (ap (minutes_between start) s.starts ∙ between)
+closes_complete start second duration end minutes s lasts between = grind (arith, common_steps, clock_stamp_again, drop_at, duration_complete)
 
 -- ---- the line
 
@@ -154,9 +110,7 @@ from_parts start head (b ∷ text) clock e =
 
 -- how long the front is, of the lengths that are counted
 head_size : (body head before text : List ℕ) (size : ℕ) → size ≤ length text → head ≡ before ++ take size text → body ≡ head ++ drop size text → length body - length text + size ≡ length head
-head_size body head before text size within head_is body_is =
-    let parts = ap length (take-append-drop size text) in
-    omega (arith, within, ap length head_is, ap length body_is, length-append before (take size text), length-append head (drop size text), parts, length-append (take size text) (drop size text), length-drop size text)
+head_size body head before text size within head_is body_is = grind (arith, common_steps)
 
 record Begun (line : List ℕ) (clock : Clock) : Type 0 where
   front : List ℕ
@@ -250,9 +204,7 @@ trim_tail xs b tail solid trailing = trim_behind is_trailing xs b tail solid ∙
 
 -- a text that ends in such a byte is read as it is with a tail
 trimmed_line : (text tail xs : List ℕ) (b : ℕ) → text ≡ xs ++ b ∷ [] → is_trailing b ≡ false → list_all is_trailing tail ≡ true → (trimmed_end (text ++ tail) ≡ text) × (trimmed_end text ≡ text)
-trimmed_line text tail xs b is solid trailing =
-    let with_tail : text ++ tail ≡ xs ++ b ∷ tail = ap (λ (t : List ℕ). t ++ tail) is ∙ append_assoc xs (b ∷ []) tail in
-    (ap trimmed_end with_tail ∙ trim_tail xs b tail solid trailing ∙ sym is, ap trimmed_end is ∙ trim_tail xs b [] solid refl ∙ sym is)
+trimmed_line text tail xs b is solid trailing = grind (arith, common_steps, append_assoc, trim_tail)
 
 begins_again : (text more : List ℕ) (start : Moment) → (f : IsClockFront text start) → trimmed_end (text ++ more) ≡ text ++ more → clock_of (text ++ more) ≡ clock_from start (length text) more
 begins_again text more start f trimmed = by_gap f.gap f.gap_blank f.is

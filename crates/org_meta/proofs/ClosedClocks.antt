@@ -1,14 +1,15 @@
 -- What an open clock line is made of, and what it says once it is closed.
 use Rattle.std.proofs.Common.{◌≡◌, eqb, ℕ, zero, suc, ◌+◌, ◌-◌, ◌/◌, ◌%◌, ◌<◌, ◌≤◌, Bool, true, false, Option, Some, None, Ok, List, [], ◌∷◌, ◌++◌, length, take, drop, refl, sym, ap, subst, ◌∙◌, arith, inl, inr, append_assoc, append-nil, length-append}
-use Rattle.std.specs.Prelude.{◌≢◌, codes, is_some, nat_eq, nat_lt, replicate, if◌then◌else◌, ◌==◌}
+use Rattle.std.proofs.lemmas.Grind.{common_steps}
+use Rattle.std.specs.Prelude.{◌≢◌, codes, is_some, nat_lt, replicate, if◌then◌else◌, ◌==◌}
 use Rattle.std.specs.Option.{option_map_or}
 use Rattle.std.specs.Char.{is_ascii_digit}
 use Rattle.std.specs.Fmt.{decimal, digits, digits_onto, digit_glyph}
-use Rattle.std.specs.List.{list_all, prefix_len, starts_with}
+use Rattle.std.specs.List.{list_all, prefix_len}
 use Rattle.std.proofs.Math.Dec.{eqb-suc-zero}
-use Rattle.std.proofs.lemmas.Bool.{cases_Bool, eqb-true, false≢true}
+use Rattle.std.proofs.lemmas.Bool.{cases_Bool, false≢true}
 use Rattle.std.proofs.lemmas.Bool.Decides.{nat_tests}
-use Rattle.std.proofs.lemmas.List.{take_at, drop_at, length-drop, take-append-drop}
+use Rattle.std.proofs.lemmas.List.{drop_at, length-drop, take-append-drop}
 use Rattle.org_splice.specs.Blanks.{is_blank, is_trailing, front, behind, end_of, trimmed_end}
 use Rattle.org_splice.specs.Lines.{IsLine}
 use Rattle.org_splice.proofs.Ends.{both, front_behind, front_passes, kept_end}
@@ -26,7 +27,7 @@ use Rattle.org_meta.specs.Moments.{moment_text}
 use Rattle.org_meta.specs.Clocks.{is_clock_stamp, clock_stamp_at, behind_some, behind_mark, behind_hours, are_minutes, is_duration, closed_minutes, clock_from, clock_of, running_of, running_clock, is_open, minutes_between, minutes_in}
 use Rattle.org_meta.specs.Clocking.{clock_line, closing_text, closed_after, closed_clock, closed_line, minutes_run}
 use Rattle.org_splice.proofs.AllLines.{AllByRecursion-take}
-use Rattle.org_meta.proofs.Flat.{Flat, tested, empty_line, both_lines, with_first_byte, two_line, date_line, day_line, clock_text_line}
+use Rattle.org_meta.proofs.Flat.{Flat, tested, empty_line, both_lines, with_first_byte, two_line}
 use Rattle.org_meta.proofs.PlanningText.{starts_front}
 use Rattle.org_meta.proofs.Trims.{behind_front, trim_behind}
 
@@ -58,11 +59,7 @@ closed_from start head b text = rw (eqb-suc-zero (length text)) (by_minutes (clo
     by_minutes (Some n) = refl
 
 pub marked : (mark text after : List ℕ) → behind_mark mark text ≡ Some after → text ≡ mark ++ after
-marked mark text after e =
-    elim (cases_Bool (starts_with nat_eq text mark)) [
-      | inl holds ↦ starts_front text mark holds ∙ ap (λ (t : List ℕ). mark ++ t) (same_some (drop (length mark) text) after (rw holds at e))
-      | inr fails ↦ let none : None ≡ Some after = rw fails at e in absurd cc
-    ]
+marked mark text after e = grind (arith, common_steps, cases_Bool, starts_front, same_some)
 
 -- at least one byte passes
 pub record Gone (test : ℕ → Bool) (text more : List ℕ) : Type 0 where
@@ -216,23 +213,9 @@ clock_again indentation first others stamp more s blank gap is_text clock trimme
 
 -- ---- closed
 
-digit_ends : (n : ℕ) → is_trailing (48 + n % 10) ≡ false
-digit_ends n = grind (arith, nat_tests)
-
-ends_shape : (text a m b pad hours : List ℕ) (x y z : ℕ)
-    → text ++ (a ++ (m ++ (b ++ ((pad ++ hours) ++ (x ∷ y ∷ z ∷ []))))) ≡ (text ++ (a ++ (m ++ (b ++ ((pad ++ hours) ++ (x ∷ y ∷ [])))))) ++ (z ∷ [])
-ends_shape text a m b pad hours x y z = simp append_assoc
-
 -- a closed clock line ends in a digit
 closed_ends : (text : List ℕ) (now : Moment) (minutes : ℕ) → trimmed_end (text ++ closing_text now minutes) ≡ text ++ closing_text now minutes
-closed_ends text now minutes =
-    let n : ℕ = minutes % 60 in
-    let hours : List ℕ = decimal (minutes / 60) in
-    let pad : List ℕ = replicate (2 - length hours) 32 in
-    let last : ℕ = 48 + n % 10 in
-    let before : List ℕ = text ++ (codes "--" ++ (moment_text now ++ (codes " => " ++ ((pad ++ hours) ++ (58 ∷ (48 + n / 10 % 10) ∷ []))))) in
-    let shape : text ++ closing_text now minutes ≡ before ++ (last ∷ []) = ends_shape text (codes "--") (moment_text now) (codes " => ") pad hours 58 (48 + n / 10 % 10) last in
-    ap trimmed_end shape ∙ trim_behind is_trailing before last [] (digit_ends n) ∙ sym shape
+closed_ends text now minutes = grind (arith, common_steps)
 
 -- what a line that is closed becomes
 record Closing (now : Moment) (line new : List ℕ) (r : Running) : Type 0 where
@@ -249,9 +232,7 @@ closing_is : (now : Moment) (line new : List ℕ) (r : Running) → running_cloc
 closing_is now line new r runs e = closing_of now line new r (minutes_between r.start now) refl (ap (closed_clock now line) (sym runs) ∙ e)
 
 head_is : (line : List ℕ) (r : Running) → (o : OpenLine line r) → take r.head line ≡ clock_front o.indentation (o.first ∷ o.others) o.stamp
-head_is line r o =
-    let front : List ℕ = clock_front o.indentation (o.first ∷ o.others) o.stamp in
-    ap (λ n. take n line) o.head ∙ ap (take (length front)) o.is ∙ take_at front o.tail (length front) refl
+head_is line r o = grind (arith, common_steps)
 
 -- the clock that it says
 closed_clock_is : (now : Moment) (line new : List ℕ) (r : Running) → running_clock line ≡ Some r → (c : Closing now line new r)
@@ -332,22 +313,14 @@ record Some_first (l : List ℕ) : Type 0 where
 
 onto_first : (k n b : ℕ) (acc : List ℕ) → Some_first (digits_onto k 10 false n (b ∷ acc))
 onto_first zero n b acc = record { first = b; others = acc; is = refl }
-onto_first (suc k) n b acc =
-    elim (cases_Bool (n / 10 == 0)) [
-      | inl e ↦ rw e (record { first = digit_glyph false (n % 10); others = b ∷ acc; is = refl })
-      | inr e ↦ rw e (onto_first k (n / 10) (digit_glyph false (n % 10)) (b ∷ acc))
-    ]
+onto_first (suc k) n b acc = grind (arith, common_steps, onto_first k (n / 10) (digit_glyph false (n % 10)) (b ∷ acc))
 
 decimal_digits : (n : ℕ) → list_all is_ascii_digit (decimal n) ≡ true
 unfolding digits
 decimal_digits n = onto_digits 64 n [] refl
 
 digits_first : (k n : ℕ) → Some_first (digits_onto (suc k) 10 false n [])
-digits_first k n =
-    elim (cases_Bool (n / 10 == 0)) [
-      | inl e ↦ rw e (record { first = digit_glyph false (n % 10); others = []; is = refl })
-      | inr e ↦ rw e (onto_first k (n / 10) (digit_glyph false (n % 10)) [])
-    ]
+digits_first k n = grind (arith, common_steps, cases_Bool, onto_first)
 
 decimal_first : (n : ℕ) → Some_first (decimal n)
 unfolding digits
@@ -416,12 +389,6 @@ closed_says now line new minutes day minute run e =
 pub open_says : (line : List ℕ) → is_open line ≡ true → minutes_in line ≡ 0
 open_says line runs = let r = run_of line runs in minutes_open line r.0 (open_clock (clock_of line) r.0 r.1)
 
-pub closed_has_run : (now : Moment) (line new : List ℕ) → is_open line ≡ true → closed_line now line ≡ Ok new → (minutes : ℕ) × (minutes_run now line ≡ Some minutes)
-closed_has_run now line new runs e =
-    let r = run_of line runs in
-    let c = closing_is now line new r.0 r.1 e in
-    (c.minutes, ap (λ (o : Option Running). o >>= λ running. minutes_between running.start now) r.1 ∙ c.run)
-
 -- ---- they are lines, and no heading lines
 
 number_line : (l : List ℕ) → list_all is_ascii_digit l ≡ true → Flat l
@@ -435,17 +402,7 @@ blanks_line zero = empty_line
 blanks_line (suc n) = with_first_byte 32 (replicate n 32) refl (blanks_line n)
 
 pub moment_line : (now : Moment) → Flat (moment_text now)
-moment_line now =
-    let d = now.day in
-    let day : List ℕ = 32 ∷ day_name (weekday_of d) in
-    let time : List ℕ = 32 ∷ (clock_text now.minute ++ []) in
-    with_first_byte 91 _ refl
-    (both_lines (((date_text d ++ day) ++ time) ++ []) (93 ∷ [])
-    (both_lines ((date_text d ++ day) ++ time) []
-    (both_lines (date_text d ++ day) time (both_lines (date_text d) day (date_line d) (with_first_byte 32 _ refl (day_line (weekday_of d))))
-    (with_first_byte 32 _ refl (both_lines (clock_text now.minute) [] (clock_text_line now.minute) empty_line)))
-    empty_line)
-    (with_first_byte 93 [] refl empty_line))
+moment_line now = grind (arith, common_steps)
 
 closing_line : (now : Moment) (minutes : ℕ) → Flat (closing_text now minutes)
 closing_line now minutes =
@@ -461,22 +418,10 @@ pub opened_is_line : (now : Moment) → IsLine (clock_line now)
 opened_is_line now = (both_lines (codes "CLOCK: ") (moment_text now) (tested (codes "CLOCK: ") refl) (moment_line now)).flat
 
 pub closed_is_line : (now : Moment) (line new : List ℕ) → closed_line now line ≡ Ok new → IsLine line → IsLine new
-closed_is_line now line new e whole =
-    elim (cases_Bool (is_open line)) [
-      | inl runs ↦
-          let r = run_of line runs in
-          let c = closing_is now line new r.0 r.1 e in
-          let front : Flat (take r.0.head line) = record { flat = AllByRecursion-take (λ b. b ≢ 10) r.0.head line whole } in
-          subst IsLine (sym c.is) (both_lines (take r.0.head line) (closing_text now c.minutes) front (closing_line now c.minutes)).flat
-      | inr other ↦ subst IsLine (not_run now line new other e) whole
-    ]
+closed_is_line now line new e whole = grind (arith, common_steps, cases_Bool, run_of, closing_is, front, AllByRecursion-take, both_lines, closing_line, not_run)
 
 blank_no_star : (b : ℕ) → is_blank b ≡ true → eqb b 42 ≡ false
-blank_no_star b blank =
-    elim (cases_Bool (eqb b 42)) [
-      | inl star ↦ let none : is_blank b ≡ false = rw (eqb-true b 42 star) refl in absurd (false≢true (sym none ∙ blank))
-      | inr other ↦ other
-    ]
+blank_no_star b blank = grind (arith, common_steps)
 
 -- the first byte, which is no star
 pub record NoStar (l : List ℕ) : Type 0 where

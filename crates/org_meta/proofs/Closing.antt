@@ -1,5 +1,6 @@
 -- Open clock lines in their sections, and closed ones in their place.
-use Rattle.std.proofs.Common.{◌≡◌, ℕ, ◌+◌, ◌-◌, ◌≤◌, true, Some, None, Result, Ok, Err, List, ◌∷◌, ◌++◌, length, take, drop, refl, sym, ap, subst, ◌∙◌, arith, append_assoc, length-append, take-append-drop}
+use Rattle.std.proofs.Common.{◌≡◌, ℕ, ◌+◌, ◌-◌, ◌≤◌, true, Some, None, Result, Ok, Err, List, ◌∷◌, ◌++◌, length, take, drop, sym, ap, subst, ◌∙◌, arith, append_assoc, length-append, take-append-drop}
+use Rattle.std.proofs.lemmas.Grind.{common_steps}
 use Rattle.std.specs.Prelude.{MatchResult}
 use Rattle.std.proofs.lemmas.List.{take_at, drop_at, length-drop, length-take-le}
 use Rattle.org_splice.specs.Lines.{terminated, print_lines}
@@ -28,12 +29,7 @@ module _ (section : List ℕ) (span : Span) (before : List (List ℕ)) (line : L
 
   -- the line's bytes are those of its span, without the newline
   pub line_at : take (span.end - 1 - span.start) (drop span.start section) ≡ line
-  line_at =
-      let left : drop span.start section ≡ line ++ 10 ∷ print_lines after =
-      ap (λ n. drop n section) is.start ∙ ap (λ (t : List ℕ). drop (length (print_lines before)) t) round_line
-      ∙ drop_at (print_lines before) (line ++ 10 ∷ print_lines after) (length (print_lines before)) refl in
-      let long : span.end - 1 - span.start ≡ length line = omega (arith, is.start, is.end) in
-      ap (λ n. take n (drop span.start section)) long ∙ ap (λ (t : List ℕ). take (length line) t) left ∙ take_at line (10 ∷ print_lines after) (length line) refl
+  line_at = grind (arith, common_steps, round_line, drop_at, take_at)
 
   module _ (now : Moment) (running : Running) (text : List ℕ) (same : text ≡ take (span.end - 1 - span.start) (drop span.start section)) (runs : Some running ≡ running_clock text) where
     clock_here : running_clock line ≡ Some running

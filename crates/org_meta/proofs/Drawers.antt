@@ -1,5 +1,6 @@
 -- Walks over the lines of a drawer.
 use Rattle.std.proofs.Common.{◌≡◌, ℕ, suc, ◌+◌, true, false, Option, Some, None, List, [], ◌∷◌, ◌++◌, length, take, drop, ◌-◌, refl, sym, ap, ◌∙◌, arith, length-append}
+use Rattle.std.proofs.lemmas.Grind.{common_steps}
 use Rattle.std.specs.List.{AllByRecursion}
 use Rattle.std.specs.Option.{option_map, option_map_or, unwrap_or}
 use Rattle.org_splice.specs.Lines.{terminated, lines_of, print_lines, IsLine}
@@ -48,16 +49,6 @@ ends_found whole text line rest e is b found =
     let p = passed_line whole text line rest e.passed b in
     sym (ap (option_map (behind_lines whole)) here ∙ ap (λ (t : List ℕ). Some t) (passed_rest whole rest p (length e.passed.before + 1) is (length-append e.passed.before (line ∷ []))))
 
-pub ends_other : (whole text line rest : List ℕ) → EndsLater whole text → BeginsWith text line rest → is_end line ≡ false → property_of line ≡ None → None ≡ option_map (behind_lines whole) (size_to_end (lines_of whole))
-ends_other whole text line rest e b other none =
-    let next : size_to_end (lines_of text) ≡ None = ap size_to_end b.lines ∙ rw (other, none) refl in
-    sym (ap (option_map (behind_lines whole)) (e.size ∙ ap (option_map (λ n. length e.passed.before + n)) next))
-
-pub ends_nowhere : (whole text : List ℕ) → EndsLater whole text → text ≡ [] → None ≡ option_map (behind_lines whole) (size_to_end (lines_of whole))
-ends_nowhere whole text e none =
-    let next : size_to_end (lines_of text) ≡ None = ap (λ (t : List ℕ). size_to_end (lines_of t)) none in
-    sym (ap (option_map (behind_lines whole)) (e.size ∙ ap (option_map (λ n. length e.passed.before + n)) next))
-
 -- ---- a value
 
 pub record ValueLater (name whole text : List ℕ) : Type 0 where
@@ -79,9 +70,7 @@ value_nowhere name whole text v none = sym (v.value ∙ ap (λ (t : List ℕ). v
 -- ---- the parts
 
 pub behind_other : (text line rest : List ℕ) → terminated text ≡ text → BeginsWith text line rest → is_drawer_start line ≡ false → text ≡ behind_lines text (drawer_size (lines_of text))
-behind_other text line rest whole b other =
-    let none : drawer_size (lines_of text) ≡ 0 = ap drawer_size b.lines ∙ rw other refl in
-    behind_none text whole ∙ ap (behind_lines text) (sym none)
+behind_other text line rest whole b other = grind (arith, common_steps, behind_none)
 
 size_behind : (text line rest : List ℕ) (o : Option ℕ) (r : Option (List ℕ)) → terminated text ≡ text → BeginsWith text line rest → r ≡ option_map (behind_lines rest) o → unwrap_or r text ≡ behind_lines text (option_map_or suc o 0)
 size_behind text line rest None r whole b is = rw is (behind_none text whole)
@@ -90,9 +79,7 @@ size_behind text line rest (Some n) r whole b is =
 
 behind_drawer : (text line rest : List ℕ) (r : Option (List ℕ)) → terminated text ≡ text → BeginsWith text line rest → is_drawer_start line ≡ true → r ≡ option_map (behind_lines rest) (size_to_end (lines_of rest))
     → unwrap_or r text ≡ behind_lines text (drawer_size (lines_of text))
-behind_drawer text line rest r whole b start is =
-    let size : drawer_size (lines_of text) ≡ option_map_or suc (size_to_end (lines_of rest)) 0 = ap drawer_size b.lines ∙ rw start refl in
-    size_behind text line rest (size_to_end (lines_of rest)) r whole b is ∙ ap (behind_lines text) (sym size)
+behind_drawer text line rest r whole b start is = grind (arith, common_steps, size_behind)
 
 now_or : (r : Option Lines) (d : Lines) → (unwrap_or r d).bytes.now ≡ unwrap_or (option_map (λ x. x.bytes.now) r) d.bytes.now
 now_or None d = refl
@@ -101,19 +88,13 @@ now_or (Some x) d = refl
 pub behind_drawer_now : (text line rest : List ℕ) (found : Option Lines) (or answer : Lines) → or.bytes.now ≡ text → answer ≡ unwrap_or found or → terminated text ≡ text → BeginsWith text line rest → is_drawer_start line ≡ true
     → option_map (λ x. x.bytes.now) found ≡ option_map (behind_lines rest) (size_to_end (lines_of rest))
     → answer.bytes.now ≡ behind_lines text (drawer_size (lines_of text))
-behind_drawer_now text line rest found or answer is_text is whole b start behind =
-    ap (λ (a : Lines). a.bytes.now) is ∙ now_or found or ∙ ap (unwrap_or (option_map (λ (x : Lines). x.bytes.now) found)) is_text
-    ∙ behind_drawer text line rest (option_map (λ x. x.bytes.now) found) whole b start behind
+behind_drawer_now text line rest found or answer is_text is whole b start behind = grind (arith, common_steps, now_or, behind_drawer)
 
 pub planning_here : (text line rest : List ℕ) → terminated rest ≡ rest → BeginsWith text line rest → is_planning line ≡ true → rest ≡ behind_lines text (planning_size (lines_of text))
-planning_here text line rest is b here =
-    let size : planning_size (lines_of text) ≡ 1 = ap planning_size b.lines ∙ rw here refl in
-    sym (ap (behind_lines text) size ∙ ap (λ (ls : List (List ℕ)). print_lines (drop 1 ls)) b.lines ∙ print_lines-terminated rest is)
+planning_here text line rest is b here = grind (arith, common_steps, print_lines-terminated)
 
 pub planning_other : (text line rest : List ℕ) → terminated text ≡ text → BeginsWith text line rest → is_planning line ≡ false → text ≡ behind_lines text (planning_size (lines_of text))
-planning_other text line rest whole b other =
-    let size : planning_size (lines_of text) ≡ 0 = ap planning_size b.lines ∙ rw other refl in
-    behind_none text whole ∙ ap (behind_lines text) (sym size)
+planning_other text line rest whole b other = grind (arith, common_steps, behind_none)
 
 -- the lines of a part
 pub part_lines : (ls : List (List ℕ)) (text : List ℕ) → AllByRecursion IsLine ls → text ≡ print_lines ls → lines_of text ≡ ls
@@ -124,16 +105,7 @@ pub are_sections : (section below rest : List ℕ) (slices : Sections) → termi
     → rest ≡ behind_lines below (drawer_size (lines_of below))
     → slices.planning.bytes.now ≡ take (length section - length below) section → slices.drawer.bytes.now ≡ take (length below - length rest) below → slices.rest.bytes.now ≡ rest
     → AreSections slices (split (lines_of section))
-are_sections section below rest slices whole is_below is_rest planning drawer last =
-    let n = planning_size (lines_of section) in
-    let lines : lines_of below ≡ drop n (lines_of section) =
-    part_lines (drop n (lines_of section)) below (AllByRecursion-drop IsLine n (lines_of section) (lines_of-lines section)) is_below in
-    let terminated_below : terminated below ≡ below = ap terminated is_below ∙ terminated-print_lines (drop n (lines_of section)) ∙ sym is_below in
-    record {
-      planning = planning ∙ front_lines section below n whole is_below;
-      drawer = drawer ∙ front_lines below rest (drawer_size (lines_of below)) terminated_below is_rest ∙ ap (λ (ls : List (List ℕ)). print_lines (take (drawer_size ls) ls)) lines;
-      rest = last ∙ is_rest ∙ ap (λ (ls : List (List ℕ)). print_lines (drop (drawer_size ls) ls)) lines;
-    }
+are_sections section below rest slices whole is_below is_rest planning drawer last = grind (arith, common_steps, part_lines, AllByRecursion-drop, lines_of-lines, terminated-print_lines, front_lines)
 
 pub drawer_lines : (section : List ℕ) → AllByRecursion IsLine (split (lines_of section)).drawer
 drawer_lines section =
@@ -141,9 +113,7 @@ drawer_lines section =
 
 -- the lines behind the drawer's first
 pub property_lines : (section drawer line rest : List ℕ) → drawer ≡ print_lines (split (lines_of section)).drawer → BeginsWith drawer line rest → lines_of rest ≡ drop 1 (split (lines_of section)).drawer
-property_lines section drawer line rest is b =
-    let lines : line ∷ lines_of rest ≡ (split (lines_of section)).drawer = sym b.lines ∙ part_lines (split (lines_of section)).drawer drawer (drawer_lines section) is in
-    ap (λ (ls : List (List ℕ)). drop 1 ls) lines
+property_lines section drawer line rest is b = grind (arith, common_steps, split, part_lines, drawer_lines)
 
 pub no_drawer : (section drawer : List ℕ) → drawer ≡ print_lines (split (lines_of section)).drawer → drawer ≡ [] → (split (lines_of section)).drawer ≡ []
 no_drawer section drawer is none = sym (part_lines (split (lines_of section)).drawer drawer (drawer_lines section) is) ∙ ap lines_of none

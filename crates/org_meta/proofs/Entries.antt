@@ -1,5 +1,6 @@
 -- Planning entries, one after the other.
 use Rattle.std.proofs.Common.{◌≡◌, ℕ, zero, suc, ◌+◌, ◌-◌, ◌<◌, ◌≤◌, true, false, Bool, ◌||◌, ◌&&◌, Option, Some, None, List, [], ◌∷◌, ◌++◌, refl, sym, ap, ◌∙◌, arith, append_assoc, append-nil}
+use Rattle.std.proofs.lemmas.Grind.{common_steps}
 use Rattle.std.specs.Prelude.{not}
 use Rattle.std.specs.List.{list_all}
 use Rattle.org_stamp.specs.Parts.{◌>>=◌}
@@ -35,20 +36,14 @@ read_more es k text rest e whole lt was other is =
     sym (with_more es e (entries_at (3 - (k + 1)) rest)) ∙ sym (ap (with_front es) (ap (λ m. entries_at m text) n ∙ step)) ∙ was
 
 pub read_odd : (es : List PlanningEntry) (k : ℕ) (text : List ℕ) (whole : Option (List PlanningEntry × List ℕ)) → k < 3 → with_front es (entries_at (3 - k) text) ≡ whole → list_all is_trailing text ≡ false → None ≡ entry_at text → whole ≡ None
-read_odd es k text whole lt was other is =
-    let n : 3 - k ≡ suc (3 - (k + 1)) = omega arith in
-    let step : entries_at (suc (3 - (k + 1))) text ≡ None = rw (other, ← is) refl in
-    sym was ∙ ap (with_front es) (ap (λ m. entries_at m text) n ∙ step)
+read_odd es k text whole lt was other is = grind (arith, common_steps)
 
 pub read_end : (es : List PlanningEntry) (n : ℕ) (text : List ℕ) (whole : Option (List PlanningEntry × List ℕ)) → with_front es (entries_at n text) ≡ whole → list_all is_trailing text ≡ true → whole ≡ Some (es, text)
 read_end es n text whole was end = sym was ∙ ap (with_front es) (entries_end n text end) ∙ ap (λ (xs : List PlanningEntry). Some (xs, text)) (append-nil es)
 
 -- a fourth
 pub read_full : (es : List PlanningEntry) (k : ℕ) (text : List ℕ) (whole : Option (List PlanningEntry × List ℕ)) → 3 ≤ k → with_front es (entries_at (3 - k) text) ≡ whole → list_all is_trailing text ≡ false → whole ≡ None
-read_full es k text whole le was other =
-    let n : 3 - k ≡ 0 = omega arith in
-    let step : entries_at 0 text ≡ None = rw other refl in
-    sym was ∙ ap (with_front es) (ap (λ m. entries_at m text) n ∙ step)
+read_full es k text whole le was other = grind (arith, common_steps)
 
 -- ---- entries of one kind
 

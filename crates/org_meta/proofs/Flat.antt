@@ -1,6 +1,7 @@
 -- Texts without a newline: what is written of a moment.
 use Rattle.std.proofs.Common.{◌≡◌, eqb, ℕ, ◌/◌, Bool, true, false, not, List, [], ◌∷◌, ◌++◌, refl, sym, ◌∙◌, arith, inl, inr}
-use Rattle.std.specs.Prelude.{◌≢◌, codes, if◌then◌else◌, ◌==◌}
+use Rattle.std.proofs.lemmas.Grind.{common_steps}
+use Rattle.std.specs.Prelude.{◌≢◌, if◌then◌else◌}
 use Rattle.std.specs.List.{list_all}
 use Rattle.std.proofs.lemmas.Bool.{cases_Bool, false≢true}
 use Rattle.org_splice.specs.Lines.{IsLine}
@@ -38,18 +39,10 @@ either_line true x y p q = p
 either_line false x y p q = q
 
 pub day_line : (w : ℕ) → Flat (day_name w)
-day_line w =
-    either_line (w == 0) (codes "Mon") _ (tested (codes "Mon") refl)
-    (either_line (w == 1) (codes "Tue") _ (tested (codes "Tue") refl)
-    (either_line (w == 2) (codes "Wed") _ (tested (codes "Wed") refl)
-    (either_line (w == 3) (codes "Thu") _ (tested (codes "Thu") refl)
-    (either_line (w == 4) (codes "Fri") _ (tested (codes "Fri") refl)
-    (either_line (w == 5) (codes "Sat") (codes "Sun") (tested (codes "Sat") refl) (tested (codes "Sun") refl))))))
+day_line w = grind (arith, common_steps)
 
 pub date_line : (d : CivilDay) → Flat (date_text d)
-date_line d =
-    both_lines (two_digits (d.year / 100) ++ two_digits d.year) _ (both_lines (two_digits (d.year / 100)) (two_digits d.year) (two_line _) (two_line _))
-    (with_first_byte 45 _ refl (both_lines (two_digits d.month) _ (two_line _) (with_first_byte 45 _ refl (two_line _))))
+date_line d = grind (arith, common_steps)
 
 pub clock_text_line : (n : ℕ) → Flat (clock_text n)
 clock_text_line n = both_lines (two_digits (n / 60)) _ (two_line _) (with_first_byte 58 _ refl (two_line _))

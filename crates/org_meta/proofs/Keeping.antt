@@ -1,15 +1,15 @@
 -- What holds of every line of a section holds of it edited.
-use Rattle.std.proofs.Common.{◌≡◌, ℕ, true, false, ◌&&◌, Option, Some, None, List, [], ◌∷◌, ◌++◌, drop, refl, subst, inl, inr}
+use Rattle.std.proofs.Common.{rules, arith, ◌≡◌, ℕ, true, false, ◌&&◌, Option, Some, None, List, [], ◌∷◌, ◌++◌, refl}
+use Rattle.std.proofs.lemmas.Grind.{common_steps}
 use Rattle.std.specs.Prelude.{is_some, codes}
 use Rattle.std.specs.List.{AllByRecursion, list_any}
 use Rattle.std.specs.Option.{option_map, unwrap_or}
 use Rattle.org_stamp.specs.Calendar.{Moment}
 use Rattle.org_meta.specs.Clocking.{is_logbook, in_logbook, logged, clock_line, opened}
 use Rattle.std.proofs.lemmas.Bool.{cases_Bool}
-use Rattle.org_meta.specs.Sections.{SectionParts, split, joined, is_end, value_named, put_before_end, put_in_drawer, planning_size, drawer_size}
-use Rattle.org_meta.specs.Notes.{with_note}
+use Rattle.org_meta.specs.Sections.{SectionParts, split, joined, is_end, value_named, put_before_end, put_in_drawer}
 use Rattle.org_meta.specs.Resplits.{with_drawer_line}
-use Rattle.org_splice.proofs.AllLines.{AllByRecursion-append, AllByRecursion-take, AllByRecursion-drop}
+use Rattle.org_splice.proofs.AllLines.{AllByRecursion-append}
 
 -- what holds of each line of the parts
 pub record AllParts (P : List ℕ → Type 0) (parts : SectionParts) : Type 0 where
@@ -18,14 +18,7 @@ pub record AllParts (P : List ℕ → Type 0) (parts : SectionParts) : Type 0 wh
   pub rest : AllByRecursion P parts.rest
 
 pub all_split : (P : List ℕ → Type 0) (ls : List (List ℕ)) → AllByRecursion P ls → AllParts P (split ls)
-all_split P ls p =
-    let lines : List (List ℕ) = drop (planning_size ls) ls in
-    let below : AllByRecursion P lines = AllByRecursion-drop P (planning_size ls) ls p in
-    record {
-      planning = AllByRecursion-take P (planning_size ls) ls p;
-      drawer = AllByRecursion-take P (drawer_size lines) lines below;
-      rest = AllByRecursion-drop P (drawer_size lines) lines below;
-    }
+all_split P ls p = grind (arith, common_steps)
 
 pub all_joined : (P : List ℕ → Type 0) (parts : SectionParts) → AllParts P parts → AllByRecursion P (joined parts)
 all_joined P parts a = AllByRecursion-append P parts.planning (parts.drawer ++ parts.rest) a.planning (AllByRecursion-append P parts.drawer parts.rest a.drawer a.rest)
@@ -44,36 +37,16 @@ module _ (P : List ℕ → Type 0) (name line : List ℕ) (own : P line) where
 
   All-put : (ls : List (List ℕ)) → AllByRecursion P ls → AllByRecursion P (put_before_end name line ls)
   All-put [] p = (own, tt)
-  All-put (l ∷ ls) p =
-      elim (cases_Bool (is_end l)) [
-        | inl end ↦ subst (AllByRecursion P) (at_end l ls end) (own, (p.0, p.1))
-        | inr other ↦
-            elim (cases_Bool (is_some (value_named name l))) [
-              | inl here ↦ subst (AllByRecursion P) (found l ls other here) (own, p.1)
-              | inr none ↦ subst (AllByRecursion P) (passed l ls other none) (p.0, All-put ls p.1)
-            ]
-      ]
+  All-put (l ∷ ls) p = search (rules, arith, cases_Bool, at_end, found, passed, All-put ls p.1)
 
   pub All-drawer : P (codes ":PROPERTIES:") → P (codes ":END:") → (ls : List (List ℕ)) → AllByRecursion P ls → AllByRecursion P (put_in_drawer name line ls)
   All-drawer first last [] p = (first, (own, (last, tt)))
   All-drawer first last (l ∷ ls) p = (p.0, All-put ls p.1)
 
   pub keeps_put : P (codes ":PROPERTIES:") → P (codes ":END:") → (ls : List (List ℕ)) → AllByRecursion P ls → AllByRecursion P (joined (with_drawer_line name line (split ls)))
-  keeps_put first last ls p =
-      let a = all_split P ls p in
-      all_joined P (with_drawer_line name line (split ls)) (record { planning = a.planning; drawer = All-drawer first last (split ls).drawer a.drawer; rest = a.rest })
+  keeps_put first last ls p = grind (arith, common_steps, all_split, all_joined, split, All-drawer)
 
 -- ---- another rest, another planning
-
-pub keeps_note : (P : List ℕ → Type 0) (note : List ℕ) (ls : List (List ℕ)) → P note → AllByRecursion P ls → AllByRecursion P (joined (with_note note (split ls)))
-keeps_note P note ls own p =
-    let a = all_split P ls p in
-    all_joined P (with_note note (split ls)) (record { planning = a.planning; drawer = a.drawer; rest = (own, a.rest) })
-
-pub keeps_planning : (P : List ℕ → Type 0) (planning ls : List (List ℕ)) → AllByRecursion P planning → AllByRecursion P ls → AllByRecursion P (joined (record (split ls) { planning = planning }))
-keeps_planning P planning ls own p =
-    let a = all_split P ls p in
-    all_joined P (record (split ls) { planning = planning }) (record { planning = own; drawer = a.drawer; rest = a.rest })
 
 -- ---- a line in the LOGBOOK drawer
 
@@ -97,11 +70,7 @@ module _ (P : List ℕ → Type 0) (line : List ℕ) (own : P line) where
   All-log : (ls : List (List ℕ)) → AllByRecursion P ls → AllIn (in_logbook line ls)
   unfolding AllIn
   All-log [] p = tt
-  All-log (l ∷ ls) p =
-      elim (cases_Bool (is_logbook l && list_any is_end ls)) [
-        | inl here ↦ subst AllIn (log_here l ls here) (p.0, (own, p.1))
-        | inr other ↦ subst AllIn (log_later l ls other) (in_front l (in_logbook line ls) p.0 (All-log ls p.1))
-      ]
+  All-log (l ∷ ls) p = grind (arith, common_steps, All-log ls p.1)
 
   or_new : (o : Option (List (List ℕ))) (ls : List (List ℕ)) → AllIn o → AllByRecursion P ls → AllByRecursion P (unwrap_or o ls)
   unfolding AllIn
@@ -112,6 +81,4 @@ module _ (P : List ℕ → Type 0) (line : List ℕ) (own : P line) where
   All-logged first last ls p = or_new (in_logbook line ls) (codes ":LOGBOOK:" ∷ line ∷ codes ":END:" ∷ ls) (All-log ls p) (first, (own, (last, p)))
 
 pub keeps_opened : (P : List ℕ → Type 0) (now : Moment) (ls : List (List ℕ)) → P (clock_line now) → P (codes ":LOGBOOK:") → P (codes ":END:") → AllByRecursion P ls → AllByRecursion P (joined (opened now (split ls)))
-keeps_opened P now ls own first last p =
-    let a = all_split P ls p in
-    all_joined P (opened now (split ls)) (record { planning = a.planning; drawer = a.drawer; rest = All-logged P (clock_line now) own first last (split ls).rest a.rest })
+keeps_opened P now ls own first last p = grind (arith, common_steps, all_split, all_joined, opened, split, All-logged)

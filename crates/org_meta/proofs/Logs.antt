@@ -1,5 +1,6 @@
 -- Lines put into LOGBOOK drawers.
 use Rattle.std.proofs.Common.{◌≡◌, ℕ, ◌+◌, ◌-◌, ◌≤◌, true, false, Bool, ◌&&◌, ◌||◌, Option, Some, None, List, [], ◌∷◌, ◌++◌, length, refl, sym, ap, ◌∙◌, arith, append_assoc, length-append}
+use Rattle.std.proofs.lemmas.Grind.{common_steps}
 use Rattle.std.specs.Prelude.{codes}
 use Rattle.std.specs.List.{list_any}
 use Rattle.std.specs.Option.{option_map, unwrap_or}
@@ -13,7 +14,7 @@ use Rattle.org_meta.specs.Edits.{Rewrites}
 use Rattle.org_meta.specs.Edits.{IsPlaceFor}
 use Rattle.org_meta.specs.Sections.{SectionParts, AreSections, split, joined, is_end, planning_size}
 use Rattle.org_meta.specs.Clocking.{is_logbook, in_logbook, logged, clock_line, opened}
-use Rattle.org_splice.proofs.Lines.{print_lines-append, terminated-print_lines, lines_of-lines}
+use Rattle.org_splice.proofs.Lines.{print_lines-append, lines_of-lines}
 use Rattle.org_splice.proofs.AllLines.{AllByRecursion-drop}
 use Rattle.org_meta.proofs.Walk.{Passed, passed_none, passed_line, print_lines-terminated}
 use Rattle.org_meta.proofs.Puts.{gives_at, section_bytes, rest_below}
@@ -82,14 +83,7 @@ no_end line (l ∷ ls) none =
     rw (later, and_false (is_logbook l)) (ap (option_map (λ (ms : List (List ℕ)). l ∷ ms)) (no_end line ls later))
 
 pub log_unended : (whole text l rest line : List ℕ) → LogLater whole text → BeginsWith text l rest → list_any is_end (lines_of rest) ≡ false → in_logbook line (lines_of whole) ≡ None
-log_unended whole text l rest line p b none =
-    let next : in_logbook line (l ∷ lines_of rest) ≡ None =
-    rw (none, and_false (is_logbook l)) (ap (option_map (λ (ms : List (List ℕ)). l ∷ ms)) (no_end line (lines_of rest) none)) in
-    p.log line ∙ ap (λ (ls : List (List ℕ)). option_map (λ ms. p.passed.before ++ ms) (in_logbook line ls)) b.lines
-    ∙ ap (option_map (λ (ms : List (List ℕ)). p.passed.before ++ ms)) next
-
-pub log_nowhere : (whole text line : List ℕ) → LogLater whole text → text ≡ [] → in_logbook line (lines_of whole) ≡ None
-log_nowhere whole text line p none = p.log line ∙ ap (λ (t : List ℕ). option_map (λ ms. p.passed.before ++ ms) (in_logbook line (lines_of t))) none
+log_unended whole text l rest line p b none = grind (arith, common_steps, and_false, no_end)
 
 -- ---- in its section
 

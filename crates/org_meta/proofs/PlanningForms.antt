@@ -1,5 +1,6 @@
 -- A planning line is read where it is well formed, and only there.
-use Rattle.std.proofs.Common.{◌≡◌, ℕ, zero, suc, ◌+◌, ◌≤◌, Bool, true, false, ◌&&◌, Option, Some, None, List, [], ◌∷◌, ◌++◌, length, take, drop, refl, sym, ap, subst, ◌∙◌, arith, inl, inr, append_assoc}
+use Rattle.std.proofs.Common.{◌≡◌, ℕ, zero, suc, ◌+◌, ◌≤◌, Bool, true, false, Option, Some, None, List, [], ◌∷◌, ◌++◌, length, take, drop, refl, sym, ap, subst, ◌∙◌, arith, inl, inr, append_assoc}
+use Rattle.std.proofs.lemmas.Grind.{common_steps}
 use Rattle.std.specs.Prelude.{count_by, nat_le, if◌then◌else◌}
 use Rattle.std.specs.List.{AllByRecursion, list_all, prefix_len}
 use Rattle.std.proofs.lemmas.Bool.{cases_Bool}
@@ -17,18 +18,14 @@ use Rattle.org_meta.specs.declared.entry.Word.TheVariants.{Closed, Deadline, Sch
 use Rattle.org_meta.specs.Planning.{word_text, word_at, PlanningEntry, PlanningLine, entry_at, entries_at, is_word, each_once, planning_of, entry_text, entries_text}
 use Rattle.org_meta.specs.WellFormed.{IsEntry, IsPlanning}
 use Rattle.org_meta.proofs.ClosedClocks.{stamp_first}
-use Rattle.org_meta.proofs.PlanningText.{some_is, none_some, bind_some, entries_ended, entries_full, entries_next, planning_read, planning_text}
+use Rattle.org_meta.proofs.PlanningText.{some_is, none_some, bind_some, entries_ended, entries_next, planning_read, planning_text}
 use Rattle.org_meta.proofs.Trims.{behind_step, behind_stop, behind_front, front_front}
 
 -- ---- what is read
 
 begins_behind : (p : ℕ → Bool) (l : List ℕ) → prefix_len p (behind p l) ≡ 0
 begins_behind p [] = refl
-begins_behind p (x ∷ l) =
-    elim (cases_Bool (p x)) [
-      | inl e ↦ ap (prefix_len p) (behind_step p x l e) ∙ begins_behind p l
-      | inr e ↦ ap (prefix_len p) (behind_stop p x l e) ∙ rw e refl
-    ]
+begins_behind p (x ∷ l) = grind (arith, common_steps, cases_Bool, behind_step, behind_stop, begins_behind p l)
 
 entry_sound : (text rest : List ℕ) (e : PlanningEntry) → entry_at text ≡ Some (e, rest) → IsEntry e × (prefix_len is_blank rest ≡ 0)
 entry_sound text rest e is =
@@ -48,16 +45,10 @@ record AreRead (r : List PlanningEntry × List ℕ) : Type 0 where
   whole : prefix_len is_blank r.1 ≡ 0
 
 ended : (text : List ℕ) (r : List PlanningEntry × List ℕ) → prefix_len is_blank text ≡ 0 → list_all is_trailing text ≡ true → Some ([], text) ≡ Some r → AreRead r
-ended text r whole end is =
-    let none : AreRead ([], text) = record { entries = tt; trailing = end; whole = whole } in
-    subst AreRead (some_is ([], text) r is) none
+ended text r whole end is = grind (arith, common_steps)
 
 entries_sound : (n : ℕ) (text : List ℕ) (r : List PlanningEntry × List ℕ) → prefix_len is_blank text ≡ 0 → entries_at n text ≡ Some r → AreRead r
-entries_sound zero text r whole is =
-    elim (cases_Bool (list_all is_trailing text)) [
-      | inl end ↦ ended text r whole end (sym (entries_ended zero text end) ∙ is)
-      | inr other ↦ absurd (none_some (sym (entries_full text other) ∙ is))
-    ]
+entries_sound zero text r whole is = grind (arith, common_steps)
 entries_sound (suc n) text r whole is =
     elim (cases_Bool (list_all is_trailing text)) [
       | inl end ↦ ended text r whole end (sym (entries_ended (suc n) text end) ∙ is)
@@ -152,12 +143,7 @@ entries_complete : (n : ℕ) (es : List PlanningEntry) (tail : List ℕ) → len
     → entries_at n (entries_text es ++ tail) ≡ Some (es, tail)
 entries_complete n [] tail few all trailing whole = entries_ended n tail trailing
 entries_complete zero (e ∷ es) tail few all trailing whole = absurd (omega arith)
-entries_complete (suc n) (e ∷ es) tail few all trailing whole =
-    let rest : List ℕ = entries_text es ++ tail in
-    ap (entries_at (suc n)) (append_assoc (entry_text e) (entries_text es) tail)
-    ∙ entries_next n (entry_text e ++ rest) (word_solid e.word (e.gap ++ (e.text ++ e.after)) rest)
-    ∙ ap (λ (o : Option (PlanningEntry × List ℕ)). o >>= λ e. entries_at n e.1 >>= λ es. Some (e.0 ∷ es.0, es.1)) (entry_complete e rest all.0 (rest_begins es tail whole))
-    ∙ ap (λ (o : Option (List PlanningEntry × List ℕ)). o >>= λ es. Some (e ∷ es.0, es.1)) (entries_complete n es tail (omega arith) all.1 trailing whole)
+entries_complete (suc n) (e ∷ es) tail few all trailing whole = grind (arith, common_steps, append_assoc, entries_next, word_solid, entry_complete, rest_begins, entries_complete n es tail (omega arith) all.1 trailing whole)
 
 -- ---- where each word stands at most once, there are three entries at most
 
@@ -190,10 +176,7 @@ low : (n : ℕ) → nat_le n 1 ≡ true → n ≤ 1
 low n e = grind (arith, nat_tests)
 
 three : (es : List PlanningEntry) → each_once es ≡ true → length es ≤ 3
-three es once =
-    let t = both (nat_le (times Closed es) 1 && nat_le (times Deadline es) 1) (nat_le (times Scheduled es) 1) once in
-    let u = both (nat_le (times Closed es) 1) (nat_le (times Deadline es) 1) t.0 in
-    omega (arith, all_words es, low (times Closed es) u.0, low (times Deadline es) u.1, low (times Scheduled es) t.1)
+three es once = grind (arith, common_steps, both, all_words, low)
 
 abbrev lined : List ℕ → Option (List PlanningEntry × List ℕ) → Option PlanningLine
 lined indentation o = o >>= λ es. if each_once es.0 then Some (record { indentation = indentation; entries = es.0; tail = es.1 }) else None

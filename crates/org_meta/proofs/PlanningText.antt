@@ -1,5 +1,6 @@
 -- A well formed planning line is its indentation, the texts of its entries and its tail.
-use Rattle.std.proofs.Common.{◌≡◌, ℕ, zero, suc, true, false, Bool, ◌||◌, Option, Some, None, List, [], ◌∷◌, ◌++◌, length, take, drop, refl, sym, ap, subst, ◌∙◌, append_assoc, take-append-drop, inl, inr}
+use Rattle.std.proofs.Common.{arith, ◌≡◌, ℕ, zero, suc, true, false, Bool, ◌||◌, Option, Some, None, List, [], ◌∷◌, ◌++◌, length, take, drop, refl, sym, ap, subst, ◌∙◌, append_assoc, take-append-drop, inl, inr}
+use Rattle.std.proofs.lemmas.Grind.{common_steps}
 use Rattle.std.specs.Prelude.{codes, nat_eq}
 use Rattle.std.specs.List.{starts_with, list_all, list_any}
 use Rattle.std.proofs.lemmas.Bool.{cases_Bool}
@@ -30,12 +31,7 @@ bind_some (Some x) f r e = (x, refl, e)
 -- ---- words
 
 pub starts_front : (text mark : List ℕ) → starts_with nat_eq text mark ≡ true → text ≡ mark ++ drop (length mark) text
-starts_front text mark starts =
-    let same : mark ≡ take (length mark) text = (bytes_eq-Decides mark (take (length mark) text)).0 starts in
-    sym (take-append-drop (length mark) text) ∙ ap (λ (t : List ℕ). t ++ drop (length mark) text) (sym same)
-
-true_false : true ≡ false → ⊥
-true_false e = cc
+starts_front text mark starts = grind (arith, common_steps, bytes_eq-Decides, take-append-drop)
 
 word_front : (text : List ℕ) (w : Word) → word_at text ≡ Some w → text ≡ word_text w ++ drop (length (word_text w)) text
 word_front text w e =
@@ -87,18 +83,11 @@ pub entries_ended : (n : ℕ) (text : List ℕ) → list_all is_trailing text �
 entries_ended zero text end = rw end refl
 entries_ended (suc n) text end = rw end refl
 
-pub entries_full : (text : List ℕ) → list_all is_trailing text ≡ false → entries_at 0 text ≡ None
-entries_full text other = rw other refl
-
 pub entries_next : (n : ℕ) (text : List ℕ) → list_all is_trailing text ≡ false → entries_at (suc n) text ≡ (entry_at text >>= λ e. entries_at n e.1 >>= λ es. Some (e.0 ∷ es.0, es.1))
 entries_next n text other = rw other refl
 
 entries_front : (n : ℕ) (text : List ℕ) (r : List PlanningEntry × List ℕ) → entries_at n text ≡ Some r → text ≡ entries_text r.0 ++ r.1
-entries_front zero text r is =
-    elim (cases_Bool (list_all is_trailing text)) [
-      | inl end ↦ ap (λ (q : List PlanningEntry × List ℕ). entries_text q.0 ++ q.1) (some_is ([], text) r (sym (entries_ended zero text end) ∙ is))
-      | inr other ↦ absurd (none_some (sym (entries_full text other) ∙ is))
-    ]
+entries_front zero text r is = grind (arith, common_steps)
 entries_front (suc n) text r is =
     elim (cases_Bool (list_all is_trailing text)) [
       | inl end ↦ ap (λ (q : List PlanningEntry × List ℕ). entries_text q.0 ++ q.1) (some_is ([], text) r (sym (entries_ended (suc n) text end) ∙ is))
@@ -157,25 +146,8 @@ others e es none = let n = or_false (is_closed e) (list_any is_closed es) none i
 begins : (body rest mark : List ℕ) → body ≡ mark ++ rest → list_all is_trailing (mark ++ rest) ≡ false → list_all is_trailing body ≡ false
 begins body rest mark is not = ap (list_all is_trailing) is ∙ not
 
-last_true : (c d s : Bool) → (c || d || s) ≡ true → c ≡ false → d ≡ false → s ≡ true
-last_true true d s e not_c not_d = absurd (true_false not_c)
-last_true false true s e not_c not_d = absurd (true_false not_d)
-last_true false false s e not_c not_d = e
-
 not_ended : (line : List ℕ) → is_planning line ≡ true → list_all is_trailing (behind is_blank line) ≡ false
-not_ended line planning =
-    let body = behind is_blank line in
-    let c = starts_with nat_eq body (codes "CLOSED:") in
-    let d = starts_with nat_eq body (codes "DEADLINE:") in
-    let s = starts_with nat_eq body (codes "SCHEDULED:") in
-    elim (cases_Bool c) [
-      | inl is ↦ begins body _ (codes "CLOSED:") (starts_front body (codes "CLOSED:") is) refl
-      | inr unclosed ↦
-          elim (cases_Bool d) [
-            | inl is ↦ begins body _ (codes "DEADLINE:") (starts_front body (codes "DEADLINE:") is) refl
-            | inr neither ↦ begins body _ (codes "SCHEDULED:") (starts_front body (codes "SCHEDULED:") (last_true c d s planning unclosed neither)) refl
-          ]
-    ]
+not_ended line planning = grind (arith, common_steps)
 
 some_entry : (body : List ℕ) (es : List PlanningEntry) (tail : List ℕ) → list_all is_trailing body ≡ false → entries_at 3 body ≡ Some (es, tail) → (e : PlanningEntry) × (more : List PlanningEntry) × (es ≡ e ∷ more)
 some_entry body es tail other is =

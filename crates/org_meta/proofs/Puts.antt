@@ -1,5 +1,6 @@
 -- Lines put into a section.
-use Rattle.std.proofs.Common.{◌≡◌, ℕ, ◌+◌, ◌-◌, ◌≤◌, true, false, Bool, Option, Some, None, Bor, List, [], ◌∷◌, ◌++◌, length, take, drop, refl, sym, ap, ◌∙◌, arith, append_assoc, length-append, take-append-drop}
+use Rattle.std.proofs.Common.{◌≡◌, ℕ, ◌+◌, ◌-◌, ◌≤◌, true, false, Bool, Option, Some, None, Bor, List, [], ◌∷◌, ◌++◌, length, refl, sym, ap, ◌∙◌, arith, append_assoc, length-append}
+use Rattle.std.proofs.lemmas.Grind.{common_steps}
 use Rattle.std.specs.Prelude.{is_some, codes}
 use Rattle.std.specs.Option.{option_map}
 use Rattle.org_splice.specs.Lines.{terminated, print_lines, lines_of}
@@ -7,11 +8,10 @@ use Rattle.org_splice.specs.declared.edit.Edit.{Edit}
 use Rattle.org_meta.specs.declared.parts.Sections.{Sections}
 use Rattle.org_meta.specs.declared.lines.Place.{Place}
 use Rattle.org_meta.specs.Lines.{BeginsWith}
-use Rattle.org_splice.specs.Edits.{edited}
 use Rattle.org_splice.proofs.Lines.{print_lines-append}
 use Rattle.org_splice.proofs.Places.{edited_at}
 use Rattle.org_meta.specs.Edits.{Rewrites, IsPlaceFor}
-use Rattle.org_meta.specs.Sections.{SectionParts, AreSections, split, joined, is_end, value_named, put_before_end, put_in_drawer, property_line, put, planning_size, drawer_size}
+use Rattle.org_meta.specs.Sections.{SectionParts, AreSections, split, joined, is_end, value_named, put_before_end, put_in_drawer, property_line, put}
 use Rattle.org_meta.specs.Notes.{with_note}
 use Rattle.org_meta.proofs.Walk.{Passed, passed_none, passed_line, print_lines-terminated}
 use Rattle.org_meta.proofs.Drawers.{no_drawer, drawer_is}
@@ -19,21 +19,12 @@ use Rattle.org_meta.proofs.Drawers.{no_drawer, drawer_is}
 -- ---- edits by their bytes
 
 pub gives_at : (e : Edit) (text a b c w : List ℕ) (lines : List (List ℕ)) → text ≡ a ++ (b ++ c) → e.at ≡ length a → e.removed ≡ length b → e.bytes ≡ w → print_lines lines ≡ a ++ (w ++ c) → Rewrites e text lines
-gives_at e text a b c w lines parts at removed bytes print = record {
-  within = omega (arith, ap length parts, length-append a (b ++ c), length-append b c);
-  gives =
-      ap (λ n. edited n e.removed e.bytes text) at ∙ ap (λ n. edited (length a) n e.bytes text) removed
-      ∙ ap (λ (v : List ℕ). edited (length a) (length b) v text) bytes
-      ∙ ap (λ (t : List ℕ). edited (length a) (length b) w t) parts
-      ∙ edited_at a b c w ∙ sym print;
-}
+gives_at e text a b c w lines parts at removed bytes print = grind (arith, common_steps, length-append, edited_at)
 
 -- ---- the parts of a section are all of it
 
 pub joined_split : (ls : List (List ℕ)) → joined (split ls) ≡ ls
-joined_split ls =
-    ap (λ (rest : List (List ℕ)). take (planning_size ls) ls ++ rest) (take-append-drop (drawer_size (drop (planning_size ls) ls)) (drop (planning_size ls) ls))
-    ∙ take-append-drop (planning_size ls) ls
+joined_split ls = grind (arith, common_steps)
 
 print_joined : (parts : SectionParts) → print_lines (joined parts) ≡ print_lines parts.planning ++ (print_lines parts.drawer ++ print_lines parts.rest)
 print_joined parts = print_lines-append parts.planning (parts.drawer ++ parts.rest) ∙ ap (λ (t : List ℕ). print_lines parts.planning ++ t) (print_lines-append parts.drawer parts.rest)

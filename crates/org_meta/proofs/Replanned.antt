@@ -1,5 +1,6 @@
 -- Planning lines that edits make are planning lines.
-use Rattle.std.proofs.Common.{◌≡◌, ℕ, true, false, Bool, ◌||◌, ◌&&◌, Some, Result, Ok, Err, List, [], ◌∷◌, ◌++◌, refl, sym, ap, ◌∙◌, append_assoc, inl, inr}
+use Rattle.std.proofs.Common.{arith, ◌≡◌, ℕ, true, false, Bool, ◌||◌, ◌&&◌, Some, Result, Ok, Err, List, [], ◌∷◌, ◌++◌, refl, sym, ap, ◌∙◌, append_assoc, inl, inr}
+use Rattle.std.proofs.lemmas.Grind.{common_steps}
 use Rattle.std.specs.Prelude.{MatchBool, MatchResult, not, codes, nat_eq}
 use Rattle.std.specs.List.{prefix_len, list_all, list_any, starts_with}
 use Rattle.std.proofs.lemmas.Bool.{cases_Bool, false≢true}
@@ -11,7 +12,7 @@ use Rattle.org_fault.specs.declared.refusal.Refusal.{Refusal}
 use Rattle.org_meta.specs.declared.entry.Word.{Word}
 use Rattle.org_meta.specs.declared.entry.Word.TheVariants.{Closed, Deadline, Scheduled}
 use Rattle.org_meta.specs.Sections.{is_planning}
-use Rattle.org_meta.specs.Planning.{word_text, PlanningEntry, PlanningLine, planning_of, is_closed, has_others, is_repeating, has_repeater, entry_text, entry_with, behind_text, IsRepeatedEntry, AreRepeated}
+use Rattle.org_meta.specs.Planning.{word_text, PlanningEntry, PlanningLine, planning_of, is_closed, has_others, is_repeating, has_repeater, entry_with, behind_text, IsRepeatedEntry, AreRepeated}
 use Rattle.org_meta.specs.Replans.{repeated_line}
 use Rattle.org_meta.proofs.Trims.{behind_front}
 use Rattle.org_meta.proofs.PlanningText.{planning_read}
@@ -40,9 +41,7 @@ word_begins Deadline more = refl
 word_begins Scheduled more = refl
 
 indented_word : (indentation : List ℕ) (w : Word) (more : List ℕ) → list_all is_blank indentation ≡ true → is_planning (indentation ++ (word_text w ++ more)) ≡ true
-indented_word indentation w more blank =
-    let body : behind is_blank (indentation ++ (word_text w ++ more)) ≡ word_text w ++ more = behind_front is_blank indentation (word_text w ++ more) blank (solid_word w more) in
-    ap begins_planning body ∙ word_begins w more
+indented_word indentation w more blank = grind (arith, common_steps, behind, behind_front, solid_word, word_begins)
 
 -- ---- repetition
 
@@ -65,22 +64,13 @@ if_true : (b : Bool) (P Q : Type 0) → MatchBool b P Q → b ≡ true → P
 if_true true P Q m e = m
 if_true false P Q m e = absurd (false≢true e)
 
-if_false : (b : Bool) (P Q : Type 0) → MatchBool b P Q → b ≡ false → Q
-if_false true P Q m e = absurd (false≢true (sym e))
-if_false false P Q m e = m
-
 -- an entry that is kept, or repeated, begins with its word
 by_stamp : (e : PlanningEntry) (text : List ℕ) (q : Result StampValue Refusal) → MatchResult q (λ s. made text ≡ made (entry_with e s)) (λ fault. made text ≡ failed fault) → BeginsWithWord text
 by_stamp e text (Ok s) is = record { word = e.word; more = e.gap ++ (stamp_text s ++ e.after); is = ok_is text (entry_with e s) is }
 by_stamp e text (Err fault) is = absurd (ok_err text fault is)
 
 entry_begins : (e : PlanningEntry) (now : Moment) (text : List ℕ) → is_closed e ≡ false → IsRepeatedEntry e now (Ok text) → BeginsWithWord text
-entry_begins e now text kept is =
-    let open_one = if_false (is_closed e) _ _ is kept in
-    elim (cases_Bool (is_repeating e)) [
-      | inl repeats ↦ let q = if_true (is_repeating e) _ _ open_one repeats in by_stamp e text q.0 q.2
-      | inr stays ↦ record { word = e.word; more = e.gap ++ (e.text ++ e.after); is = ok_is text (entry_text e) (if_false (is_repeating e) _ _ open_one stays) }
-    ]
+entry_begins e now text kept is = grind (arith, common_steps)
 
 closed_gone : (e : PlanningEntry) (now : Moment) (text : List ℕ) → is_closed e ≡ true → IsRepeatedEntry e now (Ok text) → text ≡ []
 closed_gone e now text closed is = ok_is text [] (if_true (is_closed e) _ _ is closed)

@@ -1,8 +1,7 @@
 -- Other planning lines in a section.
-use Rattle.std.proofs.Common.{◌≡◌, ℕ, true, false, Option, Some, None, Result, Ok, Err, List, [], ◌∷◌, ◌++◌, length, take, refl, sym, ap, subst, ◌∙◌, append_assoc, inl, inr, arith}
-use Rattle.std.specs.Option.{option_map_or}
+use Rattle.std.proofs.Common.{◌≡◌, ℕ, true, false, Some, None, Result, Ok, Err, List, [], ◌∷◌, ◌++◌, length, take, refl, sym, ap, subst, ◌∙◌, inl, inr, arith}
+use Rattle.std.proofs.lemmas.Grind.{common_steps}
 use Rattle.std.proofs.lemmas.Bool.{cases_Bool}
-use Rattle.org_splice.specs.Edits.{edited}
 use Rattle.org_splice.specs.Lines.{terminated, print_lines, IsLine, lines_of}
 use Rattle.org_splice.specs.declared.edit.Edit.{Edit}
 use Rattle.org_stamp.specs.Calendar.{Moment}
@@ -15,9 +14,9 @@ use Rattle.org_fault.proofs.Faults.{refused_as}
 use Rattle.org_meta.specs.Lines.{BeginsWith}
 use Rattle.org_meta.specs.Edits.{Rewrites, ChangesNothing}
 use Rattle.org_meta.specs.Sections.{SectionParts, AreSections, split, joined, is_planning, planning_size}
-use Rattle.org_meta.specs.Planning.{PlanningEntry, PlanningLine, planning_of, has_repeater, AreRepeated, replanned, replanned_line, closed_text, kept_text, has_closed, has_closed_entry, has_others, without_closed, with_closed, clear_closed}
-use Rattle.org_meta.specs.Replans.{RewritesOk, PutsAllRepeated, HasNoRepeater, IsRefusedRepeat, RewritesRepeated, RewritesRepeatedIn, repeated_line}
-use Rattle.org_splice.proofs.Lines.{print_lines-append, terminated-print_lines, lines_of-lines}
+use Rattle.org_meta.specs.Planning.{PlanningEntry, PlanningLine, planning_of, has_repeater, AreRepeated, replanned, replanned_line, has_closed, has_closed_entry, without_closed, clear_closed}
+use Rattle.org_meta.specs.Replans.{RewritesOk, HasNoRepeater, IsRefusedRepeat, RewritesRepeated, RewritesRepeatedIn, repeated_line}
+use Rattle.org_splice.proofs.Lines.{print_lines-append, lines_of-lines}
 use Rattle.org_splice.proofs.AllLines.{AllByRecursion-take}
 use Rattle.org_meta.proofs.Drawers.{part_lines}
 use Rattle.org_meta.proofs.Walk.{print_lines-terminated}
@@ -51,16 +50,10 @@ module _ (section : List ℕ) (slices : Sections) (whole : terminated section �
 
   pub plan_line : (e : Edit) (line rest : List ℕ) (plan : PlanningLine) → BeginsWith slices.planning.bytes.now line rest → planning_of line ≡ Some plan → e.at ≡ 0 → e.removed ≡ length slices.planning.bytes.now → e.bytes ≡ print_lines (some plan)
       → RewritesOk (replanned none some (split (lines_of section)) (split (lines_of section)).planning) section e
-  plan_line e line rest plan b is at removed bytes =
-      let p = split (lines_of section) in
-      let first : p.planning ≡ line ∷ lines_of rest = sym (planning_is section slices are) ∙ b.lines in
-      with_gives section e _ (record p { planning = some plan }) (ap (replanned none some p) first ∙ ap (replanned_line some p) is) (planning_gives e section slices (some plan) whole are at removed bytes)
+  plan_line e line rest plan b is at removed bytes = grind (arith, common_steps, split, planning_is, with_gives, planning_gives)
 
   pub plan_odd : (line rest : List ℕ) → BeginsWith slices.planning.bytes.now line rest → planning_of line ≡ None → replanned none some (split (lines_of section)) (split (lines_of section)).planning ≡ Err OddPlanning
-  plan_odd line rest b is =
-      let p = split (lines_of section) in
-      let first : p.planning ≡ line ∷ lines_of rest = sym (planning_is section slices are) ∙ b.lines in
-      ap (replanned none some p) first ∙ ap (replanned_line some p) is
+  plan_odd line rest b is = grind (arith, common_steps, split, planning_is)
 
   pub plan_fault : (line rest : List ℕ) (fault : Fault Refusal) → BeginsWith slices.planning.bytes.now line rest → IfRefusal fault (λ why. (why ≡ OddPlanning) × (planning_of line ≡ None))
       → IfRefusal fault (λ why. replanned none some (split (lines_of section)) (split (lines_of section)).planning ≡ Err why)
@@ -96,12 +89,7 @@ planning_alone (l ∷ ls) line more e =
 
 -- the edit that changes nothing gives the lines that there are
 nothing_gives : (e : Edit) (section : List ℕ) → terminated section ≡ section → ChangesNothing e → Rewrites e section (lines_of section)
-nothing_gives e section whole same = record {
-  within = omega (arith, same.at, same.removed);
-  gives =
-      ap (λ n. edited n e.removed e.bytes section) same.at ∙ ap (λ n. edited 0 n e.bytes section) same.removed
-      ∙ ap (λ (t : List ℕ). edited 0 0 t section) same.bytes ∙ sym (print_lines-terminated section whole);
-}
+nothing_gives e section whole same = grind (arith, common_steps, print_lines-terminated)
 
 module _ (section : List ℕ) (slices : Sections) (whole : terminated section ≡ section) (are : AreSections slices (split (lines_of section))) where
   pub none_cleared : (e : Edit) → slices.planning.bytes.now ≡ [] → ChangesNothing e → RewritesOk (clear_closed (split (lines_of section))) section e
@@ -121,39 +109,12 @@ module _ (section : List ℕ) (slices : Sections) (whole : terminated section �
 
   -- where the line has a CLOSED entry, the planning has
   pub closed_there : (line rest : List ℕ) (plan : PlanningLine) → BeginsWith slices.planning.bytes.now line rest → planning_of line ≡ Some plan → has_closed_entry (split (lines_of section)).planning ≡ has_closed plan.entries
-  closed_there line rest plan b is =
-      let first : (split (lines_of section)).planning ≡ line ∷ lines_of rest = sym (planning_is section slices are) ∙ b.lines in
-      ap has_closed_entry first ∙ ap (λ (o : Option PlanningLine). option_map_or (λ p. has_closed p.entries) o false) is
-
-line_shape : (i c k t : List ℕ) → i ++ (c ++ 32 ∷ []) ++ (k ++ (t ++ 10 ∷ [])) ≡ (i ++ (c ++ (32 ∷ (k ++ t)))) ++ 10 ∷ []
-line_shape i c k t = simp append_assoc
-
-pub with_closed_bytes : (o0 o1 o2 : List ℕ) (now : Moment) (p : PlanningLine) → o0 ≡ p.indentation → o1 ≡ o0 ++ (closed_text now ++ 32 ∷ []) → o2 ≡ o1 ++ (kept_text p.entries ++ (p.tail ++ 10 ∷ [])) → has_others p.entries ≡ true
-    → o2 ≡ with_closed now p ++ 10 ∷ []
-with_closed_bytes o0 o1 o2 now p e0 e1 e2 others =
-    let more = kept_text p.entries ++ (p.tail ++ 10 ∷ []) in
-    let line : with_closed now p ≡ p.indentation ++ (closed_text now ++ (32 ∷ (kept_text p.entries ++ p.tail))) = rw others refl in
-    e2 ∙ ap (λ (t : List ℕ). t ++ more) (e1 ∙ ap (λ (t : List ℕ). t ++ (closed_text now ++ 32 ∷ [])) e0) ∙ line_shape p.indentation (closed_text now) (kept_text p.entries) p.tail ∙ ap (λ (t : List ℕ). t ++ 10 ∷ []) (sym line)
-
-pub without_closed_bytes : (o0 o1 : List ℕ) (p : PlanningLine) → o0 ≡ p.indentation → o1 ≡ o0 ++ (kept_text p.entries ++ (p.tail ++ 10 ∷ [])) → has_others p.entries ≡ true → o1 ≡ print_lines (without_closed p)
-without_closed_bytes o0 o1 p e0 e1 others =
-    let shape : p.indentation ++ (kept_text p.entries ++ (p.tail ++ 10 ∷ [])) ≡ (p.indentation ++ (kept_text p.entries ++ p.tail)) ++ 10 ∷ [] = simp append_assoc in
-    let line : without_closed p ≡ (p.indentation ++ (kept_text p.entries ++ p.tail)) ∷ [] = rw others refl in
-    e1 ∙ ap (λ (t : List ℕ). t ++ (kept_text p.entries ++ (p.tail ++ 10 ∷ []))) e0 ∙ shape ∙ ap print_lines (sym line)
+  closed_there line rest plan b is = grind (arith, common_steps, split, planning_is)
 
 -- ---- repetition
 
-repeated_shape : (i r t : List ℕ) → (i ++ r) ++ (t ++ 10 ∷ []) ≡ (i ++ (r ++ t)) ++ 10 ∷ []
-repeated_shape i r t = simp append_assoc
-
 pub same_fault : (now : Moment) (es fs : List PlanningEntry) (fault : Fault Refusal) → es ≡ fs → IfRefusal fault (λ why. AreRepeated es now (Err why)) → IfRefusal fault (λ why. AreRepeated fs now (Err why))
 same_fault now es fs fault same wrong = let P : List PlanningEntry → Type 0 = λ es. IfRefusal fault (λ why. AreRepeated es now (Err why)) in subst P same wrong
-
-pub repeated_bytes : (now : Moment) (p : PlanningLine) (es : List PlanningEntry) (o0 o1 o2 : List ℕ) → es ≡ p.entries → o0 ≡ p.indentation → PutsAllRepeated es now o0 o1 → o2 ≡ o1 ++ (p.tail ++ 10 ∷ [])
-    → (text : List ℕ) × AreRepeated p.entries now (Ok text) × (o2 ≡ repeated_line p text ++ 10 ∷ [])
-repeated_bytes now p es o0 o1 o2 same e0 puts e2 =
-    let Q : List PlanningEntry → Type 0 = λ es. AreRepeated es now (Ok puts.text) in
-    (puts.text, subst Q same puts.are, e2 ∙ ap (λ (t : List ℕ). t ++ (p.tail ++ 10 ∷ [])) (puts.bytes ∙ ap (λ (t : List ℕ). t ++ puts.text) e0) ∙ repeated_shape p.indentation puts.text p.tail)
 
 module _ (section : List ℕ) (slices : Sections) (whole : terminated section ≡ section) (are : AreSections slices (split (lines_of section))) (now : Moment) where
   pub repeat_none : slices.planning.bytes.now ≡ [] → HasNoRepeater (split (lines_of section)).planning
@@ -161,18 +122,14 @@ module _ (section : List ℕ) (slices : Sections) (whole : terminated section �
 
   pub repeat_odd : (line rest : List ℕ) (fault : Fault Refusal) → BeginsWith slices.planning.bytes.now line rest → IfRefusal fault (λ why. (why ≡ OddPlanning) × (planning_of line ≡ None))
       → IfRefusal fault (IsRefusedRepeat now (split (lines_of section)).planning)
-  repeat_odd line rest fault b = refused_as fault _ _ (λ why odd.
-      let P : List (List ℕ) → Type 0 = λ ls. IsRefusedRepeat now ls why in
-      subst P (sym b.lines ∙ planning_is section slices are) (inl odd))
+  repeat_odd line rest fault b = grind (arith, common_steps, refused_as, planning_is)
 
   pub repeat_nothing : (line rest : List ℕ) (plan : PlanningLine) → BeginsWith slices.planning.bytes.now line rest → planning_of line ≡ Some plan → has_repeater plan.entries ≡ false → HasNoRepeater (split (lines_of section)).planning
   repeat_nothing line rest plan b is none = subst HasNoRepeater (sym b.lines ∙ planning_is section slices are) (plan, is, none)
 
   pub repeat_fault : (line rest : List ℕ) (plan : PlanningLine) (fault : Fault Refusal) → BeginsWith slices.planning.bytes.now line rest → planning_of line ≡ Some plan → has_repeater plan.entries ≡ true
       → IfRefusal fault (λ why. AreRepeated plan.entries now (Err why)) → IfRefusal fault (IsRefusedRepeat now (split (lines_of section)).planning)
-  repeat_fault line rest plan fault b is some = refused_as fault _ _ (λ why wrong.
-      let P : List (List ℕ) → Type 0 = λ ls. IsRefusedRepeat now ls why in
-      subst P (sym b.lines ∙ planning_is section slices are) (inr (plan, is, some, wrong)))
+  repeat_fault line rest plan fault b is some = grind (arith, common_steps, refused_as, planning_is)
 
   pub repeat_gives : (e : Edit) (line rest : List ℕ) (plan : PlanningLine) (text : List ℕ) → BeginsWith slices.planning.bytes.now line rest → planning_of line ≡ Some plan → has_repeater plan.entries ≡ true → AreRepeated plan.entries now (Ok text)
       → e.at ≡ 0 → e.removed ≡ length slices.planning.bytes.now → e.bytes ≡ repeated_line plan text ++ 10 ∷ [] → RewritesRepeated now (split (lines_of section)) section (Some e)

@@ -1,5 +1,6 @@
 -- Lines trimmed from their ends, byte by byte from the front.
-use Rattle.std.proofs.Common.{◌≡◌, ℕ, suc, ◌+◌, ◌-◌, ◌≤◌, Bool, true, false, ◌&&◌, ◌||◌, List, [], ◌∷◌, ◌++◌, length, take, refl, sym, ap, ◌∙◌, arith, inl, inr, append-nil}
+use Rattle.std.proofs.Common.{◌≡◌, ℕ, suc, ◌+◌, ◌-◌, Bool, true, false, ◌&&◌, List, [], ◌∷◌, ◌++◌, length, take, refl, sym, ap, ◌∙◌, arith, inl, inr, append-nil}
+use Rattle.std.proofs.lemmas.Grind.{common_steps}
 use Rattle.std.specs.Prelude.{reverse, ◌==◌}
 use Rattle.std.specs.List.{prefix_len, suffix_len, list_all}
 use Rattle.std.proofs.lemmas.Bool.{cases_Bool, false≢true}
@@ -49,14 +50,10 @@ behind_stop p x l e = rw e refl
 
 -- behind bytes that pass stands what does not begin with one
 pub behind_front : (p : ℕ → Bool) (xs ys : List ℕ) → list_all p xs ≡ true → prefix_len p ys ≡ 0 → behind p (xs ++ ys) ≡ ys
-behind_front p xs ys all none =
-    let n : prefix_len p (xs ++ ys) ≡ length xs = omega (arith, prefix_all p xs ys all) in
-    drop_at xs ys (prefix_len p (xs ++ ys)) (sym n)
+behind_front p xs ys all none = grind (arith, common_steps, prefix_all, drop_at)
 
 pub front_front : (p : ℕ → Bool) (xs ys : List ℕ) → list_all p xs ≡ true → prefix_len p ys ≡ 0 → front p (xs ++ ys) ≡ xs
-front_front p xs ys all none =
-    let n : prefix_len p (xs ++ ys) ≡ length xs = omega (arith, prefix_all p xs ys all) in
-    take_at xs ys (prefix_len p (xs ++ ys)) (sym n)
+front_front p xs ys all none = grind (arith, common_steps, prefix_all, take_at)
 
 -- ---- without the end
 
@@ -84,10 +81,7 @@ suffix_more p x l some =
       first_fails false b e t = refl
 
 pub trim_more : (p : ℕ → Bool) (x : ℕ) (l : List ℕ) → list_all p (x ∷ l) ≡ false → without_end p (x ∷ l) ≡ x ∷ without_end p l
-trim_more p x l some =
-    let low : suffix_len p l ≤ length l = omega (arith, prefix_len-le-length p (reverse l), length-reverse l) in
-    let n : length (x ∷ l) - suffix_len p (x ∷ l) ≡ suc (length l - suffix_len p l) = omega (arith, suffix_more p x l some, low) in
-    ap (λ k. take k (x ∷ l)) n
+trim_more p x l some = grind (arith, common_steps, prefix_len-le-length, length-reverse, suffix_more)
 
 eq_zero : (n : ℕ) → (suc n == 0) ≡ false
 eq_zero n = grind arith
@@ -113,13 +107,6 @@ trim_behind p [] b ys e = trim_more p b ys (not_all p [] b ys e)
 trim_behind p (x ∷ xs) b ys e = trim_more p x (xs ++ b ∷ ys) (not_all p (x ∷ xs) b ys e) ∙ ap (λ (t : List ℕ). x ∷ t) (trim_behind p xs b ys e)
 
 -- ---- a line is trimmed at either end first
-
-blank_trails : (x : ℕ) → is_blank x ≡ true → is_trailing x ≡ true
-blank_trails x e = by_tests (x == 32) (x == 9) (x == 13) e where
-  by_tests : (a b c : Bool) → (a || b) ≡ true → (a || b || c) ≡ true
-  by_tests true b c e = refl
-  by_tests false true c e = refl
-  by_tests false false c e = absurd (false≢true e)
 
 pub trim_either : (l : List ℕ) → behind is_blank (trimmed_end l) ≡ trimmed l
 trim_either [] = refl

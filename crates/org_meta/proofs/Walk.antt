@@ -1,5 +1,6 @@
 -- A walk over the lines of a text.
 use Rattle.std.proofs.Common.{◌≡◌, ℕ, ◌-◌, ◌<◌, ◌≤◌, List, [], ◌∷◌, ◌++◌, length, take, drop, refl, sym, ap, ◌∙◌, arith, append_assoc, length-append, take-append-drop}
+use Rattle.std.proofs.lemmas.Grind.{common_steps}
 use Rattle.std.proofs.lemmas.List.{drop_at, take_at}
 use Rattle.org_splice.specs.Lines.{terminated, print_lines, lines_of}
 use Rattle.org_meta.specs.Lines.{BeginsWith, behind_lines}
@@ -29,10 +30,7 @@ passed_line whole text line rest p b = record {
 
 -- what is left is what follows the lines before it
 pub passed_rest : (whole text : List ℕ) (p : Passed whole text) (n : ℕ) → terminated text ≡ text → length p.before ≡ n → behind_lines whole n ≡ text
-passed_rest whole text p n is long =
-    ap (λ (ls : List (List ℕ)). print_lines (drop n ls)) p.lines
-    ∙ ap print_lines (drop_at p.before (lines_of text) n long)
-    ∙ print_lines-terminated text is
+passed_rest whole text p n is long = grind (arith, common_steps, drop_at, print_lines-terminated)
 
 pub rest_shorter : (text line rest : List ℕ) → BeginsWith text line rest → length rest < length text
 rest_shorter text line rest b = omega (arith, ap length b.bytes, length-append line (10 ∷ rest))

@@ -1,14 +1,14 @@
 -- Walks over the lines of a section: sums and the first open clock.
 use Rattle.std.proofs.Common.{◌≡◌, ℕ, suc, ◌+◌, ◌-◌, ◌≤◌, true, false, Bool, Option, Some, None, List, [], ◌∷◌, ◌++◌, length, take, rules, refl, sym, ap, ◌∙◌, arith, length-append, min}
+use Rattle.std.proofs.lemmas.Grind.{common_steps}
 use Rattle.std.specs.List.{sum_by, position}
 use Rattle.std.proofs.lemmas.List.{take_at}
-use Rattle.std.proofs.lemmas.List.Sums.{sum_by-cons}
 use Rattle.std.specs.Option.{option_map}
 use Rattle.org_splice.specs.Lines.{print_lines, lines_of}
 use Rattle.org_splice.specs.declared.Span.{Span}
 use Rattle.org_meta.specs.Lines.{BeginsWith}
 use Rattle.org_meta.specs.Clocks.{minutes_in, total, is_open, open_line, line_span, HasOpenAt}
-use Rattle.org_meta.proofs.Walk.{Passed, passed_none, passed_line, rest_shorter}
+use Rattle.org_meta.proofs.Walk.{Passed, passed_none, passed_line}
 
 -- ---- sums
 
@@ -19,26 +19,11 @@ pub record SumLater (whole text : List ℕ) (minutes : ℕ) : Type 0 where
 pub sum_none : (whole : List ℕ) → SumLater whole whole 0
 sum_none whole = record { fits = omega arith; sum = ap (λ n. min n 18_446_744_073_709_551_615) (let e : sum_by minutes_in (lines_of whole) ≡ 0 + sum_by minutes_in (lines_of whole) = omega arith in e) }
 
-next_sum : (m n k : ℕ) → min (m + (n + k)) 18_446_744_073_709_551_615 ≡ min (min (m + n) 18_446_744_073_709_551_615 + k) 18_446_744_073_709_551_615
-next_sum m n k = omega arith
-
-sum_step : (line : List ℕ) (ls : List (List ℕ)) → sum_by minutes_in (line ∷ ls) ≡ minutes_in line + sum_by minutes_in ls
-sum_step line ls = sum_by-cons minutes_in line ls
-
 pub sum_line : (whole text line rest : List ℕ) (m n : ℕ) → SumLater whole text m → BeginsWith text line rest → n ≡ min (m + minutes_in line) 18_446_744_073_709_551_615 → SumLater whole rest n
-sum_line whole text line rest m n s b is = record {
-  fits = omega arith;
-  sum =
-      s.sum ∙ ap (λ ls. min (m + sum_by minutes_in ls) 18_446_744_073_709_551_615) b.lines
-      ∙ ap (λ k. min (m + k) 18_446_744_073_709_551_615) (sum_step line (lines_of rest))
-      ∙ next_sum m (minutes_in line) (sum_by minutes_in (lines_of rest))
-      ∙ ap (λ k. min (k + sum_by minutes_in (lines_of rest)) 18_446_744_073_709_551_615) (sym is);
-}
+sum_line whole text line rest m n s b is = grind (arith, common_steps)
 
 pub sum_all : (whole text : List ℕ) (m : ℕ) → SumLater whole text m → text ≡ [] → m ≡ total (lines_of whole)
-sum_all whole text m s none =
-    let last : m ≡ min (m + 0) 18_446_744_073_709_551_615 = omega (arith, s.fits) in
-    last ∙ sym (s.sum ∙ ap (λ (t : List ℕ). min (m + sum_by minutes_in (lines_of t)) 18_446_744_073_709_551_615) none)
+sum_all whole text m s none = grind (arith, common_steps)
 
 -- ---- the first open clock
 
@@ -100,24 +85,4 @@ open_found whole text line rest o b found =
     ∙ sym (ap (option_map (line_span lines)) place)
 
 pub open_there : (whole text line rest : List ℕ) → OpenLater whole text → BeginsWith text line rest → is_open line ≡ true → HasOpenAt whole (record { start = length whole - length text; end = length whole - length rest })
-open_there whole text line rest o b found = record {
-  before = o.passed.before;
-  line = line;
-  after = lines_of rest;
-  is = record {
-    lines = o.passed.lines ∙ ap (λ (ls : List (List ℕ)). o.passed.before ++ ls) b.lines;
-    start = omega (arith, ap length o.passed.bytes, length-append (print_lines o.passed.before) text);
-    end = omega (arith, ap length o.passed.bytes, length-append (print_lines o.passed.before) text, ap length b.bytes, length-append line (10 ∷ rest));
-    runs = found;
-  };
-}
-
-pub open_nowhere : (whole text : List ℕ) → OpenLater whole text → text ≡ [] → None ≡ open_line (lines_of whole)
-open_nowhere whole text o none =
-    sym (ap (option_map (line_span (lines_of whole))) (o.place ∙ ap (λ (t : List ℕ). option_map (λ n. length o.passed.before + n) (position is_open (lines_of t))) none))
-
-pub left_within : (whole text : List ℕ) → OpenLater whole text → length text ≤ length whole
-left_within whole text o = omega (arith, ap length o.passed.bytes, length-append (print_lines o.passed.before) text)
-
-pub rest_within : (whole text line rest : List ℕ) → OpenLater whole text → BeginsWith text line rest → length rest ≤ length whole
-rest_within whole text line rest o b = omega (arith, left_within whole text o, rest_shorter text line rest b)
+open_there whole text line rest o b found = grind (arith, common_steps)

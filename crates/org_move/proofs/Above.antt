@@ -1,5 +1,6 @@
 -- A node's ancestors, and the values of properties on the way to it.
 use Rattle.std.proofs.Common.{◌≡◌, ℕ, zero, suc, ◌+◌, ◌-◌, ◌<◌, ◌≤◌, ltb, List, [], ◌∷◌, ◌++◌, map, reverse, append_assoc, Option, Some, None, refl, sym, ap, ◌∙◌, arith, inl, inr}
+use Rattle.std.proofs.lemmas.Grind.{common_steps}
 use Rattle.std.specs.Borrow.{Bor}
 use Rattle.std.proofs.lemmas.List.{append-nil, map-append, reverse-append}
 use Rattle.std.specs.Option.{ForSome, IfSome, option_or}
@@ -72,20 +73,11 @@ pub walk_start : (d : Document) (name : List ℕ) (node : ℕ) → node < node_c
 walk_start d name node lt = record { within = λ i is. let same : node ≡ i = cc in omega (arith, same, lt); value = refl }
 
 pub walk_found : (d : Document) (name value : List ℕ) (node at : ℕ) (next : Option ℕ) → Walk d name node next → next ≡ Some at → Some value ≡ own_value name d at → Some value ≡ nearest name d node
-walk_found d name value node at next w is found =
-    let steps : last_value name d (way_over d next) ≡ option_or (own_value name d at) (last_value name d (ancestors_of d at)) =
-    ap (λ o. last_value name d (way_over d o)) is ∙ last_value-behind name d (ancestors_of d at) at in
-    ap (λ o. option_or o (last_value name d (ancestors_of d at))) found ∙ sym (w.value ∙ steps)
+walk_found d name value node at next w is found = grind (arith, common_steps, last_value-behind)
 
 pub walk_next : (d : Document) (name : List ℕ) (node at : ℕ) (next up : Option ℕ) → Walk d name node next → next ≡ Some at → None ≡ own_value name d at
     → up ≡ parent_of d at → IfSome up (λ i. i < node_count d) → Walk d name node up
-walk_next d name node at next up w is none parent in_d =
-    let steps : last_value name d (way_over d next) ≡ option_or (own_value name d at) (last_value name d (ancestors_of d at)) =
-    ap (λ o. last_value name d (way_over d o)) is ∙ last_value-behind name d (ancestors_of d at) at in
-    record {
-      within = for_some (λ i. i < node_count d) up in_d;
-      value = w.value ∙ steps ∙ ap (λ o. option_or o (last_value name d (ancestors_of d at))) (sym none) ∙ ap (last_value name d) (ancestors_are d at up (w.within at is) parent);
-    }
+walk_next d name node at next up w is none parent in_d = grind (arith, common_steps, last_value-behind, for_some, ancestors_are)
 
 pub walk_end : (d : Document) (name : List ℕ) (node : ℕ) (next : Option ℕ) → Walk d name node next → next ≡ None → None ≡ nearest name d node
 walk_end d name node next w is = sym (w.value ∙ ap (λ o. last_value name d (way_over d o)) is)
@@ -100,32 +92,8 @@ pub record Climb (d : Document) (f : ℕ → List ℕ) (node : ℕ) (next : Opti
 
 pub climb_start : (d : Document) (f : ℕ → List ℕ) (node : ℕ) (next : Option ℕ) (found : List (Bor (List ℕ))) → node < node_count d → next ≡ parent_of d node → IfSome next (λ i. i < node_count d)
     → found ≡ [] → Climb d f node next found
-climb_start d f node next found lt parent in_d none = record {
-  within = for_some (λ i. i < node_count d) next in_d;
-  same =
-      ap (map f) (ancestors_are d node next lt parent) ∙ sym (append-nil (map f (way_over d next)))
-      ∙ ap (λ (found : List (Bor (List ℕ))). map f (way_over d next) ++ map (λ (text : Bor (List ℕ)). text.now) (reverse found)) (sym none);
-}
+climb_start d f node next found lt parent in_d none = grind (arith, common_steps, for_some, ancestors_are, append-nil)
 
 pub climb_next : (d : Document) (f : ℕ → List ℕ) (node at : ℕ) (next up : Option ℕ) (found new : List (Bor (List ℕ))) (text : Bor (List ℕ)) → Climb d f node next found → next ≡ Some at
     → text.now ≡ f at → new ≡ found ++ text ∷ [] → up ≡ parent_of d at → IfSome up (λ i. i < node_count d) → Climb d f node up new
-climb_next d f node at next up found new text c is read new_is parent in_d =
-    let now : Bor (List ℕ) → List ℕ = λ text. text.now in
-    let turned : reverse new ≡ text ∷ reverse found = ap reverse new_is ∙ reverse-append found (text ∷ []) in
-    let step : map f (way_over d next) ≡ map f (way_over d up) ++ f at ∷ [] =
-    ap (λ o. map f (way_over d o)) is ∙ map-append f (ancestors_of d at) (at ∷ [])
-    ∙ ap (λ is. map f is ++ f at ∷ []) (ancestors_are d at up (c.within at is) parent) in
-    record {
-      within = for_some (λ i. i < node_count d) up in_d;
-      same =
-          c.same ∙ ap (λ (xs : List (List ℕ)). xs ++ map now (reverse found)) step
-          ∙ append_assoc (map f (way_over d up)) (f at ∷ []) (map now (reverse found))
-          ∙ ap (λ (x : List ℕ). map f (way_over d up) ++ x ∷ map now (reverse found)) (sym read)
-          ∙ ap (λ (xs : List (Bor (List ℕ))). map f (way_over d up) ++ map now xs) (sym turned);
-    }
-
-pub climb_end : (d : Document) (f : ℕ → List ℕ) (node : ℕ) (next : Option ℕ) (found all : List (Bor (List ℕ))) → Climb d f node next found → next ≡ None → all ≡ reverse found
-    → map (λ (text : Bor (List ℕ)). text.now) all ≡ map f (ancestors_of d node)
-climb_end d f node next found all c is turned =
-    ap (map (λ (text : Bor (List ℕ)). text.now)) turned
-    ∙ sym (c.same ∙ ap (λ o. map f (way_over d o) ++ map (λ (text : Bor (List ℕ)). text.now) (reverse found)) is)
+climb_next d f node at next up found new text c is read new_is parent in_d = grind (arith, common_steps, reverse-append, map-append, ancestors_are, for_some, append_assoc)

@@ -1,22 +1,11 @@
 -- A heading that neither lies in an entry nor above it.
-use Rattle.std.proofs.Common.{◌≡◌, ℕ, Bool, true, false, Option, Some, None, Ok, Err, refl, subst, ◌∙◌}
-use Rattle.std.specs.Prelude.{IsTrue, ◌↔◌, Result, if◌then◌else◌}
+use Rattle.std.proofs.Common.{◌≡◌, ℕ, Bool, true, false, Option, Some, None, Ok, Err, refl}
+use Rattle.std.specs.Prelude.{Result, if◌then◌else◌}
 use Rattle.org_fault.specs.declared.refusal.Refusal.{Refusal}
 use Rattle.org_fault.specs.declared.refusal.Refusal.TheVariants.{AlreadyArchive, InsideItself}
 use Rattle.org_outline.specs.Tree.{Document}
-use Rattle.org_outline.specs.Numbers.{LiesIn}
 use Rattle.org_move.specs.Archive.{if_apart}
 use Rattle.org_move.specs.Refile.{is_inside}
-use Rattle.org_move.proofs.Made.{inside_is}
-
-pub apart_inside : {A : Type 0} (d : Document) (i p : ℕ) (b : Bool) (x : A) → (IsTrue b ↔ LiesIn d i p) → b ≡ true → Err InsideItself ≡ if_apart d i (Some p) x
-apart_inside d i p b x lies is = rw (inside_is d i p b lies ∙ is) refl
-
-pub apart_below : {A : Type 0} (d : Document) (i p : ℕ) (a b : Bool) (x : A) → (IsTrue a ↔ LiesIn d i p) → a ≡ false → (IsTrue b ↔ LiesIn d p i) → b ≡ true → Err AlreadyArchive ≡ if_apart d i (Some p) x
-apart_below d i p a b x lies is above has = rw (inside_is d i p a lies ∙ is, inside_is d p i b above ∙ has) refl
-
-pub apart_is : {A : Type 0} (d : Document) (i p : ℕ) (a b : Bool) (x : A) → (IsTrue a ↔ LiesIn d i p) → a ≡ false → (IsTrue b ↔ LiesIn d p i) → b ≡ false → Ok x ≡ if_apart d i (Some p) x
-apart_is d i p a b x lies is above has = rw (inside_is d i p a lies ∙ is, inside_is d p i b above ∙ has) refl
 
 -- by the two tests: whether the heading lies in the entry, and whether it lies above it
 abbrev tested : {A : Type 0} → Bool → Bool → A → Result A Refusal
@@ -32,16 +21,6 @@ tested_too true below x y new is = absurd cc
 tested_too false true x y new is = absurd cc
 tested_too false false x y new is = refl
 
-tested_fails : {A B : Type 0} (inside below : Bool) (x : A) (new : B) (defined : Result B Refusal) (why : Refusal)
-    → defined ≡ tested inside below new → Err why ≡ tested inside below x → defined ≡ Err why
-tested_fails true below x new defined why is fails =
-    let same : InsideItself ≡ why = cc in
-    subst (λ why. defined ≡ Err why) same is
-tested_fails false true x new defined why is fails =
-    let same : AlreadyArchive ≡ why = cc in
-    subst (λ why. defined ≡ Err why) same is
-tested_fails false false x new defined why is fails = absurd cc
-
 -- what was handed on is what was asked about
 pub apart_same : {A : Type 0} (d : Document) (i : ℕ) (up : Option ℕ) (x y : A) → Ok y ≡ if_apart d i up x → x ≡ y
 apart_same d i None x y is = cc
@@ -51,10 +30,3 @@ apart_same d i (Some p) x y is = tested_same (is_inside d i p) (is_inside d p i)
 pub apart_too : {A B : Type 0} (d : Document) (i : ℕ) (up : Option ℕ) (x y : A) (new : B) → Ok y ≡ if_apart d i up x → if_apart d i up new ≡ Ok new
 apart_too d i None x y new is = refl
 apart_too d i (Some p) x y new is = tested_too (is_inside d i p) (is_inside d p i) x y new is
-
--- the refusal is that of what is defined
-pub apart_fails : {A B : Type 0} (d : Document) (i : ℕ) (up : Option ℕ) (x : A) (new : B) (defined : Result B Refusal) (why : Refusal)
-    → defined ≡ if_apart d i up new → Err why ≡ if_apart d i up x → defined ≡ Err why
-apart_fails d i None x new defined why is fails = absurd cc
-apart_fails d i (Some p) x new defined why is fails =
-    tested_fails (is_inside d i p) (is_inside d p i) x new defined why is fails

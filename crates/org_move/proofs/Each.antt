@@ -1,8 +1,9 @@
 -- Properties put one after another.
-use Rattle.std.proofs.Common.{◌≡◌, ℕ, zero, suc, ◌+◌, ◌<◌, ◌≤◌, List, [], ◌∷◌, ◌++◌, length, take, get_or, Option, Some, None, refl, sym, ap, ◌∙◌, arith}
+use Rattle.std.proofs.Common.{◌≡◌, ℕ, zero, suc, ◌+◌, ◌<◌, List, [], ◌∷◌, ◌++◌, length, take, get_or, Option, Some, None, refl, ap, ◌∙◌, arith}
+use Rattle.std.proofs.lemmas.Grind.{common_steps}
 use Rattle.std.specs.Borrow.{Bor}
 use Rattle.std.specs.List.{AllByRecursion}
-use Rattle.std.proofs.lemmas.List.{take_all, take_more}
+use Rattle.std.proofs.lemmas.List.{take_more}
 use Rattle.org_meta.specs.Sections.{NodeProperty, SectionParts, put}
 use Rattle.org_move.specs.declared.properties.Property.{Property}
 use Rattle.org_move.specs.Archive.{named, put_each}
@@ -39,9 +40,7 @@ good_value ps k d value is all lt = (rw is at (good_at ps k d all lt)).0
 
 pub each_more : (ps : List Property) (k : ℕ) (d : Property) (start old new : SectionParts) → old ≡ put_each (given (take k ps)) start → k < length ps
     → new ≡ put_each (alone (get_or ps k d)) old → new ≡ put_each (given (take (k + 1) ps)) start
-each_more ps k d start old new old_is lt new_is =
-    let more : given (take (k + 1) ps) ≡ given (take k ps) ++ alone (get_or ps k d) = ap given (take_more ps k d lt) ∙ given-append (take k ps) (get_or ps k d ∷ []) in
-    new_is ∙ ap (put_each (alone (get_or ps k d))) old_is ∙ sym (each-append (given (take k ps)) (alone (get_or ps k d)) start) ∙ ap (λ (qs : List NodeProperty). put_each qs start) (sym more)
+each_more ps k d start old new old_is lt new_is = grind (arith, common_steps, alone, take_more, given-append, each-append)
 
 -- the same where it has a value, and where it has none
 pub value_more : (ps : List Property) (k : ℕ) (d : Property) (value : Bor (List ℕ)) (start old new : SectionParts) → old ≡ put_each (given (take k ps)) start → k < length ps → (get_or ps k d).value ≡ Some value
@@ -51,6 +50,3 @@ value_more ps k d value start old new old_is lt is new_is = each_more ps k d sta
 pub none_more : (ps : List Property) (k : ℕ) (d : Property) (start old : SectionParts) → old ≡ put_each (given (take k ps)) start → k < length ps → (get_or ps k d).value ≡ None
     → old ≡ put_each (given (take (k + 1) ps)) start
 none_more ps k d start old old_is lt is = each_more ps k d start old old old_is lt (rw is refl)
-
-pub each_all : (ps : List Property) (k : ℕ) (start old : SectionParts) → old ≡ put_each (given (take k ps)) start → length ps ≤ k → old ≡ put_each (given ps) start
-each_all ps k start old old_is le = old_is ∙ ap (λ qs. put_each (given qs) start) (take_all k ps le)

@@ -1,5 +1,6 @@
 -- The properties that the code lists are those of the definition.
-use Rattle.std.proofs.Common.{◌≡◌, ℕ, List, [], ◌∷◌, ◌++◌, Option, Some, None, refl, sym, ap, subst, ◌∙◌, ◌<◌, codes}
+use Rattle.std.proofs.Common.{arith, ◌≡◌, ℕ, List, [], ◌∷◌, ◌++◌, Option, Some, None, refl, sym, ap, subst, ◌∙◌, ◌<◌, codes}
+use Rattle.std.proofs.lemmas.Grind.{common_steps}
 use Rattle.std.specs.Borrow.{Bor}
 use Rattle.std.specs.List.{AllByRecursion, join_with_byte}
 use Rattle.std.specs.Option.{option_map, unwrap_or}
@@ -71,9 +72,7 @@ good_of (p ∷ ps) all = ((all.0.0, all.0.1.0), good_of ps all.1)
 pub section_made : (states : Keywords) (name : List ℕ) (now : Moment) (t u : List ℕ) (i : ℕ) (s : Span) (start new : List ℕ) (ps : List NodeProperty)
     → u ≡ t → i < node_count (tree t) → IsSection t (node_at (tree t) i) s → start ≡ slice_range u s.start s.end → ps ≡ archive_properties states name now (tree t) i
     → split_of new ≡ put_each ps (split_of start) → lines_of new ≡ archived_section states name now (tree t) i
-section_made states name now t u i s start new ps same lt is start_is ps_is new_is =
-    let old : split_of start ≡ split (node_at (tree t) i).node.section = ap split_of start_is ∙ section_parts t u i s same lt is in
-    sym (joined_split (lines_of new)) ∙ ap joined (new_is ∙ ap (put_each ps) old) ∙ ap (λ qs. joined (put_each qs (split (node_at (tree t) i).node.section))) ps_is
+section_made states name now t u i s start new ps same lt is start_is ps_is new_is = grind (arith, common_steps, split, section_parts, joined_split, joined)
 
 pub all_good : (states : Keywords) (name : List ℕ) (now : Moment) (t : List ℕ) (i : ℕ) (ps : List NodeProperty) → IsDiskName name → ps ≡ archive_properties states name now (tree t) i → AllByRecursion IsGood ps
 all_good states name now t i ps valid is =

@@ -1,5 +1,6 @@
 -- Texts joined, and tags each once.
 use Rattle.std.proofs.Common.{◌≡◌, ℕ, ◌+◌, ◌-◌, ◌<◌, ◌≤◌, true, false, Bool, eqb, ◌||◌, List, [], ◌∷◌, ◌++◌, length, take, get_or, map, append_assoc, refl, sym, ap, ◌∙◌, arith, inl, inr, length-append, Some}
+use Rattle.std.proofs.lemmas.Grind.{common_steps}
 use Rattle.std.specs.Borrow.{Bor}
 use Rattle.std.specs.List.{flat_map, join_with_byte, list_any, slice_split}
 use Rattle.std.specs.Str.{bytes_eq}
@@ -35,24 +36,15 @@ ended-joined b x (y ∷ xs) = ap (λ (t : List ℕ). x ++ b ∷ t) (ended-joined
 
 without_last : (b : ℕ) (xs : List (List ℕ)) → take (length (ended b xs) - 1) (ended b xs) ≡ join_with_byte b xs
 without_last b [] = refl
-without_last b (x ∷ xs) =
-    let whole = ended-joined b x xs in
-    let size : length (ended b (x ∷ xs)) - 1 ≡ length (join_with_byte b (x ∷ xs)) = omega (arith, ap length whole, length-append (join_with_byte b (x ∷ xs)) (b ∷ [])) in
-    ap (λ n. take n (ended b (x ∷ xs))) size ∙ ap (take (length (join_with_byte b (x ∷ xs)))) whole ∙ take_at (join_with_byte b (x ∷ xs)) (b ∷ []) (length (join_with_byte b (x ∷ xs))) refl
+without_last b (x ∷ xs) = grind (arith, common_steps, ended-joined, ended, length-append, take_at)
 
 pub joined_more : (b : ℕ) (texts : List (Bor (List ℕ))) (k : ℕ) (d : Bor (List ℕ)) (made new more : List ℕ) → made ≡ ended b (firsts texts k) → k < length texts
     → new ≡ made ++ (get_or texts k d).now → more ≡ new ++ b ∷ [] → more ≡ ended b (firsts texts (k + 1))
-joined_more b texts k d made new more made_is lt new_is more_is =
-    let text : List ℕ = (get_or texts k d).now in
-    more_is ∙ ap (λ (t : List ℕ). t ++ b ∷ []) (new_is ∙ ap (λ (t : List ℕ). t ++ text) made_is) ∙ append_assoc (ended b (firsts texts k)) text (b ∷ [])
-    ∙ sym (ended-append b (firsts texts k) text) ∙ ap (ended b) (sym (one_more texts k d lt))
+joined_more b texts k d made new more made_is lt new_is more_is = grind (arith, common_steps, append_assoc, ended, ended-append, one_more)
 
 pub joined_all : (b : ℕ) (texts : List (Bor (List ℕ))) (k size : ℕ) (made new : List ℕ) → made ≡ ended b (firsts texts k) → length texts ≤ k → length made ≡ size
     → new ≡ take (size - 1) made → new ≡ join_with_byte b (map read texts)
-joined_all b texts k size made new made_is le size_is new_is =
-    let all : firsts texts k ≡ map read texts = ap (map read) (take_all k texts le) in
-    let is : made ≡ ended b (map read texts) = made_is ∙ ap (ended b) all in
-    new_is ∙ ap (λ n. take (n - 1) made) (sym size_is) ∙ ap (λ (t : List ℕ). take (length t - 1) t) is ∙ without_last b (map read texts)
+joined_all b texts k size made new made_is le size_is new_is = grind (arith, common_steps, read, take_all, ended, without_last)
 
 pub some_joined : (b : ℕ) (texts : List (Bor (List ℕ))) (made : List ℕ) → eqb (length texts) 0 ≡ false → made ≡ join_with_byte b (map read texts) → Some made ≡ joined_if_any b (map read texts)
 some_joined b [] made some is = absurd cc
@@ -62,13 +54,7 @@ some_joined b (text ∷ texts) made some is = ap (λ (m : List ℕ). Some m) is
 
 first-append : (seen xs ys : List (List ℕ)) → first_ones seen (xs ++ ys) ≡ first_ones seen xs ++ first_ones (seen ++ first_ones seen xs) ys
 first-append seen [] ys = ap (λ s. first_ones s ys) (sym (append-nil seen))
-first-append seen (x ∷ xs) ys =
-    elim (cases_Bool (list_any (λ y. bytes_eq y x) seen)) [
-      | inl e ↦ rw e (first-append seen xs ys)
-      | inr e ↦ rw e
-          (ap (λ zs. x ∷ zs) (first-append (seen ++ x ∷ []) xs ys)
-          ∙ ap (λ s. x ∷ (first_ones (seen ++ x ∷ []) xs ++ first_ones s ys)) (append_assoc seen (x ∷ []) (first_ones (seen ++ x ∷ []) xs)))
-    ]
+first-append seen (x ∷ xs) ys = grind (arith, common_steps, first-append seen xs ys, first-append (seen ++ x ∷ []) xs ys)
 
 pub first_more : (seen xs ys old new : List (List ℕ)) → old ≡ with_first seen xs → new ≡ with_first old ys → new ≡ with_first seen (xs ++ ys)
 first_more seen xs ys old new old_is new_is =
@@ -107,15 +93,9 @@ lists-one : (xs : List (List ℕ)) (x : List ℕ) → flat_map tag_list (xs ++ x
 lists-one [] x = append-nil (tag_list x)
 lists-one (y ∷ xs) x = ap (λ (zs : List (List ℕ)). tag_list y ++ zs) (lists-one xs x) ∙ sym (append_assoc (tag_list y) (flat_map tag_list xs) (tag_list x))
 
--- the tags of one heading, one after another
-pub tags_start : (found : List (Bor (List ℕ))) → map read found ≡ with_first (map read found) []
-tags_start found = sym (append-nil (map read found))
-
 pub tags_more : (first old new seen : List (Bor (List ℕ))) (tag : Bor (List ℕ)) → map read old ≡ with_first (map read first) (nonempty_only (map read seen))
     → map read new ≡ with_first (map read old) (nonempty_only (tag.now ∷ [])) → map read new ≡ with_first (map read first) (nonempty_only (map read (seen ++ tag ∷ [])))
-tags_more first old new seen tag w new_is =
-    first_more (map read first) (nonempty_only (map read seen)) (nonempty_only (tag.now ∷ [])) (map read old) (map read new) w new_is
-    ∙ ap (with_first (map read first)) (sym (filter-one (map read seen) tag.now) ∙ ap nonempty_only (sym (map-append read seen (tag ∷ []))))
+tags_more first old new seen tag w new_is = grind (arith, common_steps, first_more, read, filter-one, map-append)
 
 pub tags_end : (first old seen : List (Bor (List ℕ))) (tags : List ℕ) → map read old ≡ with_first (map read first) (nonempty_only (map read seen))
     → map read seen ≡ slice_split is_colon tags → map read old ≡ with_first (map read first) (tag_list tags)

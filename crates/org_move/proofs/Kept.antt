@@ -1,5 +1,6 @@
 -- What a refile keeps: documents are valid, and each node is there as often.
-use Rattle.std.proofs.Common.{◌≡◌, ℕ, zero, suc, ◌+◌, ◌<◌, List, [], ◌∷◌, length, get_or, Some, Ok, refl, ap, subst, ◌∙◌, arith}
+use Rattle.std.proofs.Common.{◌≡◌, ℕ, zero, suc, ◌+◌, ◌<◌, List, [], ◌∷◌, length, get_or, Some, Ok, refl, ap, subst, arith}
+use Rattle.std.proofs.lemmas.Grind.{common_steps}
 use Rattle.std.specs.Prelude.{◌≢◌, slice_get, slice_set}
 use Rattle.std.proofs.lemmas.List.Sums.{sum_by-set}
 use Rattle.org_outline.specs.declared.steps.Step.{Step}
@@ -87,14 +88,7 @@ counts_again rest section d valid = ap (count_in rest section) (tree-print d val
 -- two files' new texts do by what the documents have more or less
 pub counts_both : (rest : List ℕ) (section : List (List ℕ)) (texts : List (List ℕ)) (i j : ℕ) (from into : List ℕ) (source target : Document) → i ≢ j → slice_get texts i ≡ Some from → slice_get texts j ≡ Some into → IsValid source × IsValid target
     → count_over rest section (slice_set (slice_set texts i (print source)) j (print target)) + (count_in rest section (tree from) + count_in rest section (tree into)) ≡ count_over rest section texts + (count_in rest section source + count_in rest section target)
-counts_both rest section texts i j from into source target apart here here_too valid =
-    omega (
-      arith,
-      counts_add rest section texts i from (print source) here,
-      counts_add rest section (slice_set texts i (print source)) j into (print target) (other_stays texts i j (print source) apart ∙ here_too),
-      counts_again rest section source valid.0,
-      counts_again rest section target valid.1,
-    )
+counts_both rest section texts i j from into source target apart here here_too valid = grind (arith, common_steps, counts_add, other_stays, counts_again)
 
 pub file_counts : (states : Keywords) (path to : List Step) (place : Place) (texts : List (List ℕ)) (i : ℕ) (text : List ℕ) (new : Document)
     → slice_get texts i ≡ Some text → refile_within states path to place (tree text) ≡ Ok new → (rest : List ℕ) (section : List (List ℕ))

@@ -1,10 +1,9 @@
 -- The edits of a refile make the documents that are defined.
-use Rattle.std.proofs.Common.{◌≡◌, ℕ, ◌+◌, ◌<◌, ◌≤◌, leb, ltb, Bool, true, false, true≢false, inl, inr, List, [], ◌∷◌, ◌++◌, length, Some, Ok, refl, sym, ap, subst, ◌∙◌, arith, replicate, length-append}
+use Rattle.std.proofs.Common.{◌≡◌, ℕ, ◌<◌, Bool, true, false, List, [], ◌∷◌, length, Some, Ok, refl, sym, ap, subst, ◌∙◌, arith, length-append}
+use Rattle.std.proofs.lemmas.Grind.{common_steps}
 use Rattle.std.specs.Prelude.{Result, IsTrue, ◌↔◌, slice_range}
-use Rattle.std.proofs.lemmas.Bool.{cases_Bool}
 use Rattle.std.proofs.lemmas.List.{length-replicate}
-use Rattle.std.proofs.lemmas.Bool.Decides.{nat_tests}
-use Rattle.org_splice.specs.Lines.{terminated, print_lines}
+use Rattle.org_splice.specs.Lines.{terminated}
 use Rattle.org_splice.specs.Edits.{AreEdits}
 use Rattle.org_splice.specs.declared.edit.Edit.{Edit}
 use Rattle.org_outline.specs.declared.steps.Step.{Step}
@@ -32,15 +31,7 @@ prints t stays_terminated = (tree-is t).prints ∙ stays_terminated
 
 -- the stars of a heading line aren't the whole text
 pub level_less : (t u : List ℕ) (i level : ℕ) → u ≡ t → terminated t ≡ t → i < node_count (tree t) → level ≡ (node_at (tree t) i).node.level → level < length u
-level_less t u i level same stays_terminated lt is =
-    let node : Node = (node_at (tree t) i).node in
-    let at = take_local i (tree t) lt in
-    let whole : length (print (tree t)) ≡ length at.front + (length (print_node node) + length at.back) =
-    ap length at.is ∙ length-append at.front (print_node node ++ at.back) ∙ ap (λ n. length at.front + n) (length-append (print_node node) at.back) in
-    let more : List ℕ = print_lines (node.section ++ lines node.children) in
-    let line : length (print_node node) ≡ node.level + length node.rest + (length more + 1) =
-    omega (arith, length-append (heading_line node.level node.rest) (10 ∷ more), length-append (replicate node.level 42) node.rest, length-replicate {A = ℕ} node.level 42) in
-    omega (arith, is, whole, line, ap length (prints t stays_terminated), ap length same)
+level_less t u i level same stays_terminated lt is = grind (arith, common_steps, take_local, length-append, lines, heading_line, length-replicate, prints)
 
 -- the bytes of a subtree are the print of its node
 pub printed : (t u : List ℕ) (i start end : ℕ) → u ≡ t → i < node_count (tree t) → slice_range t start end ≡ print_node (node_at (tree t) i).node
@@ -52,33 +43,13 @@ printed t u i start end same lt is =
 -- and they are shifted as it is
 pub shifted_is : (t u out : List ℕ) (i level start end : ℕ) → u ≡ t → i < node_count (tree t) → slice_range t start end ≡ print_node (node_at (tree t) i).node
     → out ≡ print_node (shift_node level (node_at (tree (slice_range u start end)) 0).node) → out ≡ print_node (shift_node level (node_at (tree t) i).node)
-shifted_is t u out i level start end same lt is made =
-    let node : Node = (node_at (tree t) i).node in
-    let whole : slice_range u start end ≡ print_node node = ap (λ u. slice_range u start end) same ∙ is in
-    let root : (node_at (tree (slice_range u start end)) 0).node ≡ node = ap (λ b. (node_at (tree b) 0).node) whole ∙ (node-print node (node-valid t i lt)).0 in
-    made ∙ ap (λ (n : Node). print_node (shift_node level n)) root
+shifted_is t u out i level start end same lt is made = grind (arith, common_steps, node-print, node-valid)
 
 -- ---- within a text
 
 pub inside_is : (d : Document) (top i : ℕ) (b : Bool) → (IsTrue b ↔ LiesIn d top i) → is_inside d top i ≡ b
-inside_is d top i true lies =
-    let inside = lies.0 refl in
-    let low : top ≤ i = inside.low in
-    let high : i < top + size_of d top = inside.high in
-    let e : leb top i ≡ true = grind (arith, nat_tests) in
-    let f : ltb i (top + size_of d top) ≡ true = grind (arith, nat_tests) in
-    rw (e, f) refl
-inside_is d top i false lies =
-    elim (cases_Bool (leb top i)) [
-      | inl e ↦ elim (cases_Bool (ltb i (top + size_of d top))) [
-        | inl f ↦
-            let low : top ≤ i = grind (arith, nat_tests) in
-            let high : i < top + size_of d top = grind (arith, nat_tests) in
-            absurd (true≢false (sym (lies.1 (record { low = low; high = high }))))
-        | inr f ↦ rw (e, f) refl
-      ]
-      | inr e ↦ rw e refl
-    ]
+inside_is d top i true lies = grind (arith, common_steps)
+inside_is d top i false lies = grind (arith, common_steps)
 
 pub within_made : (states : Keywords) (path to : List Step) (place : Place) (t : List ℕ) (r s : Result ℕ PathFault) (i p at level : ℕ) (b : Bool) (out into : Edit)
     → terminated t ≡ t → r ≡ find_path states (tree t) path → r ≡ Ok i → s ≡ find_path states (tree t) to → s ≡ Ok p → i < node_count (tree t)

@@ -1,5 +1,6 @@
 -- The section of a node of a text, and the properties in it.
-use Rattle.std.proofs.Common.{◌≡◌, ℕ, ◌+◌, ◌<◌, ◌≤◌, List, [], ◌∷◌, ◌++◌, length, Some, None, sym, ap, ◌∙◌, arith, length-append}
+use Rattle.std.proofs.Common.{◌≡◌, ℕ, ◌<◌, ◌≤◌, List, [], ◌∷◌, length, Some, None, sym, ap, ◌∙◌, arith, length-append}
+use Rattle.std.proofs.lemmas.Grind.{common_steps}
 use Rattle.std.specs.Prelude.{slice_range}
 use Rattle.std.specs.List.{AllByRecursion}
 use Rattle.std.specs.Option.{option_and_then}
@@ -7,7 +8,7 @@ use Rattle.org_splice.specs.Lines.{terminated, print_lines, IsLine}
 use Rattle.org_splice.specs.declared.Span.{Span}
 use Rattle.org_splice.proofs.Lines.{terminated-print_lines, lines_of-print_lines, size-append}
 use Rattle.org_outline.specs.Outline.{IsSection}
-use Rattle.org_outline.specs.Tree.{Node, IsPlain, lines, own_lines, print, print_node, tree, node_at, node_count}
+use Rattle.org_outline.specs.Tree.{IsPlain, lines, own_lines, tree, node_at, node_count}
 use Rattle.org_outline.proofs.Changes.{take_local}
 use Rattle.org_outline.proofs.Sections.{node-valid}
 use Rattle.org_meta.specs.Sections.{parts_of, property, split}
@@ -23,12 +24,7 @@ section_lines t i lt = plain_lines _ (node-valid t i lt).heading.section
 
 -- the section lies in the text
 pub section_within : (t u : List ℕ) (i : ℕ) (s : Span) → u ≡ t → terminated t ≡ t → i < node_count (tree t) → IsSection t (node_at (tree t) i) s → s.end ≤ length u
-section_within t u i s same stays_terminated lt is =
-    let node : Node = (node_at (tree t) i).node in
-    let at = take_local i (tree t) lt in
-    let whole : length (print (tree t)) ≡ length at.front + (length (print_node node) + length at.back) =
-    ap length at.is ∙ length-append at.front (print_node node ++ at.back) ∙ ap (λ n. length at.front + n) (length-append (print_node node) at.back) in
-    omega (arith, is.end, at.at, whole, size-append (own_lines node) (lines node.children), ap length (prints t stays_terminated), ap length same)
+section_within t u i s same stays_terminated lt is = grind (arith, common_steps, take_local, length-append, size-append, own_lines, lines, prints)
 
 -- the bytes of a section, however the text is called
 pub section_bytes : (t u : List ℕ) (i : ℕ) (s : Span) → u ≡ t → IsSection t (node_at (tree t) i) s → slice_range u s.start s.end ≡ print_lines (node_at (tree t) i).node.section

@@ -1,12 +1,12 @@
 -- A section with a property put is split again as it was edited.
-use Rattle.std.proofs.Common.{◌≡◌, ℕ, ◌+◌, true, eqb, not, List, [], ◌∷◌, ◌++◌, length, take, drop, refl, sym, ap, ◌∙◌, arith, inl, inr}
+use Rattle.std.proofs.Common.{◌≡◌, ℕ, ◌+◌, true, eqb, not, List, [], ◌∷◌, ◌++◌, length, take, refl, arith, inl, inr}
+use Rattle.std.proofs.lemmas.Grind.{common_steps}
 use Rattle.std.proofs.lemmas.Bool.{cases_Bool}
 use Rattle.std.proofs.lemmas.Bool.Decides.{nat_tests}
 use Rattle.std.specs.Prelude.{◌≢◌, codes, slice_range}
 use Rattle.std.specs.List.{AllByRecursion, list_all}
-use Rattle.std.proofs.lemmas.List.{take_rest}
 use Rattle.org_splice.specs.Edits.{applied}
-use Rattle.org_splice.specs.Lines.{terminated, IsLine, lines_of}
+use Rattle.org_splice.specs.Lines.{terminated, IsLine}
 use Rattle.org_splice.specs.declared.edit.Edit.{Edit}
 use Rattle.org_splice.proofs.Lines.{terminated-print_lines, lines_of-lines, lines_of-print_lines}
 use Rattle.org_meta.specs.Edits.{RewritesParts}
@@ -39,24 +39,12 @@ put_lines name value ls line all = keeps_put IsLine name (property_line name val
 
 pub put_split : (name value text new : List ℕ) (e : Edit) → is_property_name name ≡ true → IsLine (property_line name value) → RewritesParts e text (put name value (parts_of text))
     → new ≡ applied e text → parts_of new ≡ put name value (parts_of text)
-put_split name value text new e good line gives is =
-    let ls : List (List ℕ) = lines_of text in
-    let said = line_said name value good in
-    ap parts_of (is ∙ gives.gives)
-    ∙ ap split (lines_of-print_lines (joined (put name value (split ls))) (put_lines name value ls line (lines_of-lines text)))
-    ∙ split_put name (property_line name value) ls said.0 said.1
+put_split name value text new e good line gives is = grind (arith, common_steps, line_said, parts_of, split, lines_of-print_lines, joined, put, put_lines, lines_of-lines, split_put)
 
 pub put_terminated : (name value text new : List ℕ) (e : Edit) → RewritesParts e text (put name value (parts_of text)) → new ≡ applied e text → terminated new ≡ new
-put_terminated name value text new e gives is =
-    let whole = is ∙ gives.gives in
-    ap terminated whole ∙ terminated-print_lines (joined (put name value (parts_of text))) ∙ sym whole
+put_terminated name value text new e gives is = grind (arith, common_steps, terminated-print_lines, joined, put, parts_of)
 
 -- what the code puts together is the edited text
 pub put_together : (text old again first bytes second new : List ℕ) (e : Edit) → old ≡ text → again ≡ text → first ≡ take e.at old → bytes ≡ e.bytes → second ≡ first ++ bytes
     → new ≡ second ++ slice_range again (e.at + e.removed) (length again) → new ≡ applied e text
-put_together text old again first bytes second new e same same_again first_is bytes_is second_is new_is =
-    let back : slice_range again (e.at + e.removed) (length again) ≡ drop (e.at + e.removed) text =
-    take_rest again (e.at + e.removed) ∙ ap (λ t. drop (e.at + e.removed) t) same_again in
-    let both : second ≡ take e.at text ++ e.bytes =
-    second_is ∙ ap (λ (t : List ℕ). t ++ bytes) (first_is ∙ ap (take e.at) same) ∙ ap (λ (t : List ℕ). take e.at text ++ t) bytes_is in
-    new_is ∙ ap (λ (t : List ℕ). t ++ slice_range again (e.at + e.removed) (length again)) both ∙ ap (λ (t : List ℕ). (take e.at text ++ e.bytes) ++ t) back
+put_together text old again first bytes second new e same same_again first_is bytes_is second_is new_is = grind (arith, common_steps)

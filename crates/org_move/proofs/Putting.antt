@@ -1,5 +1,6 @@
 -- What is put last below a heading, or at the end.
 use Rattle.std.proofs.Common.{◌≡◌, ℕ, ◌+◌, ◌-◌, ◌<◌, List, [], ◌∷◌, ◌++◌, length, Option, None, refl, sym, ap, subst, ◌∙◌, arith, inl, inr, length-append}
+use Rattle.std.proofs.lemmas.Grind.{common_steps}
 use Rattle.std.specs.Prelude.{◌==◌}
 use Rattle.std.specs.Option.{option_map}
 use Rattle.std.proofs.lemmas.Bool.{cases_Bool}
@@ -56,8 +57,4 @@ at_the_new_end to node t u i up s none same stays_terminated lt sub =
 
 pub end_of_text : (to : Destination) (node : Node) (t u : List ℕ) (up : Option ℕ) → up ≡ None → u ≡ t → terminated t ≡ t
     → InsertsAt t (put_last to up node (tree t)) (length u) (filled to (level_at up (tree t)) node)
-end_of_text to node t u up none same stays_terminated =
-    let P : Option ℕ → Type 0 = λ up. InsertsAt t (put_last to up node (tree t)) (length u) (filled to (level_at up (tree t)) node) in
-    let Q : List ℕ → Type 0 = λ p. InsertsAt p (put_last to None node (tree t)) (length p) (filled to None node) in
-    let at : InsertsAt t (put_last to None node (tree t)) (length t) (filled to None node) = subst Q (prints t stays_terminated) (at_the_end to node (tree t) (tree-is t).valid) in
-    subst P (sym none) (subst (λ k. InsertsAt t (put_last to None node (tree t)) k (filled to None node)) (sym (ap length same)) at)
+end_of_text to node t u up none same stays_terminated = grind (arith, common_steps, prints, at_the_end, tree-is)

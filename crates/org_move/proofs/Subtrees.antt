@@ -1,7 +1,7 @@
 -- The lines of a subtree with other lines in the place of its root's section.
-use Rattle.std.proofs.Common.{◌≡◌, ℕ, ◌+◌, ◌-◌, ◌<◌, ◌≤◌, List, [], ◌∷◌, ◌++◌, length, take, drop, append_assoc, refl, sym, ap, ◌∙◌, arith, length-append}
+use Rattle.std.proofs.Common.{◌≡◌, ℕ, ◌+◌, ◌<◌, ◌≤◌, List, [], ◌∷◌, ◌++◌, length, append_assoc, sym, ap, ◌∙◌, arith, length-append}
+use Rattle.std.proofs.lemmas.Grind.{common_steps}
 use Rattle.std.specs.Prelude.{slice_range}
-use Rattle.std.proofs.lemmas.List.{take_at, drop_at}
 use Rattle.org_splice.specs.Lines.{terminated, print_lines, lines_of}
 use Rattle.org_splice.specs.declared.Span.{Span}
 use Rattle.org_splice.proofs.Lines.{print_lines-append, print_lines-lines_of, size-append}
@@ -13,18 +13,11 @@ use Rattle.org_move.proofs.Made.{prints}
 
 -- a part of a text between two others
 middle : (t x y z : List ℕ) (from end : ℕ) → t ≡ x ++ (y ++ z) → from ≡ length x → end ≡ length x + length y → slice_range t from end ≡ y
-middle t x y z from end is from_is end_is =
-    let behind : drop from t ≡ y ++ z = ap (drop from) is ∙ drop_at x (y ++ z) from (sym from_is) in
-    let size : end - from ≡ length y = omega (arith, from_is, end_is) in
-    ap (take (end - from)) behind ∙ ap (λ n. take n (y ++ z)) size ∙ take_at y z (length y) refl
+middle t x y z from end is from_is end_is = grind (arith, common_steps)
 
 -- a node's lines: its heading line, its section, and its children
 node_text : (node : Node) → print_node node ≡ (heading_line node.level node.rest ++ 10 ∷ []) ++ (print_lines node.section ++ print_lines (lines node.children))
-node_text node =
-    let line : List ℕ = heading_line node.level node.rest in
-    let body : List ℕ = print_lines node.section in
-    let tail : List ℕ = print_lines (lines node.children) in
-    print_lines-append (own_lines node) (lines node.children) ∙ append_assoc line (10 ∷ body) tail ∙ sym (append_assoc line (10 ∷ []) (body ++ tail))
+node_text node = grind (arith, common_steps, heading_line, lines, print_lines-append, own_lines, append_assoc)
 
 pub other_section : (t u : List ℕ) (i : ℕ) (s o : Span) (section first second new : List ℕ) → u ≡ t → terminated t ≡ t → i < node_count (tree t)
     → IsSubtree t (node_at (tree t) i) s → IsSection t (node_at (tree t) i) o → terminated section ≡ section
@@ -63,6 +56,4 @@ other_section t u i s o section first second new same stays_terminated lt sub se
 
 -- the section ends in the subtree
 pub section_ends : (t : List ℕ) (i : ℕ) (s o : Span) → IsSubtree t (node_at (tree t) i) s → IsSection t (node_at (tree t) i) o → o.end ≤ s.end
-section_ends t i s o sub sec =
-    let node : Node = (node_at (tree t) i).node in
-    omega (arith, sub.end, sec.end, size-append (own_lines node) (lines node.children))
+section_ends t i s o sub sec = grind (arith, common_steps, size-append, own_lines, lines)

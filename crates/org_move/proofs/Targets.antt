@@ -1,11 +1,11 @@
 -- The walk over all headings finds the one of a level and a title.
-use Rattle.std.proofs.Common.{◌≡◌, ℕ, ◌+◌, ◌<◌, ◌≤◌, Bool, true, false, cond, ◌&&◌, List, [], ◌∷◌, drop, Option, Some, None, Ok, Err, refl, sym, ap, subst, ◌∙◌, arith, inl, inr, add-one}
+use Rattle.std.proofs.Common.{◌≡◌, ℕ, ◌+◌, ◌<◌, ◌≤◌, Bool, true, false, cond, ◌&&◌, List, [], ◌∷◌, drop, Option, Some, None, Ok, refl, sym, ap, subst, ◌∙◌, arith, inl, inr, add-one}
+use Rattle.std.proofs.lemmas.Grind.{common_steps}
 use Rattle.std.specs.Prelude.{◌==◌, filter}
 use Rattle.std.specs.Option.{IfSome, is_some}
 use Rattle.std.specs.Str.{bytes_eq}
 use Rattle.std.proofs.lemmas.Bool.{cases_Bool}
-use Rattle.std.proofs.lemmas.List.{drop_all, drop_more}
-use Rattle.org_outline.specs.declared.paths.PathFault.TheVariants.{NotUnique}
+use Rattle.std.proofs.lemmas.List.{drop_more}
 use Rattle.org_outline.specs.States.{Keywords}
 use Rattle.org_outline.specs.Tree.{Document, Placed, no_node, node_at, node_count, nodes}
 use Rattle.org_outline.specs.Paths.{or_more, the_only, title_of, titled_nodes}
@@ -56,39 +56,14 @@ none_left (Some i) = refl
 walk_first : (states : Keywords) (to : Destination) (d : Document) (index n : ℕ) (found : Option ℕ) (r b : Bool) → Walk states to d index found
     → index < n → n ≡ node_count d → r ≡ tested states to d index → r ≡ true → b ≡ is_some found → b ≡ false → Walk states to d (index + 1) (Some index)
 walk_first states to d index n (Some i) r b w lt many re is be none = absurd cc
-walk_first states to d index n None r b w lt many re is be none =
-    let inside : index < node_count d = omega (arith, lt, many) in
-    let more = left states to d (index + 1) (drop (index + 1) (nodes d)) in
-    record {
-      answer = sym (first_found index more) ∙ ap (λ b. the_only (cond b (index ∷ more) more)) (sym is ∙ re) ∙ ap the_only (sym (step states to d index inside)) ∙ w.answer;
-      within = inside;
-    }
-
-pub walk_second : (states : Keywords) (to : Destination) (d : Document) (index n : ℕ) (found : Option ℕ) (r b : Bool) → Walk states to d index found
-    → index < n → n ≡ node_count d → r ≡ tested states to d index → r ≡ true → b ≡ is_some found → b ≡ true → (to.level == 0) ≡ false → Err NotUnique ≡ target_heading states to d
-walk_second states to d index n None r b w lt many re is be some deep = absurd cc
-walk_second states to d index n (Some i) r b w lt many re is be some deep =
-    let inside : index < node_count d = omega (arith, lt, many) in
-    let more = left states to d (index + 1) (drop (index + 1) (nodes d)) in
-    let all : Err NotUnique ≡ the_only (left states to d 0 (nodes d)) =
-    ap (λ b. or_more (Some i) (cond b (index ∷ more) more)) (sym is ∙ re) ∙ ap (or_more (Some i)) (sym (step states to d index inside)) ∙ w.answer in
-    rw deep all
+walk_first states to d index n None r b w lt many re is be none = grind (arith, common_steps, left, first_found, step)
 
 pub walk_other : (states : Keywords) (to : Destination) (d : Document) (index n : ℕ) (found : Option ℕ) (r : Bool) → Walk states to d index found
     → index < n → n ≡ node_count d → r ≡ tested states to d index → r ≡ false → Walk states to d (index + 1) found
-walk_other states to d index n found r w lt many re is =
-    let inside : index < node_count d = omega (arith, lt, many) in
-    let more = left states to d (index + 1) (drop (index + 1) (nodes d)) in
-    record {
-      answer = ap (λ b. or_more found (cond b (index ∷ more) more)) (sym is ∙ re) ∙ ap (or_more found) (sym (step states to d index inside)) ∙ w.answer;
-      within = w.within;
-    }
+walk_other states to d index n found r w lt many re is = grind (arith, common_steps, left, or_more, step)
 
 pub walk_end : (states : Keywords) (to : Destination) (d : Document) (index n : ℕ) (found : Option ℕ) → Walk states to d index found → n ≤ index → n ≡ node_count d → (to.level == 0) ≡ false → Ok found ≡ target_heading states to d
-walk_end states to d index n found w le many deep =
-    let none : drop index (nodes d) ≡ [] = drop_all index (nodes d) (omega (arith, le, many)) in
-    let all : Ok found ≡ the_only (left states to d 0 (nodes d)) = sym (none_left found) ∙ ap (λ ps. or_more found (left states to d index ps)) (sym none) ∙ w.answer in
-    rw deep all
+walk_end states to d index n found w le many deep = grind (arith, common_steps)
 
 -- the same, as the code says it: i is the number of the heading that it tests
 pub test_is : (states : Keywords) (to : Destination) (d : Document) (index i : ℕ) (r : Bool) → i ≡ index → r ≡ tested states to d i → r ≡ tested states to d index

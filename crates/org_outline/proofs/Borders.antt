@@ -1,5 +1,6 @@
 -- Bytes that pass a test, and bytes beside them that don't begin or end with such.
 use Rattle.std.proofs.Common.{◌≡◌, ℕ, zero, suc, ◌+◌, ◌-◌, Bool, true, false, List, [], ◌∷◌, ◌++◌, length, take, refl, sym, ap, ◌∙◌, arith, eqb, inl, inr}
+use Rattle.std.proofs.lemmas.Grind.{common_steps}
 use Rattle.std.specs.Prelude.{reverse}
 use Rattle.std.specs.List.{prefix_len, suffix_len, list_all}
 use Rattle.std.proofs.lemmas.Bool.{cases_Bool, eqb-true}
@@ -78,11 +79,7 @@ ends_before p l =
 begins_taken : (p : ℕ → Bool) (n : ℕ) (l : List ℕ) → BeginsWithNo p l → BeginsWithNo p (take n l)
 begins_taken p zero l none = refl
 begins_taken p (suc n) [] none = refl
-begins_taken p (suc n) (b ∷ l) none =
-    elim (cases_Bool (p b)) [
-      | inl e ↦ absurd (omega (arith, rw e at none))
-      | inr e ↦ rw e refl
-    ]
+begins_taken p (suc n) (b ∷ l) none = grind (arith, common_steps)
 
 pub begins_before : (p : ℕ → Bool) (l : List ℕ) → BeginsWithNo p l → BeginsWithNo p (without_end p l)
 begins_before p l none = begins_taken p (length l - suffix_len p l) l none

@@ -1,9 +1,9 @@
 -- Headings that a walk passes, since none of them is a candidate for a date.
-use Rattle.std.proofs.Common.{◌≡◌, ℕ, ◌+◌, ◌-◌, ◌<◌, ◌≤◌, Bool, true, false, not, ◌&&◌, ◌||◌, ◌==◌, List, length, drop, take, get_or, sym, ap, ◌∙◌, arith, inl, inr}
+use Rattle.std.proofs.Common.{◌≡◌, ℕ, ◌+◌, ◌-◌, ◌<◌, ◌≤◌, Bool, true, false, not, ◌&&◌, ◌||◌, ◌==◌, List, length, drop, take, get_or, sym, ap, ◌∙◌, arith}
+use Rattle.std.proofs.lemmas.Grind.{common_steps}
 use Rattle.std.specs.Prelude.{slice_index}
 use Rattle.std.specs.Char.{is_ascii_digit}
 use Rattle.std.specs.List.{prefix_len}
-use Rattle.std.proofs.lemmas.Bool.{cases_Bool}
 use Rattle.std.proofs.lemmas.Bool.Decides.{nat_tests}
 use Rattle.std.proofs.lemmas.List.{get_or-drop, get_or-map, get_or-take, length-take}
 use Rattle.std.proofs.lemmas.List.Sums.{prefix_len_passes, prefix_len-le-length}
@@ -18,11 +18,7 @@ use Rattle.org_outline.proofs.TitlePlaces.{no_date}
 
 -- what fails of two that aren't both so, where one is
 other_fails : (one other : Bool) → one ≡ true → not (one && other) ≡ true → other ≡ false
-other_fails one other is fails =
-    elim (cases_Bool other) [
-      | inl e ↦ absurd cc
-      | inr e ↦ e
-    ]
+other_fails one other is fails = grind (arith, common_steps)
 
 -- `few` are `count` headings from `first` on, and k of them are passed
 pub passed_plain : (states : Keywords) (t : List ℕ) (first count level k i : ℕ) (later few : List Heading) → later ≡ drop first (node_headings t) → few ≡ take count later

@@ -1,5 +1,6 @@
 -- Edits of a document at one node: they keep it valid, and change its print at one place.
 use Rattle.std.proofs.Common.{◌≡◌, ℕ, zero, suc, ◌+◌, ◌-◌, ◌<◌, ◌≤◌, ltb, List, [], ◌∷◌, ◌++◌, length, get_or, refl, sym, ap, subst, ◌∙◌, append_assoc, arith, inl, inr}
+use Rattle.std.proofs.lemmas.Grind.{common_steps}
 use Rattle.std.specs.Prelude.{IsTrue}
 use Rattle.std.specs.List.{AllByRecursion}
 use Rattle.std.proofs.lemmas.Bool.{cases_Bool}
@@ -149,104 +150,48 @@ record Keeps (change : Forest → Forest) : Type 1 where
 AllRoots-from_node : (change : Forest → Forest) → Keeps change → (P : ℕ → Type 0) (i : ℕ) (f : Forest) → AllRoots P f → AllRoots P (from_node change i f)
 AllRoots-from_node change k P i Empty p = tt
 AllRoots-from_node change k P zero (Tree m r s kids later) p = k.roots P m r s kids later p
-AllRoots-from_node change k P (suc i) (Tree m r s kids later) p =
-    elim (cases_Bool (ltb i (total kids))) [
-      | inl e ↦ rw e p
-      | inr e ↦ rw e (p.0, AllRoots-from_node change k P (i - total kids) later p.1)
-    ]
+AllRoots-from_node change k P (suc i) (Tree m r s kids later) p = grind (arith, common_steps, AllRoots-from_node change k P (i - total kids) later p.1)
 
 IsForest-from_node : (change : Forest → Forest) → Keeps change → (i : ℕ) (f : Forest) → IsForest f → IsForest (from_node change i f)
 IsForest-from_node change k i Empty v = tt
 IsForest-from_node change k zero (Tree m r s kids later) v = k.valid m r s kids later v
-IsForest-from_node change k (suc i) (Tree m r s kids later) v =
-    elim (cases_Bool (ltb i (total kids))) [
-      | inl e ↦ rw e (v.0, AllRoots-from_node change k (λ n. m < n) i kids v.1, IsForest-from_node change k i kids v.2, v.3, v.4)
-      | inr e ↦ rw e (v.0, v.1, v.2, AllRoots-from_node change k (λ n. n ≤ m) (i - total kids) later v.3, IsForest-from_node change k (i - total kids) later v.4)
-    ]
+IsForest-from_node change k (suc i) (Tree m r s kids later) v = grind (arith, common_steps, cases_Bool, AllRoots-from_node, IsForest-from_node change k i kids v.2, IsForest-from_node change k (i - total kids) later v.4)
 
 pub take_valid : (i : ℕ) (d : Document) → IsValid d → IsValid (take i d)
 take_valid i d v =
     record { preamble = v.preamble; forest = IsForest-from_node later_trees (record { valid = λ m r s kids later v. v.4; roots = λ P m r s kids later p. p.1 }) i d.forest v.forest }
 
 pub insert_before_valid : (i : ℕ) (node : Node) (d : Document) → IsNode node → IsValid d → IsValid (insert_before i node d)
-insert_before_valid i node d w v =
-    record {
-      preamble = v.preamble;
-      forest = IsForest-from_node (put_before node)
-          (record {
-            valid = λ m r s kids later v.
-                let new = IsNode-shift_node m node v.0.level w in
-                (new.heading, new.deep, new.children, (omega arith, v.3), v);
-            roots = λ P m r s kids later p. (p.0, p);
-          }) i d.forest v.forest;
-    }
+insert_before_valid i node d w v = grind (arith, common_steps, IsForest-from_node, IsNode-shift_node)
 
 pub own_lines_valid : (i : ℕ) (rest : List ℕ) (section : List (List ℕ)) (d : Document) → IsTrue (begins_with_space rest) → IsLine rest → AllByRecursion IsPlain section → IsValid d
     → IsValid (with_own_lines i rest section d)
-own_lines_valid i rest section d space line plain v =
-    record {
-      preamble = v.preamble;
-      forest = IsForest-from_node (with_own rest section)
-          (record {
-            valid = λ m r s kids later v. (record { level = v.0.level; space = space; rest = line; section = plain }, v.1, v.2, v.3, v.4);
-            roots = λ P m r s kids later p. p;
-          }) i d.forest v.forest;
-    }
+own_lines_valid i rest section d space line plain v = grind (arith, common_steps, IsForest-from_node)
 
 -- ---- a heading at the end
 
 lines-behind : (n : ℕ) (rest : List ℕ) (f : Forest) → lines (heading_behind n rest f) ≡ lines f ++ (heading_line n rest ∷ [])
 lines-behind n rest Empty = refl
-lines-behind n rest (Tree m r s kids Empty) =
-    let own = heading_line m r ∷ s in
-    let line = heading_line n rest ∷ [] in
-    let below : own ++ (lines (heading_behind n rest kids) ++ []) ≡ (own ++ (lines kids ++ [])) ++ line =
-    ap (λ l. own ++ l) (append-nil (lines (heading_behind n rest kids)) ∙ lines-behind n rest kids) ∙ sym (append_assoc own (lines kids) line)
-    ∙ ap (λ l. (own ++ l) ++ line) (sym (append-nil (lines kids))) in
-    let beside : own ++ (lines kids ++ line) ≡ (own ++ (lines kids ++ [])) ++ line =
-    sym (append_assoc own (lines kids) line) ∙ ap (λ l. (own ++ l) ++ line) (sym (append-nil (lines kids))) in
-    elim (cases_Bool (ltb m n)) [
-      | inl e ↦ rw e below
-      | inr e ↦ rw e beside
-    ]
-lines-behind n rest (Tree m r s kids (Tree m2 r2 s2 kids2 later)) =
-    let own = heading_line m r ∷ s in
-    let line = heading_line n rest ∷ [] in
-    let after = lines (Tree m2 r2 s2 kids2 later) in
-    ap (λ l. own ++ (lines kids ++ l)) (lines-behind n rest (Tree m2 r2 s2 kids2 later))
-    ∙ ap (λ l. own ++ l) (sym (append_assoc (lines kids) after line)) ∙ sym (append_assoc own (lines kids ++ after) line)
+lines-behind n rest (Tree m r s kids Empty) = grind (arith, common_steps, lines-behind n rest kids)
+lines-behind n rest (Tree m r s kids (Tree m2 r2 s2 kids2 later)) = grind (arith, common_steps, lines-behind n rest (Tree m2 r2 s2 kids2 later))
 
 pub append_heading_local : (level : ℕ) (rest : List ℕ) (d : Document) → print (append_heading level rest d) ≡ print d ++ print_node (heading_alone level rest)
-append_heading_local level rest d =
-    let line = heading_line level rest ∷ [] in
-    ap (λ l. print_lines (d.preamble ++ l)) (lines-behind level rest d.forest) ∙ ap print_lines (sym (append_assoc d.preamble (lines d.forest) line)) ∙ print_lines-append (d.preamble ++ lines d.forest) line
+append_heading_local level rest d = grind (arith, common_steps, heading_line, lines-behind, append_assoc, lines, print_lines-append)
 
 AllRoots-behind : (P : ℕ → Type 0) (n : ℕ) (rest : List ℕ) (f : Forest) → P n → AllRoots P f → AllRoots P (heading_behind n rest f)
 AllRoots-behind P n rest Empty q p = (q, tt)
-AllRoots-behind P n rest (Tree m r s kids Empty) q p =
-    elim (cases_Bool (ltb m n)) [
-      | inl e ↦ rw e p
-      | inr e ↦ rw e (p.0, (q, tt))
-    ]
+AllRoots-behind P n rest (Tree m r s kids Empty) q p = grind (arith, common_steps)
 AllRoots-behind P n rest (Tree m r s kids (Tree m2 r2 s2 kids2 later)) q p = (p.0, AllRoots-behind P n rest (Tree m2 r2 s2 kids2 later) q p.1)
 
 -- the roots stay at most as deep as the first one
 behind_low : (k n : ℕ) (rest : List ℕ) (m : ℕ) (r : List ℕ) (s : List (List ℕ)) (kids later : Forest) → IsForest (Tree m r s kids later) → m ≤ k → AllRoots (λ j. j ≤ k) (Tree m r s kids later)
     → AllRoots (λ j. j ≤ k) (heading_behind n rest (Tree m r s kids later))
-behind_low k n rest m r s kids Empty v le p =
-    elim (cases_Bool (ltb m n)) [
-      | inl e ↦ rw e p
-      | inr e ↦ let low : n ≤ m = grind (arith, nat_tests) in rw e (p.0, (omega (arith, low, le), tt))
-    ]
+behind_low k n rest m r s kids Empty v le p = grind (arith, common_steps)
 behind_low k n rest m r s kids (Tree m2 r2 s2 kids2 later) v le p = (p.0, behind_low k n rest m2 r2 s2 kids2 later v.4 p.1.0 p.1)
 
 IsForest-behind : (n : ℕ) (rest : List ℕ) (f : Forest) → IsHeading n rest [] → IsForest f → IsForest (heading_behind n rest f)
 IsForest-behind n rest Empty h v = (h, tt, tt, tt, tt)
-IsForest-behind n rest (Tree m r s kids Empty) h v =
-    elim (cases_Bool (ltb m n)) [
-      | inl e ↦ let less : m < n = grind (arith, nat_tests) in rw e (v.0, AllRoots-behind (λ k. m < k) n rest kids less v.1, IsForest-behind n rest kids h v.2, tt, tt)
-      | inr e ↦ let low : n ≤ m = grind (arith, nat_tests) in rw e (v.0, v.1, v.2, (low, tt), (h, tt, tt, tt, tt))
-    ]
+IsForest-behind n rest (Tree m r s kids Empty) h v = grind (arith, common_steps, cases_Bool, nat_tests, AllRoots-behind, IsForest-behind n rest kids h v.2)
 IsForest-behind n rest (Tree m r s kids (Tree m2 r2 s2 kids2 later)) h v =
     (v.0, v.1, v.2, behind_low m n rest m2 r2 s2 kids2 later v.4 v.3.0 v.3, IsForest-behind n rest (Tree m2 r2 s2 kids2 later) h v.4)
 

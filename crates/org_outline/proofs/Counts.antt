@@ -1,13 +1,12 @@
 -- How many headings of a text begin before a byte of it.
-use Rattle.std.proofs.Common.{◌≡◌, ℕ, ◌+◌, ◌≤◌, ltb, List, [], ◌∷◌, length, true, refl, sym, ap, subst, ◌∙◌, arith, inl, inr}
+use Rattle.std.proofs.Common.{◌≡◌, ℕ, ltb, List, [], ◌∷◌, true, refl, sym, ap, subst, ◌∙◌, arith}
+use Rattle.std.proofs.lemmas.Grind.{common_steps}
 use Rattle.std.specs.Prelude.{map}
 use Rattle.std.specs.List.{prefix_len}
 use Rattle.std.specs.List.Sorted.{IsNonDecreasingBy}
-use Rattle.std.proofs.lemmas.Bool.{cases_Bool}
-use Rattle.std.proofs.lemmas.List.{length-map}
 use Rattle.org_headings.specs.declared.heads.Heading.{Heading}
 use Rattle.org_splice.specs.Lines.{terminated}
-use Rattle.org_outline.specs.Tree.{Placed, nodes_of, node_count, tree}
+use Rattle.org_outline.specs.Tree.{Placed, nodes_of}
 use Rattle.org_outline.specs.Outline.{heading_of, node_headings}
 use Rattle.org_outline.proofs.Nodes.{node_headings-are}
 use Rattle.org_headings.proofs.HeadsFrom.{heads_from-text}
@@ -21,15 +20,8 @@ headings_rise t hs c same =
 
 by_nodes : (position : ℕ) (ps : List Placed) → prefix_len (λ (h : Heading). ltb h.start position) (map heading_of ps) ≡ prefix_len (λ (p : Placed). ltb p.at position) ps
 by_nodes position [] = refl
-by_nodes position (p ∷ ps) =
-    elim (cases_Bool (ltb p.at position)) [
-      | inl e ↦ rw e (ap (λ n. 1 + n) (by_nodes position ps))
-      | inr e ↦ rw e refl
-    ]
+by_nodes position (p ∷ ps) = grind (arith, common_steps, by_nodes position ps)
 
 -- a count of headings is one of nodes
 pub count_of_nodes : (t : List ℕ) (hs : List Heading) (position n : ℕ) → hs ≡ node_headings t → n ≡ prefix_len (λ (h : Heading). ltb h.start position) hs → n ≡ prefix_len (λ (p : Placed). ltb p.at position) (nodes_of t)
 count_of_nodes t hs position n same is = is ∙ ap (prefix_len (λ (h : Heading). ltb h.start position)) same ∙ by_nodes position (nodes_of t)
-
-pub count_within : (t : List ℕ) (hs : List Heading) (n : ℕ) → hs ≡ node_headings t → n ≤ length hs → n ≤ node_count (tree t)
-count_within t hs n same le = omega (arith, le, ap length same, length-map (nodes_of t) heading_of)

@@ -1,28 +1,23 @@
 -- A path leads to a node of the document.
-use Rattle.std.proofs.Common.{◌≡◌, ℕ, zero, suc, ◌+◌, ◌<◌, ◌≤◌, List, [], ◌∷◌, length, Option, Some, None, Ok, Err, refl, sym, subst, arith, inl, inr}
+use Rattle.std.proofs.Common.{rules, ◌≡◌, ℕ, zero, suc, ◌+◌, ◌<◌, ◌≤◌, List, [], ◌∷◌, length, Option, Some, None, Ok, Err, refl, sym, subst, arith}
+use Rattle.std.proofs.lemmas.Grind.{common_steps}
 use Rattle.std.specs.Prelude.{Result, IfOk, IfSome, slice_get}
 use Rattle.std.specs.List.{AllByRecursion}
 use Rattle.std.specs.Option.{ForSome}
-use Rattle.std.specs.Str.{bytes_eq}
 use Rattle.std.proofs.lemmas.Bool.{cases_Bool}
 use Rattle.std.proofs.lemmas.Result.{IfOk-at_ok}
 use Rattle.org_outline.specs.declared.paths.PathFault.{PathFault}
 use Rattle.org_outline.specs.declared.steps.Step.{Step}
 use Rattle.org_outline.specs.States.{Keywords}
 use Rattle.org_outline.specs.Tree.{Forest, Empty, Tree, Document, Placed, node_at, node_count, nodes, total}
-use Rattle.org_outline.specs.Paths.{title_of, titled_roots, titled_children, titled_nodes, the_only, some_or_fault, the_one, found, child_at, and_below, find_below, find_path, find_headed}
+use Rattle.org_outline.specs.Paths.{titled_roots, titled_children, titled_nodes, the_only, some_or_fault, the_one, found, child_at, and_below, find_below, find_path, find_headed}
 use Rattle.org_outline.proofs.ByNumber.{count-is}
 use Rattle.org_outline.proofs.Taking.{size_of-room}
 
 -- the numbers of roots lie before the number behind the forest
 roots_in : (states : Keywords) (title : List ℕ) (end i : ℕ) (f : Forest) → i + total f ≤ end → AllByRecursion (λ k. k < end) (titled_roots states title i f)
 roots_in states title end i Empty le = tt
-roots_in states title end i (Tree n r s kids later) le =
-    let more = roots_in states title end (suc i + total kids) later (omega (arith, le)) in
-    elim (cases_Bool (bytes_eq (title_of states r) title)) [
-      | inl e ↦ rw e (omega (arith, le), more)
-      | inr e ↦ rw e more
-    ]
+roots_in states title end i (Tree n r s kids later) le = search (rules, arith, cases_Bool, roots_in states title end (suc i + total kids) later (omega (arith, le)))
 
 children_in : (states : Keywords) (d : Document) (up : Option ℕ) (title : List ℕ) → ForSome up (λ i. i < node_count d)
     → AllByRecursion (λ k. k < node_count d) (titled_children states d up title)
@@ -56,9 +51,7 @@ of_found P (Err fault) holds = tt
 
 -- a step leads to a node of the document
 pub child_in : (states : Keywords) (d : Document) (up : Option ℕ) (step : Step) → ForSome up (λ i. i < node_count d) → IfOk (child_at states d up step) (λ i. i < node_count d)
-child_in states d up step within =
-    let P : ℕ → Type 0 = λ i. i < node_count d in
-    of_found P (the_one step.number (titled_children states d up step.title)) (one_in P step.number (titled_children states d up step.title) (children_in states d up step.title within))
+child_in states d up step within = grind (arith, common_steps, of_found, one_in, children_in)
 
 pub of_step : (states : Keywords) (d : Document) (up : Option ℕ) (step : Step) → ForSome up (λ i. i < node_count d) → (r : Result ℕ PathFault) → r ≡ child_at states d up step → IfOk r (λ i. i < node_count d)
 of_step states d up step within r is = subst (λ r. IfOk r (λ i. i < node_count d)) (sym is) (child_in states d up step within)
@@ -88,12 +81,7 @@ found_in states d path i is =
 -- the numbers of nodes lie before the number behind them
 nodes_in : (states : Keywords) (title : List ℕ) (end i : ℕ) (ps : List Placed) → i + length ps ≤ end → AllByRecursion (λ k. k < end) (titled_nodes states title i ps)
 nodes_in states title end i [] le = tt
-nodes_in states title end i (p ∷ ps) le =
-    let more = nodes_in states title end (suc i) ps (omega (arith, le)) in
-    elim (cases_Bool (bytes_eq (title_of states p.node.rest) title)) [
-      | inl e ↦ rw e (omega (arith, le), more)
-      | inr e ↦ rw e more
-    ]
+nodes_in states title end i (p ∷ ps) le = search (rules, arith, cases_Bool, nodes_in states title end (suc i) ps (omega (arith, le)))
 
 pub all_headed_in : (states : Keywords) (d : Document) (step : Step) → Holds (λ i. i < node_count d) (find_headed states d step)
 all_headed_in states d step =

@@ -1,10 +1,11 @@
 -- Where no colon ends a heading line, its title does.
 use Rattle.std.proofs.Common.{◌≡◌, ℕ, suc, ◌+◌, ◌-◌, ◌≤◌, Bool, true, false, ◌&&◌, ◌||◌, eqb, ltb, List, [], ◌∷◌, ◌++◌, length, take, drop, refl, sym, ap, ◌∙◌, append_assoc, arith, inl, inr, eq-eqb, get_or, ◌<◌}
+use Rattle.std.proofs.lemmas.Grind.{common_steps}
 use Rattle.std.specs.Prelude.{reverse}
 use Rattle.std.specs.List.{list_all, prefix_len, suffix_len}
 use Rattle.std.specs.Str.{bytes_eq}
-use Rattle.std.proofs.lemmas.Bool.{cases_Bool, cases_lt, eqb-true}
-use Rattle.std.proofs.lemmas.List.{append-nil, length-append, length-drop, length-take, take_all, take_more, reverse-append, length-reverse}
+use Rattle.std.proofs.lemmas.Bool.{cases_Bool, cases_lt}
+use Rattle.std.proofs.lemmas.List.{append-nil, length-append, length-drop, length-take, take_all, reverse-append, length-reverse}
 use Rattle.std.proofs.lemmas.List.Folds.{list_all-append}
 use Rattle.std.proofs.lemmas.Slice.Eq.{bytes_eq-Decides}
 use Rattle.org_splice.specs.Blanks.{is_blank, is_trailing, is_solid, front, behind, without_end, end_of, trimmed}
@@ -21,11 +22,7 @@ abbrev EndsWithColon : List ℕ → Type 0
 EndsWithColon l = (before : List ℕ) × (l ≡ before ++ 58 ∷ [])
 
 closed_end : (b : ℕ) (l : List ℕ) (inside : Bool) → are_closed_tags inside (b ∷ l) ≡ true → EndsWithColon (b ∷ l)
-closed_end b [] inside e =
-    elim (cases_Bool (eqb b 58)) [
-      | inl is ↦ ([], ap (λ n. n ∷ []) (eqb-true b 58 is))
-      | inr other ↦ absurd (let no : (is_tag_byte b && are_closed_tags true []) ≡ true = rw other at e in let two = both (is_tag_byte b) false no in cc)
-    ]
+closed_end b [] inside e = grind (arith, common_steps)
 closed_end b (c ∷ l) inside e =
     let more : EndsWithColon (c ∷ l) = elim (cases_Bool (eqb b 58)) [
       | inl is ↦ closed_end c l false (both inside (are_closed_tags false (c ∷ l)) (rw is at e)).1
@@ -74,21 +71,7 @@ none_left (b ∷ l) e = absurd (omega (arith, e))
 
 -- a trimmed line of which one part stands at the end, all of it blanks
 no_end : (l a w : List ℕ) → trimmed l ≡ l → l ≡ a ++ w → list_all is_trailing w ≡ true → w ≡ []
-no_end l a w is split all =
-    let p = prefix_len is_blank l in
-    let s = suffix_len is_trailing (drop p l) in
-    let long : length (take (length (drop p l) - s) (drop p l)) ≡ length l = ap length is in
-    let cut : length (drop p l) ≡ length l - p = length-drop p l in
-    let kept : length (take (length (drop p l) - s) (drop p l)) ≤ length (drop p l) - s = omega (arith, length-take (length (drop p l) - s) (drop p l)) in
-    let joined : length l ≡ length a + length w = ap length split ∙ length-append a w in
-    none_left w (elim (cases_lt 0 p) [
-      | inl front ↦ omega (arith, long, cut, kept, joined, front)
-      | inr low ↦
-          let no_front : p ≡ 0 = omega (arith, low) in
-          let end : length w ≤ suffix_len is_trailing l = rw split (end_all is_trailing a w all) in
-          let same : s ≡ suffix_len is_trailing l = ap (λ n. suffix_len is_trailing (drop n l)) no_front in
-          omega (arith, long, cut, kept, end, same, joined, no_front)
-    ])
+no_end l a w is split all = grind (arith, common_steps, length-drop, length-take, length-append, none_left, cases_lt, front, end_all)
 
 trailing_of_blank : (l : List ℕ) → list_all is_blank l ≡ true → list_all is_trailing l ≡ true
 trailing_of_blank [] e = refl
@@ -134,22 +117,14 @@ no_title states rest title no_colon other =
 -- ---- the last byte
 
 last_same : (xs ys : List ℕ) (b c : ℕ) → xs ++ b ∷ [] ≡ ys ++ c ∷ [] → b ≡ c
-last_same xs ys b c e =
-    let turned : b ∷ reverse xs ≡ c ∷ reverse ys = sym (reverse-append xs (b ∷ [])) ∙ ap reverse e ∙ reverse-append ys (c ∷ []) in
-    cc
+last_same xs ys b c e = grind (arith, common_steps)
 
 -- a line that ends with another byte than blanks and carriage returns
 trimmed_last : (front : List ℕ) (b : ℕ) → is_blank b ≡ false → is_trailing b ≡ false → trimmed (front ++ b ∷ []) ≡ behind is_blank front ++ b ∷ []
-trimmed_last front b solid kept =
-    let g = behind is_blank front in
-    let l = g ++ b ∷ [] in
-    let none : suffix_len is_trailing l ≡ 0 = rw (reverse-append g (b ∷ []), kept) refl in
-    ap (without_end is_trailing) (behind-stop is_blank front b [] solid) ∙ ap (λ n. take (length l - n) l) none ∙ take_all (length l - 0) l (omega arith)
+trimmed_last front b solid kept = grind (arith, common_steps, behind, reverse-append, behind-stop, take_all)
 
 last_of : (l : List ℕ) → 0 < length l → l ≡ take (length l - 1) l ++ get_or l (length l - 1) 0 ∷ []
-last_of l some =
-    let next : length l - 1 + 1 ≡ length l = omega (arith, some) in
-    sym (take_all (length l) l (omega arith)) ∙ ap (λ n. take n l) (sym next) ∙ take_more l (length l - 1) 0 (omega (arith, some))
+last_of l some = grind (arith, common_steps)
 
 no_end_title : (states : Keywords) (rest title : List ℕ) → 0 < length rest → 0 < length title
     → eqb (get_or rest (length rest - 1) 0) (get_or title (length title - 1) 0) ≡ false → eqb (get_or rest (length rest - 1) 0) 58 ≡ false
@@ -186,7 +161,4 @@ pub no_end_read : (states : Keywords) (rest title : List ℕ) (r : Bool) → 0 <
     → eqb (get_or rest (length rest - 1) 0) (get_or title (length title - 1) 0) ≡ false
     → r ≡ (eqb (get_or rest (length rest - 1) 0) 58 || is_trailing (get_or rest (length rest - 1) 0)) → r ≡ false
     → bytes_eq (title_of states rest) title ≡ false
-no_end_read states rest title r some some_title other re is =
-    let b = get_or rest (length rest - 1) 0 in
-    let n = neither (eqb b 58) (is_trailing b) (sym re ∙ is) in
-    no_end_title states rest title some some_title other n.0 (blank_of (eqb b 32) (eqb b 9) (eqb b 13) n.1) n.1
+no_end_read states rest title r some some_title other re is = grind (arith, common_steps, neither, no_end_title, blank_of)

@@ -1,9 +1,10 @@
 -- Walks that pass the headings which can't have a title.
 use Rattle.std.proofs.Common.{◌≡◌, ℕ, zero, suc, ◌+◌, ◌-◌, ◌<◌, ◌≤◌, Bool, true, false, not, ltb, List, [], ◌∷◌, ◌++◌, length, drop, take, get_or, Option, None, Result, refl, sym, ap, subst, ◌∙◌, arith, inl, inr}
+use Rattle.std.proofs.lemmas.Grind.{common_steps}
 use Rattle.std.specs.Prelude.{min, nat_lt}
 use Rattle.std.specs.List.{prefix_len, AllByRecursion}
 use Rattle.std.specs.Str.{bytes_eq}
-use Rattle.std.proofs.lemmas.Bool.{cases_Bool, cases_lt}
+use Rattle.std.proofs.lemmas.Bool.{cases_lt}
 use Rattle.std.proofs.lemmas.Bool.Decides.{nat_tests}
 use Rattle.std.proofs.lemmas.List.{take_more, drop_more, length-drop, length-take, length-map, get_or-drop, get_or-take, get_or-map}
 use Rattle.std.proofs.lemmas.List.Sums.{prefix_len_passes, prefix_len_stops, prefix_len-le-length}
@@ -35,20 +36,13 @@ abbrev pub NoneHas : Keywords → List ℕ → List ℕ → ℕ → ℕ → Type
 NoneHas states t title first next = (i : ℕ) → first ≤ i → i < next → bytes_eq (title_of states (node_at (tree t) i).node.rest) title ≡ false
 
 not_so : (b : Bool) → not b ≡ true → b ≡ false
-not_so b is = elim (cases_Bool b) [
-  | inl e ↦ absurd cc
-  | inr e ↦ e
-]
+not_so b is = grind (arith, common_steps)
 
 -- `few` are the kept beginnings from `first` on and before `end`, and `count` of them are passed
 pub none_passed : (states : Keywords) (t title : List ℕ) (lines few : List Beginnings) (first end count : ℕ) (sought : Sought) → AreBeginnings lines (node_headings t) → end ≤ length lines
     → end ≤ node_count (tree t) → few ≡ take (end - first) (drop first lines) → sought ≡ sought_of title → count ≡ prefix_len (λ (line : Beginnings). not (may_have sought line)) few
     → NoneHas states t title first (first + count)
-none_passed states t title lines few first end count sought (inr none) all within fe se ce i low high =
-    let P : Beginnings → Bool = λ line. not (may_have sought line) in
-    let no_end : end ≡ 0 = omega (arith, all, ap (λ (l : List Beginnings). length l) none) in
-    let short : length few ≤ end - first = omega (arith, ap (λ (l : List Beginnings). length l) fe, length-take (end - first) (drop first lines)) in
-    absurd (omega (arith, no_end, short, ce, prefix_len-le-length P few, low, high))
+none_passed states t title lines few first end count sought (inr none) all within fe se ce i low high = grind (arith, common_steps)
 none_passed states t title lines few first end count sought (inl kept) all within fe se ce i low high =
     let P : Beginnings → Bool = λ line. not (may_have sought line) in
     let d : Beginnings = beginnings_of [] in
@@ -71,9 +65,7 @@ none_passed states t title lines few first end count sought (inl kept) all withi
 
 all_pass : (p : Heading → Bool) (xs : List Heading) → AllByRecursion (λ x. p x ≡ true) xs → prefix_len p xs ≡ length xs
 all_pass p [] all = refl
-all_pass p (x ∷ xs) all =
-    let one : 1 + length xs ≡ suc (length xs) = omega arith in
-    rw all.0 (ap (λ k. 1 + k) (all_pass p xs all.1) ∙ one)
+all_pass p (x ∷ xs) all = grind (arith, common_steps, all_pass p xs all.1)
 
 below_top : (t : List ℕ) → AllByRecursion (λ (h : Heading). ltb 0 h.level ≡ true) (node_headings t)
 below_top t =
@@ -112,13 +104,7 @@ deep_at hs level first end i d e low high =
     grind (arith, nat_tests)
 
 stops_at : (hs : List Heading) (level first end : ℕ) (d : Heading) → EndsDeeper hs level first end → first ≤ length hs → end < length hs → level_at hs end d ≤ level
-stops_at hs level first end d e low some =
-    let p : Heading → Bool = λ h. nat_lt level h.level in
-    let n : ℕ = prefix_len p (drop first hs) in
-    let less : n < length (drop first hs) = omega (arith, e, low, some, length-drop first hs) in
-    let here : get_or (drop first hs) n d ≡ get_or hs end d = get_or-drop first hs n d ∙ ap (λ (n : ℕ). get_or hs n d) (sym e) in
-    let not_deeper : nat_lt level (level_at hs end d) ≡ false = ap p (sym here) ∙ prefix_len_stops p (drop first hs) d less in
-    grind (arith, nat_tests)
+stops_at hs level first end d e low some = grind (arith, common_steps, length-drop, get_or-drop, prefix_len_stops, nat_tests)
 
 all_of : (P : Heading → Type 0) (xs : List Heading) (d : Heading) → ((i : ℕ) → i < length xs → P (get_or xs i d)) → AllByRecursion P xs
 all_of P [] d each = tt
@@ -146,9 +132,7 @@ lowest_and n (g ∷ hs) h = lowest_and (min n g.level) hs h
 few_passed : (states : Keywords) (t title : List ℕ) (all : Result (Option ℕ) PathFault) (level deepest index : ℕ) (choice : Choice) (hs : List Heading) (d : Heading) (k : ℕ) → Child_pass states t title all level deepest index choice
     → hs ≡ node_headings t → ((i : ℕ) → index ≤ i → i < index + k → level < level_at hs i d) → NoneHas states t title index (index + k) → index + k ≤ length hs
     → Child_pass states t title all level (lowest_level deepest (take k (drop index hs))) (index + k) choice
-few_passed states t title all level deepest index choice hs d zero p he deep none within =
-    let here : index ≡ index + 0 = omega arith in
-    subst (λ (i : ℕ). Child_pass states t title all level deepest i choice) here p
+few_passed states t title all level deepest index choice hs d zero p he deep none within = grind (arith, common_steps)
 few_passed states t title all level deepest index choice hs d (suc k) p he deep none within =
     let later : List Heading = drop index hs in
     let here : ℕ = index + k in
@@ -222,9 +206,7 @@ search_end states t title all level first end deepest index choice hs s he e low
 
 heads_passed : (states : Keywords) (t title : List ℕ) (all : Result (Option ℕ) PathFault) (index k : ℕ) (choice : Choice) → Heading_walk states t title all index choice → NoneHas states t title index (index + k) → index + k ≤ node_count (tree t)
     → Heading_walk states t title all (index + k) choice
-heads_passed states t title all index zero choice w none within =
-    let here : index ≡ index + 0 = omega arith in
-    subst (λ (i : ℕ). Heading_walk states t title all i choice) here w
+heads_passed states t title all index zero choice w none within = grind (arith, common_steps)
 heads_passed states t title all index (suc k) choice w none within =
     let on : index + k + 1 ≡ index + suc k = omega arith in
     let inside : index + k < node_count (tree t) = omega (arith, within) in
@@ -243,12 +225,7 @@ head_next states t title all index next choice w low high none =
 
 none_above : (n i : ℕ) (best : Option ℕ) (hs : List Heading) → n ≤ 1 → AllByRecursion (λ (h : Heading). ltb 0 h.level ≡ true) hs → last_above n i best hs ≡ best
 none_above n i best [] le all = refl
-none_above n i best (h ∷ hs) le all =
-    let below : ltb 0 h.level ≡ true = all.0 in
-    let isnt : nat_lt h.level n ≡ false = grind (arith, nat_tests) in
-    rw isnt (none_above n (suc i) best hs le all.1)
+none_above n i best (h ∷ hs) le all = grind (arith, common_steps, none_above n (suc i) best hs le all.1)
 
 pub top_has_none : (t : List ℕ) (hs : List Heading) (n j : ℕ) → hs ≡ node_headings t → n ≡ 1 → None ≡ last_above n 0 None (take j hs)
-top_has_none t hs n j he top =
-    let all : AllByRecursion (λ (h : Heading). ltb 0 h.level ≡ true) hs = subst (λ (hs : List Heading). AllByRecursion (λ (h : Heading). ltb 0 h.level ≡ true) hs) (sym he) (below_top t) in
-    sym (none_above n 0 None (take j hs) (omega (arith, top)) (AllByRecursion-take (λ (h : Heading). ltb 0 h.level ≡ true) j hs all))
+top_has_none t hs n j he top = grind (arith, common_steps, below_top, none_above, AllByRecursion-take)

@@ -1,5 +1,6 @@
 -- Every heading has a path: the one whose steps count the headings before with the same title.
 use Rattle.std.proofs.Common.{◌≡◌, ℕ, zero, suc, ◌+◌, ◌-◌, ◌<◌, ◌≤◌, true, cond, ltb, List, [], ◌∷◌, ◌++◌, length, Option, Some, None, Ok, refl, sym, ap, ◌∙◌, append_assoc, length-append, arith, inl, inr}
+use Rattle.std.proofs.lemmas.Grind.{common_steps}
 use Rattle.std.specs.Prelude.{slice_get}
 use Rattle.std.specs.List.{AllByRecursion, filter}
 use Rattle.std.specs.Str.{bytes_eq}
@@ -8,7 +9,7 @@ use Rattle.std.proofs.lemmas.Slice.Eq.{bytes_eq-Decides}
 use Rattle.std.proofs.lemmas.Bool.Decides.{nat_tests}
 use Rattle.org_outline.specs.States.{Keywords}
 use Rattle.org_outline.specs.Tree.{Forest, Empty, Tree, Node, Document, total, node_at, node_count}
-use Rattle.org_outline.specs.Paths.{IsNumbered, and_below, child_at, find_below, find_path, found, path_from, path_of, step_behind, some_or_fault, title_of, titled_roots, titled_children}
+use Rattle.org_outline.specs.Paths.{IsNumbered, and_below, child_at, find_below, find_path, found, path_from, path_of, step_behind, title_of, titled_roots, titled_children}
 use Rattle.org_outline.proofs.ByNumber.{nth, node-is, count-is}
 use Rattle.org_outline.proofs.Children.{StandsAt, stands_behind, stands_below}
 
@@ -32,13 +33,7 @@ same_title title = (bytes_eq-Decides title title).1 refl
 -- the step to the first root of the forest
 child_here : (states : Keywords) (d : Document) (up : Option ℕ) (before : List (List ℕ)) (k n : ℕ) (r : List ℕ) (s : List (List ℕ)) (kids later : Forest)
     → Behind states d up before k (Tree n r s kids later) (title_of states r) → child_at states d up (step_behind states before r) ≡ Ok k
-child_here states d up before k n r s kids later b =
-    let title = title_of states r in
-    let more = titled_roots states title (suc k + total kids) later in
-    let is : titled_children states d up title ≡ b.ks ++ k ∷ more = b.all ∙ ap (λ c. b.ks ++ cond c (k ∷ more) more) (same_title title) in
-    let got : slice_get (titled_children states d up title) (length (with_title title before)) ≡ Some k = ap (λ is. slice_get is (length (with_title title before))) is
-    ∙ ap (λ n. slice_get (b.ks ++ k ∷ more) n) (sym b.many) ∙ at_length b.ks k more in
-    ap (λ met. found (some_or_fault met)) got
+child_here states d up before k n r s kids later b = grind (arith, common_steps, same_title, at_length, found)
 
 behind_first : (states : Keywords) (d : Document) (up : Option ℕ) (before : List (List ℕ)) (k n : ℕ) (r : List ℕ) (s : List (List ℕ)) (kids later : Forest) (title : List ℕ)
     → Behind states d up before k (Tree n r s kids later) title → Behind states d up (title_of states r ∷ before) (suc k + total kids) later title
@@ -91,25 +86,15 @@ path-leads states d i lt =
 
 few : (title : List ℕ) (before : List (List ℕ)) → length (with_title title before) ≤ length before
 few title [] = omega arith
-few title (t ∷ before) =
-    elim (cases_Bool (bytes_eq t title)) [
-      | inl e ↦ rw e (omega (arith, few title before))
-      | inr e ↦ rw e (omega (arith, few title before))
-    ]
+few title (t ∷ before) = grind (arith, common_steps, few title before)
 
 numbered_here : (states : Keywords) (most : ℕ) (before : List (List ℕ)) (r : List ℕ) → suc (length before) ≤ most → IsNumbered most (step_behind states before r)
-numbered_here states most before r fits =
-    let title = title_of states r in
-    record { number = suc (length (with_title title before)); is = refl; low = omega arith; high = omega (arith, few title before, fits) }
+numbered_here states most before r fits = grind (arith, common_steps, few)
 
 numbered_from : (states : Keywords) (most : ℕ) (before : List (List ℕ)) (i : ℕ) (f : Forest) → length before + total f ≤ most → AllByRecursion (IsNumbered most) (path_from states before i f)
 numbered_from states most before i Empty fits = tt
 numbered_from states most before zero (Tree n r s kids later) fits = (numbered_here states most before r (omega (arith, fits)), tt)
-numbered_from states most before (suc i) (Tree n r s kids later) fits =
-    elim (cases_Bool (ltb i (total kids))) [
-      | inl e ↦ rw e (numbered_here states most before r (omega (arith, fits)), numbered_from states most [] i kids (omega (arith, fits)))
-      | inr e ↦ rw e (numbered_from states most (title_of states r ∷ before) (i - total kids) later (omega (arith, fits)))
-    ]
+numbered_from states most before (suc i) (Tree n r s kids later) fits = grind (arith, common_steps, cases_Bool, numbered_here, numbered_from states most [] i kids (omega (arith, fits)), numbered_from states most (title_of states r ∷ before) (i - total kids) later (omega (arith, fits)))
 
 pub path-numbered : (states : Keywords) (d : Document) (i : ℕ) → AllByRecursion (IsNumbered (node_count d)) (path_of states d i)
 path-numbered states d i = numbered_from states (node_count d) [] i d.forest (omega (arith, count-is d))

@@ -1,5 +1,6 @@
 -- What stands behind the stars of a heading line.
 use Rattle.std.proofs.Common.{◌≡◌, ℕ, suc, ◌+◌, ◌<◌, ◌≤◌, List, ◌∷◌, ◌++◌, length, drop, take, get_or, Option, Some, None, sym, ap, subst, ◌∙◌, append_assoc, arith, eq-eqb, refl}
+use Rattle.std.proofs.lemmas.Grind.{common_steps}
 use Rattle.std.specs.Prelude.{replicate}
 use Rattle.std.proofs.lemmas.Bool.{eqb-true}
 use Rattle.std.proofs.lemmas.List.{length-append, length-drop, length-replicate, take_at, drop_at, drop-drop, get_or_at, take_all}
@@ -42,17 +43,11 @@ rest_none t u start level r ue h is rest more p split =
 
 -- what was found is the line up to its newline
 pub line_found : (u s : List ℕ) (e : ℕ) (r : Option ℕ) → Looked u r → r ≡ Some e → s ≡ take e u → IsLine s × ((more : List ℕ) × (u ≡ s ++ 10 ∷ more))
-line_found u s e r h is se =
-    let P : Option ℕ → Type 0 = λ r. IsFirstByte (is_byte 10) u r in
-    let c = cut_found u e (subst P is h.first) in
-    (subst IsLine (sym se) c.line, (drop (suc e) u, c.parts ∙ ap (λ l. l ++ 10 ∷ drop (suc e) u) (sym se)))
+line_found u s e r h is se = grind (arith, common_steps, cut_found)
 
 -- and where there is none, all
 pub line_whole : (u : List ℕ) (r : Option ℕ) → Looked u r → r ≡ None → IsLine u
-line_whole u r h is =
-    let P : Option ℕ → Type 0 = λ r. IsFirstByte (is_byte 10) u r in
-    let g = subst P is h.first in
-    subst IsLine (take_all (length u) u (omega arith)) (line_of (length u) u (λ k lt ten. g k (omega arith) lt (eq-eqb (get_or u k 0) 10 ten)))
+line_whole u r h is = grind (arith, common_steps, take_all, line_of, eq-eqb)
 
 -- the same as the code says it
 record Stands (t : List ℕ) (i : ℕ) (h : Heading) : Type 0 where

@@ -1,6 +1,7 @@
 -- The title of a heading line, or a priority before it, begins_so behind the gap or behind the first
 -- word after it.
-use Rattle.std.proofs.Common.{◌≡◌, ℕ, zero, suc, ◌+◌, ◌-◌, ◌<◌, Bool, true, false, ◌&&◌, ◌||◌, eqb, List, [], ◌∷◌, ◌++◌, length, take, drop, refl, sym, ap, subst, ◌∙◌, append_assoc, arith, inl, inr, eq-eqb}
+use Rattle.std.proofs.Common.{rules, ◌≡◌, ℕ, zero, suc, ◌+◌, ◌-◌, ◌<◌, Bool, true, false, ◌&&◌, ◌||◌, eqb, List, [], ◌∷◌, ◌++◌, length, take, drop, refl, sym, ap, subst, ◌∙◌, append_assoc, arith, inl, inr, eq-eqb}
+use Rattle.std.proofs.lemmas.Grind.{common_steps}
 use Rattle.std.specs.Prelude.{◌⊎◌, slice_index}
 use Rattle.std.specs.Char.{is_ascii_alphanumeric, is_ascii_digit}
 use Rattle.std.specs.List.{prefix_len, suffix_len, starts_with}
@@ -178,10 +179,7 @@ no_title states rest more title tail split some first second =
 
 -- a second byte that doesn't fit is another one
 pub fits_next : (b n p : ℕ) → p ≡ n → (eqb b b && (eqb n 0 || eqb p n)) ≡ true
-fits_next b n p is =
-    let same : eqb b b ≡ true = eq-eqb b b refl in
-    let there : eqb p n ≡ true = eq-eqb p n is in
-    rw (same, there) (elim (cases_Bool (eqb n 0)) [ inl e ↦ rw e refl | inr e ↦ rw e refl ])
+fits_next b n p is = grind (arith, common_steps)
 
 begins_so : (title place : List ℕ) → 0 < length title → Begins title place → may_begin (beginning_of title) (beginning_of place) ≡ false → ⊥
 begins_so title place some (inl bracket) fails =
@@ -219,20 +217,12 @@ cannot_begin states rest title some fails =
     ]
 
 pub cannot_have : (states : Keywords) (rest title : List ℕ) → may_have (sought_of title) (beginnings_of rest) ≡ false → bytes_eq (title_of states rest) title ≡ false
-cannot_have states rest title fails =
-    let n = neither (eqb (length title) 0) (may_begin (beginning_of title) (beginnings_of rest).first || may_begin (beginning_of title) (beginnings_of rest).second) fails in
-    let some : 0 < length title = grind (arith, nat_tests, n.0) in
-    cannot_begin states rest title some n.1
+cannot_have states rest title fails = search (rules, arith, neither, nat_tests, cannot_begin)
 
 no_digit_at : (title place : List ℕ) → Begins title place → 0 < length title → may_begin_date (beginning_of place) ≡ false → is_ascii_digit (slice_index title 0) ≡ false
 no_digit_at [] place found some fails = absurd (omega (arith, some))
-no_digit_at (b ∷ title) place (inl bracket) some fails =
-    let first = (neither (eqb (slice_index place 0) 91) (is_ascii_digit (slice_index place 0)) fails).0 in
-    let yes : eqb (slice_index place 0) 91 ≡ true = eq-eqb (slice_index place 0) 91 bracket in
-    absurd cc
-no_digit_at (b ∷ title) place (inr (more, is)) some fails =
-    let second = (neither (eqb (slice_index place 0) 91) (is_ascii_digit (slice_index place 0)) fails).1 in
-    sym (ap (λ l. is_ascii_digit (slice_index l 0)) is) ∙ second
+no_digit_at (b ∷ title) place (inl bracket) some fails = grind (arith, common_steps)
+no_digit_at (b ∷ title) place (inr (more, is)) some fails = grind (arith, common_steps)
 
 no_digit_in : (title rest : List ℕ) → Somewhere title rest → 0 < length title → may_begin_date (beginnings_of rest).first ≡ false → may_begin_date (beginnings_of rest).second ≡ false
     → is_ascii_digit (slice_index title 0) ≡ false
@@ -254,6 +244,4 @@ no_date states rest fails =
 pub no_title_read : (states : Keywords) (rest more title tail first second : List ℕ) (r s : Bool) → tail ≡ rest ++ 10 ∷ more → 0 < length title
     → first ≡ first_place tail → second ≡ behind is_blank (behind is_solid first) → r ≡ can_begin first title → r ≡ false → s ≡ can_begin second title → s ≡ false
     → bytes_eq (title_of states rest) title ≡ false
-no_title_read states rest more title tail first second r s split some fe se re r_is ce s_is =
-    no_title states rest more title tail split some (ap (λ place. can_begin place title) (sym fe) ∙ sym re ∙ r_is)
-    (ap (λ place. can_begin place title) (sym (se ∙ ap (λ l. behind is_blank (behind is_solid l)) fe)) ∙ sym ce ∙ s_is)
+no_title_read states rest more title tail first second r s split some fe se re r_is ce s_is = grind (arith, common_steps, no_title, behind)

@@ -1,11 +1,12 @@
 -- Each list of lines has exactly one valid document.
-use Rattle.std.proofs.Common.{◌≡◌, ℕ, ◌<◌, ◌≤◌, true, false, ltb, List, [], ◌∷◌, ◌++◌, Option, Some, None, refl, sym, ap, ◌∙◌, append_assoc, arith, inl, inr}
+use Rattle.std.proofs.Common.{rules, ◌≡◌, ℕ, ◌<◌, ◌≤◌, true, false, ltb, List, [], ◌∷◌, ◌++◌, Option, Some, None, refl, sym, ap, ◌∙◌, append_assoc, arith}
+use Rattle.std.proofs.lemmas.Grind.{common_steps}
 use Rattle.std.specs.Prelude.{◌≢◌, replicate}
 use Rattle.std.specs.List.{AllByRecursion}
 use Rattle.std.proofs.lemmas.Bool.{cases_Bool}
 use Rattle.std.proofs.lemmas.Bool.Decides.{nat_tests}
 use Rattle.std.proofs.lemmas.List.{append-nil}
-use Rattle.org_splice.specs.Lines.{print_lines, IsLine, lines_of, terminated}
+use Rattle.org_splice.specs.Lines.{IsLine, terminated}
 use Rattle.org_splice.proofs.Lines.{lines_of-lines, lines_of-print_lines, lines_of-terminated, print_lines-lines_of}
 use Rattle.org_headings.specs.Text.{level_of, heading_line}
 use Rattle.org_outline.specs.Tree.{Forest, Empty, Tree, Document, lines, AllRoots, IsPlain, IsForest, IsValid, IsTreeOf, deeper, others, with_line, tree_of_lines, tree}
@@ -17,13 +18,7 @@ use Rattle.org_splice.proofs.AllLines.{AllByRecursion-append, AllByRecursion-dro
 
 pub lines-deeper : (n : ℕ) (f : Forest) → lines (deeper n f) ++ lines (others n f) ≡ lines f
 lines-deeper n Empty = refl
-lines-deeper n (Tree m r s kids later) =
-    elim (cases_Bool (ltb n m)) [
-      | inl e ↦ rw e (ap (λ ls. heading_line m r ∷ ls) (
-          append_assoc s (lines kids ++ lines (deeper n later)) (lines (others n later))
-          ∙ ap (λ ls. s ++ ls) (append_assoc (lines kids) (lines (deeper n later)) (lines (others n later)) ∙ ap (λ ls. lines kids ++ ls) (lines-deeper n later))))
-      | inr e ↦ rw e refl
-    ]
+lines-deeper n (Tree m r s kids later) = grind (arith, common_steps, lines-deeper n later)
 
 pub AllRoots-mono : (P Q : ℕ → Type 0) (f : Forest) → ((m : ℕ) → P m → Q m) → AllRoots P f → AllRoots Q f
 AllRoots-mono P Q Empty h p = tt
@@ -31,43 +26,23 @@ AllRoots-mono P Q (Tree n r s kids later) h p = (h n p.0, AllRoots-mono P Q late
 
 AllRoots-deeper : (P : ℕ → Type 0) (n : ℕ) (f : Forest) → AllRoots P f → AllRoots P (deeper n f)
 AllRoots-deeper P n Empty p = tt
-AllRoots-deeper P n (Tree m r s kids later) p =
-    elim (cases_Bool (ltb n m)) [
-      | inl e ↦ rw e (p.0, AllRoots-deeper P n later p.1)
-      | inr e ↦ rw e tt
-    ]
+AllRoots-deeper P n (Tree m r s kids later) p = grind (arith, common_steps, AllRoots-deeper P n later p.1)
 
 pub deeper-roots : (n : ℕ) (f : Forest) → AllRoots (λ m. n < m) (deeper n f)
 deeper-roots n Empty = tt
-deeper-roots n (Tree m r s kids later) =
-    elim (cases_Bool (ltb n m)) [
-      | inl e ↦ let lt : n < m = grind (arith, nat_tests) in rw e (lt, deeper-roots n later)
-      | inr e ↦ rw e tt
-    ]
+deeper-roots n (Tree m r s kids later) = grind (arith, common_steps, deeper-roots n later)
 
 pub IsForest-deeper : (n : ℕ) (f : Forest) → IsForest f → IsForest (deeper n f)
 IsForest-deeper n Empty p = tt
-IsForest-deeper n (Tree m r s kids later) p =
-    elim (cases_Bool (ltb n m)) [
-      | inl e ↦ rw e (p.0, p.1, p.2, AllRoots-deeper (λ k. k ≤ m) n later p.3, IsForest-deeper n later p.4)
-      | inr e ↦ rw e tt
-    ]
+IsForest-deeper n (Tree m r s kids later) p = grind (arith, common_steps, cases_Bool, AllRoots-deeper, IsForest-deeper n later p.4)
 
 pub others-roots : (n : ℕ) (f : Forest) → IsForest f → AllRoots (λ m. m ≤ n) (others n f)
 others-roots n Empty p = tt
-others-roots n (Tree m r s kids later) p =
-    elim (cases_Bool (ltb n m)) [
-      | inl e ↦ rw e (others-roots n later p.4)
-      | inr e ↦ let le : m ≤ n = grind (arith, nat_tests) in rw e (le, AllRoots-mono (λ k. k ≤ m) (λ k. k ≤ n) later (λ k h. omega arith) p.3)
-    ]
+others-roots n (Tree m r s kids later) p = grind (arith, common_steps, cases_Bool, nat_tests, AllRoots-mono, others-roots n later p.4)
 
 pub IsForest-others : (n : ℕ) (f : Forest) → IsForest f → IsForest (others n f)
 IsForest-others n Empty p = tt
-IsForest-others n (Tree m r s kids later) p =
-    elim (cases_Bool (ltb n m)) [
-      | inl e ↦ rw e (IsForest-others n later p.4)
-      | inr e ↦ rw e p
-    ]
+IsForest-others n (Tree m r s kids later) p = grind (arith, common_steps, IsForest-others n later p.4)
 
 -- ---- there is one
 
@@ -84,28 +59,14 @@ lines-tree_of_lines (l ∷ ls) = lines-with_line (level_of l) l (tree_of_lines l
 
 valid-with_line : (o : Option ℕ) (l : List ℕ) (d : Document) → level_of l ≡ o → IsLine l → IsValid d → IsValid (with_line o l d)
 valid-with_line None l d e p v = record { preamble = ((p, e), v.preamble); forest = v.forest }
-valid-with_line (Some n) l d e p v =
-    let h = level_of-some l n e in
-    record {
-      preamble = tt;
-      forest = (
-        record { level = h.level; space = h.space; rest = AllByRecursion-drop (λ b. b ≢ 10) n l p; section = v.preamble },
-        deeper-roots n d.forest,
-        IsForest-deeper n d.forest v.forest,
-        others-roots n d.forest v.forest,
-        IsForest-others n d.forest v.forest,
-      );
-    }
+valid-with_line (Some n) l d e p v = grind (arith, common_steps, level_of-some, AllByRecursion-drop, deeper-roots, IsForest-deeper, others-roots, IsForest-others)
 
 pub valid-tree_of_lines : (ls : List (List ℕ)) → AllByRecursion IsLine ls → IsValid (tree_of_lines ls)
 valid-tree_of_lines [] p = record { preamble = tt; forest = tt }
 valid-tree_of_lines (l ∷ ls) p = valid-with_line (level_of l) l (tree_of_lines ls) refl p.0 (valid-tree_of_lines ls p.1)
 
 pub tree-is : (t : List ℕ) → IsTreeOf t (tree t)
-tree-is t = record {
-  valid = valid-tree_of_lines (lines_of t) (lines_of-lines t);
-  prints = ap print_lines (lines-tree_of_lines (lines_of t)) ∙ print_lines-lines_of t;
-}
+tree-is t = grind (arith, common_steps, valid-tree_of_lines, lines_of-lines, lines-tree_of_lines, print_lines-lines_of)
 
 -- a text and the terminated text have one tree
 pub tree-terminated : (t : List ℕ) → tree (terminated t) ≡ tree t
@@ -151,9 +112,7 @@ document p f = record { preamble = p; forest = f }
 
 tree_of_plain : (s ls : List (List ℕ)) → AllByRecursion IsPlain s → tree_of_lines (s ++ ls) ≡ document (s ++ (tree_of_lines ls).preamble) (tree_of_lines ls).forest
 tree_of_plain [] ls p = refl
-tree_of_plain (l ∷ s) ls p =
-    let e : level_of l ≡ None = p.0.1 in
-    rw (e, tree_of_plain s ls p.1) refl
+tree_of_plain (l ∷ s) ls p = grind (arith, common_steps, tree_of_plain s ls p.1)
 
 tree_of_forest : (f g : Forest) (ls : List (List ℕ)) → IsForest f → tree_of_lines ls ≡ document [] g → NotBelow f g
     → tree_of_lines (lines f ++ ls) ≡ document [] (joined f g)
@@ -191,17 +150,10 @@ IsLine-heading n r p = AllByRecursion-append (λ b. b ≢ 10) (replicate n 42) r
 
 pub lines-are : (f : Forest) → IsForest f → AllByRecursion IsLine (lines f)
 lines-are Empty v = tt
-lines-are (Tree n r s kids later) v = (
-  IsLine-heading n r v.0.rest,
-  AllByRecursion-append IsLine s (lines kids ++ lines later) (IsPlain-lines s v.0.section)
-      (AllByRecursion-append IsLine (lines kids) (lines later) (lines-are kids v.2) (lines-are later v.4)),
-)
+lines-are (Tree n r s kids later) v = search (rules, arith, IsLine-heading, AllByRecursion-append, lines, IsPlain-lines, lines-are kids v.2, lines-are later v.4)
 
 pub document-lines : (d : Document) → IsValid d → AllByRecursion IsLine (d.preamble ++ lines d.forest)
 document-lines d v = AllByRecursion-append IsLine d.preamble (lines d.forest) (IsPlain-lines d.preamble v.preamble) (lines-are d.forest v.forest)
 
 pub one_tree : (t : List ℕ) (d : Document) → IsTreeOf t d → d ≡ tree t
-one_tree t d h =
-    let all : lines_of t ≡ d.preamble ++ lines d.forest =
-    sym (lines_of-terminated t) ∙ ap lines_of (sym h.prints) ∙ lines_of-print_lines (d.preamble ++ lines d.forest) (document-lines d h.valid) in
-    sym (tree_of-lines d h.valid) ∙ ap tree_of_lines (sym all)
+one_tree t d h = grind (arith, common_steps, lines, lines_of-terminated, lines_of-print_lines, document-lines, tree_of-lines)

@@ -1,8 +1,8 @@
 -- Lists that are gone through from the front: what is read so far, and the first that meets a test.
 use Rattle.std.proofs.Common.{◌≡◌, ◌∙◌, ap, sym, subst, refl, ℕ, zero, suc, ◌+◌, ◌<◌, Bool, true, false, cond, List, [], ◌∷◌, ◌++◌, map, take, length, get_or, Option, Some, None, arith}
+use Rattle.std.proofs.lemmas.Grind.{common_steps}
 use Rattle.std.specs.Prelude.{find}
 use Rattle.std.proofs.lemmas.Option.{none-some}
-use Rattle.std.proofs.lemmas.List.{map-append, take_more}
 
 module _ {X : Type 0} where
   past : (b : Bool) (x : X) (rest : Option X) → cond b (Some x) rest ≡ None → (b ≡ false) × (rest ≡ None)
@@ -42,9 +42,7 @@ module _ {S X : Type 0} (f : S → X) where
   -- what is read so far, with one more
   pub mapped_more : (i : ℕ) (ss : List S) (s : S) (xs : List X) (x : X) → i < length ss → s ≡ get_or ss i s → xs ≡ map f (take i ss) → x ≡ f s
       → xs ++ x ∷ [] ≡ map f (take (i + 1) ss)
-  mapped_more i ss s xs x within is so_far more =
-      ap (λ l. l ++ x ∷ []) so_far ∙ ap (λ y. map f (take i ss) ++ y ∷ []) (more ∙ ap f is)
-      ∙ sym (map-append f (take i ss) (get_or ss i s ∷ [])) ∙ ap (map f) (sym (take_more ss i s within))
+  mapped_more i ss s xs x within is so_far more = grind (arith, common_steps)
 
 -- of two lists, one behind the other
 module _ {X : Type 0} (test : X → Bool) where

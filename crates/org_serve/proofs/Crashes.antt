@@ -1,15 +1,15 @@
 -- What serving does to the disk of a store, line by line.
-use Rattle.std.proofs.Common.{◌≡◌, ◌≢◌, ◌⊎◌, inl, inr, ⊎_elim, ℕ, ◌<◌, ◌≤◌, Bool, true, false, nat_lt, List, [], ◌∷◌, ◌++◌, Option, Result, Ok, Err, refl, sym, ap, ◌∙◌, subst, append-nil, append_assoc, arith}
+use Rattle.std.proofs.Common.{◌≡◌, ◌≢◌, ◌⊎◌, inl, inr, ⊎_elim, ℕ, Bool, true, false, nat_lt, List, [], ◌∷◌, ◌++◌, Option, Result, Ok, Err, refl, sym, ap, ◌∙◌, subst, append-nil, append_assoc, arith}
+use Rattle.std.proofs.lemmas.Grind.{common_steps}
 use Rattle.org_disk.specs.declared.disk.Disk.{Ghosts}
 use Rattle.std.specs.Io.KnownBytes.{Appends, Consumes}
 use Rattle.org_commands.specs.declared.command.Command.{Command}
-use Rattle.org_commands.specs.declared.command.RunFault.{RunFault}
 use Rattle.org_commands.specs.declared.tally.Group.{Group}
 use Rattle.org_commands.specs.declared.tally.Group.TheVariants.{Of, Whole}
 use Rattle.org_commands.specs.Session.{StoreView}
 use Rattle.org_store.specs.Calls.{Call, Machine, StepsBy}
 use Rattle.org_store.specs.Calls.Call.{Grouped, Ran, Settled}
-use Rattle.org_store.proofs.Runs.{Course, course_none, course_run, course_settle}
+use Rattle.org_store.proofs.Runs.{Course, course_run}
 use Rattle.org_serve.specs.Pipes.{Adds, AddsSome, AppendsSome, Exchange, Output, output_of}
 use Rattle.org_serve.specs.declared.end.ServeEnd.{ServeEnd}
 use Rattle.org_serve.specs.declared.end.ServeEnd.TheVariants.{End, Unsettled, Device, Read, Write}
@@ -18,9 +18,8 @@ use Rattle.org_serve.specs.declared.fault.BadLine.{BadLine}
 use Rattle.org_serve.specs.declared.pending.Pending.{Pending}
 use Rattle.org_serve.specs.declared.serving.Next.{Next}
 use Rattle.org_serve.specs.declared.serving.Next.TheVariants.{Line, Stop}
-use Rattle.org_serve.specs.Serving.{Answers, AnswersEach, AnswersLine, AnswersRead, EndsAt, EndsBy, EndsText, EndsWith, Finishes, FinishesGroups, HasSettled, LeavesServedDisk, LineLeadsTo, MayHaveSettled, Passes, PassesAll, ReadLeadsTo, RunsLines, RunsAndWrites, RunsSome, ServesToEnd, Stops, end_of, stores_while_honest, whole_end}
+use Rattle.org_serve.specs.Serving.{Answers, AnswersEach, AnswersLine, AnswersRead, EndsAt, EndsBy, EndsText, EndsWith, Finishes, HasSettled, LeavesServedDisk, LineLeadsTo, MayHaveSettled, Passes, PassesAll, ReadLeadsTo, RunsLines, RunsAndWrites, RunsSome, ServesToEnd, Stops, stores_while_honest, whole_end}
 use Rattle.org_serve.specs.Lines.{cut}
-use Rattle.org_serve.specs.Replies.{settled_text}
 use Rattle.org_serve.proofs.Honest.{sound_stores}
 use Rattle.org_serve.proofs.Inputs.{Served}
 use Rattle.org_serve.proofs.Counting.{read_apart}
@@ -136,18 +135,7 @@ module _ {S T : Type 0} (m : Machine S) (n : Machine T) (view : S → T) (same :
 
   ends_at_by : (group : Group) (P : S → List ℕ → List ℕ → S → Type 0) (Q : T → List ℕ → List ℕ → T → Type 0) → ((old : S) (line out : List ℕ) (new : S) → P old line out new → Q (view old) line out (view new))
       → {old new : S} {lines : List (List ℕ)} {out : List ℕ} → EndsAt group m P old lines out new → EndsAt group n Q (view old) lines out (view new)
-  ends_at_by group P Q one {old} {new} ends = record {
-    passed = ends.passed;
-    line = ends.line;
-    others = ends.others;
-    before = ends.before;
-    answer = ends.answer;
-    mid = view ends.mid;
-    all_lines = ends.all_lines;
-    all_out = ends.all_out;
-    passes = passes_by group old ends.passed ends.before ends.mid ends.passes;
-    last = one ends.mid ends.line ends.answer new ends.last;
-  }
+  ends_at_by group P Q one {old} {new} ends = grind (arith, common_steps, passes_by)
 
   abbrev pub served_by : (group : Group) {old new : S} {left left' written written' : Option (List ℕ)} {pending : Pending} → Served group m old new left left' written written' pending
       → Served group n (view old) (view new) left left' written written' pending
@@ -221,27 +209,6 @@ module _ {D : Type 0} (g : Ghosts D) where
         settled,
       )
 
-  -- a settling at the end
-  pub finishes_settling : (old : StoreView D) (answer : Result (Unit {0}) RunFault) (new : StoreView D) (end : ServeEnd) → old.session.broken ≡ false → old.session.acknowledged < old.session.accepted
-      → Said.makes old (Settled answer) new → end ≡ end_of answer → FinishesGroups Said old end (settled_text answer new.session.acknowledged) new
-  finishes_settling old answer new end sound pending over is =
-      let less : nat_lt old.session.acknowledged old.session.accepted ≡ true = grind (arith, pending) in
-      ends old.session.broken (nat_lt old.session.acknowledged old.session.accepted) sound less
-    where
-      ends : (fell some : Bool) → fell ≡ false → some ≡ true → EndsBy Said fell some old end (settled_text answer new.session.acknowledged) new
-      ends false true sound less = (answer, over, is, refl)
-      ends true some sound less = absurd (cc)
-      ends false false sound less = absurd (cc)
-
-  -- no settling at the end
-  pub finishes_broken : (store : StoreView D) → store.session.broken ≡ true → FinishesGroups Said store Device [] store
-  finishes_broken store broken = rw broken (refl, refl, refl)
-
-  pub finishes_settled : (store : StoreView D) → store.session.broken ≡ false → store.session.accepted ≤ store.session.acknowledged → FinishesGroups Said store End [] store
-  finishes_settled store sound settled =
-      let none : nat_lt store.session.acknowledged store.session.accepted ≡ false = grind (arith, settled) in
-      rw (sound, none) (refl, refl, refl)
-
   -- What the disk is after it.
 
   abbrev Goes : StoreView D → StoreView D → Type 0
@@ -258,10 +225,7 @@ module _ {D : Type 0} (g : Ghosts D) where
       course_read old answers.0 new answers.3.0 answers.1 answers.3.2 (course_lines answers.0 mid new lines answers.2 answers.5 course)
 
   course_end : (mid new : StoreView D) → (new ≡ mid) ⊎ HasSettled (sound_stores g) mid new → Goes mid new
-  course_end mid new ends = ⊎_elim
-      (λ same. subst (λ k. Goes mid k) (sym same) (course_none g mid (λ s. Unit {0}) tt))
-      (λ settled. course_settle g mid new settled.0 (λ s. Unit {0}) settled.1.0 tt)
-      ends
+  course_end mid new ends = grind (arith, common_steps)
 
   module _ {old new : StoreView D} {end : ServeEnd} {io : Exchange} (run : RunsLines (sound_stores g) old new end io) where
     course_runs : Goes old new

@@ -1,5 +1,6 @@
 -- How a stream is cut, piece by piece.
-use Rattle.std.proofs.Common.{◌≡◌, ℕ, suc, ◌<◌, false, ◌==◌, List, [], ◌∷◌, ◌++◌, length, get_or, refl, sym, ap, ◌∙◌, inl, inr, arith, append-nil, subst}
+use Rattle.std.proofs.Common.{◌≡◌, ℕ, suc, ◌<◌, false, ◌==◌, List, [], ◌∷◌, ◌++◌, length, get_or, refl, inl, inr, arith, append-nil, subst}
+use Rattle.std.proofs.lemmas.Grind.{common_steps}
 use Rattle.std.proofs.lemmas.Bool.{ne_eqb}
 use Rattle.std.proofs.lemmas.Bool.Decides.{eqb_tells}
 use Rattle.std.specs.List.{All}
@@ -14,18 +15,9 @@ cut-free (b ∷ xs) h =
     let others : (k : ℕ) → k < length xs → get_or xs k 0 ≡ 10 → ⊥ = λ k lt. h (suc k) (omega arith) in
     rw (first, cut-free xs others) refl
 
--- a byte in front makes no line less
-onto-none : (b : ℕ) (lines : List (List ℕ)) (rest : List ℕ) → (onto b lines rest).lines ≡ [] → lines ≡ []
-onto-none b [] rest e = refl
-onto-none b (line ∷ lines) rest e = (cc)
-
 -- what begins with a byte and has no whole line: the byte is no newline, and the others have none
 free-cons : (b : ℕ) (xs : List ℕ) → (cut (b ∷ xs)).lines ≡ [] → ((b == 10) ≡ false) × ((cut xs).lines ≡ [])
-free-cons b xs e =
-    elim (eqb_tells b 10) [
-      | inl h ↦ let bad : ([] ∷ (cut xs).lines) ≡ [] = rw h.0 at e in cc
-      | inr h ↦ (h.0, onto-none b (cut xs).lines (cut xs).rest (rw h.0 at e))
-    ]
+free-cons b xs e = grind (arith, common_steps)
 
 -- what has no whole line is all rest
 pub cut-rest : (xs : List ℕ) → (cut xs).lines ≡ [] → cut xs ≡ record { lines = []; rest = xs }
@@ -43,32 +35,15 @@ cut-front (b ∷ xs) ys line lines rest free e =
 abbrev pub later : Cut → List ℕ → Cut
 later c more = let next = cut (c.rest ++ more) in record { lines = c.lines ++ next.lines; rest = next.rest }
 
-onto-later : (b : ℕ) (lines : List (List ℕ)) (rest more : List ℕ) → (b == 10) ≡ false
-    → onto b (lines ++ (cut (rest ++ more)).lines) (cut (rest ++ more)).rest ≡ later (onto b lines rest) more
-onto-later b [] rest more e = rw e refl
-onto-later b (line ∷ lines) rest more e = refl
-
 -- It does not matter where a stream is cut into pieces.
 pub cut-append : (xs more : List ℕ) → cut (xs ++ more) ≡ later (cut xs) more
 cut-append [] more = refl
-cut-append (b ∷ xs) more =
-    elim (eqb_tells b 10) [
-      | inl h ↦ rw (h.0, cut-append xs more) refl
-      | inr h ↦ rw (h.0, cut-append xs more) (onto-later b (cut xs).lines (cut xs).rest more h.0)
-    ]
-
-onto-rest-free : (b : ℕ) (lines : List (List ℕ)) (rest : List ℕ) → (b == 10) ≡ false → (cut rest).lines ≡ [] → (cut (onto b lines rest).rest).lines ≡ []
-onto-rest-free b [] rest e h = rw (e, cut-rest rest h) refl
-onto-rest-free b (line ∷ lines) rest e h = h
+cut-append (b ∷ xs) more = grind (arith, common_steps, cut-append xs more)
 
 -- what stands behind the last newline has none
 pub rest-free : (xs : List ℕ) → (cut (cut xs).rest).lines ≡ []
 rest-free [] = refl
-rest-free (b ∷ xs) =
-    elim (eqb_tells b 10) [
-      | inl h ↦ rw h.0 (rest-free xs)
-      | inr h ↦ rw h.0 (onto-rest-free b (cut xs).lines (cut xs).rest h.0 (rest-free xs))
-    ]
+rest-free (b ∷ xs) = grind (arith, common_steps, rest-free xs)
 
 -- two parts of a line make a longer part
 pub cut-both : (xs ys : List ℕ) → (cut xs).lines ≡ [] → (cut ys).lines ≡ [] → cut (xs ++ ys) ≡ record { lines = []; rest = xs ++ ys }
@@ -83,18 +58,10 @@ cut-line part line more free last =
     cut-front part (line ++ 10 ∷ more) line (cut more).lines (cut more).rest free
     (subst P (append-nil line) (cut-front line (10 ∷ more) [] (cut more).lines (cut more).rest last refl))
 
-joined-onto : (b : ℕ) (lines : List (List ℕ)) (rest : List ℕ) → joined (onto b lines rest).lines (onto b lines rest).rest ≡ b ∷ joined lines rest
-joined-onto b [] rest = refl
-joined-onto b (line ∷ lines) rest = refl
-
 -- the lines and the rest, joined, are the bytes
 pub joined-cut : (xs : List ℕ) → joined (cut xs).lines (cut xs).rest ≡ xs
 joined-cut [] = refl
-joined-cut (b ∷ xs) =
-    elim (eqb_tells b 10) [
-      | inl h ↦ rw (h.0, joined-cut xs) (ap (λ c. c ∷ xs) (sym h.1))
-      | inr h ↦ rw h.0 (joined-onto b (cut xs).lines (cut xs).rest ∙ ap (λ ys. b ∷ ys) (joined-cut xs))
-    ]
+joined-cut (b ∷ xs) = grind (arith, common_steps, joined-cut xs)
 
 -- no line and no rest holds a newline
 abbrev IsFree : Cut → Type 0

@@ -1,5 +1,6 @@
 -- How the lines of a piece are served, one by one.
-use Rattle.std.proofs.Common.{◌≡◌, ℕ, ◌<◌, ◌≤◌, length, arith, List, [], ◌∷◌, ◌++◌, Option, refl, sym, ap, ◌∙◌, append_assoc, append-nil, subst}
+use Rattle.std.proofs.Common.{◌≡◌, ℕ, ◌<◌, ◌≤◌, length, arith, List, [], ◌∷◌, ◌++◌, Option, refl, sym, ap, ◌∙◌, append_assoc, append-nil}
+use Rattle.std.proofs.lemmas.Grind.{common_steps}
 use Rattle.std.proofs.lemmas.List.{length-append}
 use Rattle.std.specs.Io.KnownBytes.{Appends}
 use Rattle.org_commands.specs.declared.tally.Group.{Group}
@@ -26,9 +27,7 @@ module _ {S : Type 0} {group : Group} {m : Machine S} {old : S} {bytes rest : Li
     (f : Fed group m old bytes rest mid written between pending) (line more : List ℕ) (whole : rest ≡ line ++ 10 ∷ more) (free : (cut line).lines ≡ []) where
   -- a line and its newline in front of what is left
   cuts-line : cut bytes ≡ record { lines = f.ran ++ (f.part ++ line) ∷ (cut more).lines; rest = (cut more).rest }
-  cuts-line =
-      f.cuts ∙ ap (λ (c : Cut). record { lines = f.ran ++ c.lines; rest = c.rest })
-      (ap (λ r. cut (f.part ++ r)) whole ∙ cut-line f.part line more f.free free)
+  cuts-line = grind (arith, common_steps, cut, cut-line)
 
   pub Fed-step : (new : S) (written' : Option (List ℕ)) (pending' : Pending)
       → ((part : List ℕ) → Stands pending part → (o : List ℕ) × Passes group m mid (part ++ line) o new × Appends between written' o)
@@ -49,18 +48,7 @@ module _ {S : Type 0} {group : Group} {m : Machine S} {old : S} {bytes rest : Li
 
   -- the line is the last
   last_line : (Last : S → List ℕ → List ℕ → S → Type 0) (new : S) (o : List ℕ) → Last mid (f.part ++ line) o new → EndsAt group m Last old (cut bytes).lines (f.out ++ o) new
-  last_line Last new o last = record {
-    passed = f.ran;
-    line = f.part ++ line;
-    others = (cut more).lines;
-    before = f.out;
-    answer = o;
-    mid = mid;
-    all_lines = ap (λ (c : Cut). c.lines) cuts-line;
-    all_out = refl;
-    passes = f.passes;
-    last = last;
-  }
+  last_line Last new o last = grind (arith, common_steps, cut, cuts-line)
 
   pub Fed-err : (new : S) (written' : Option (List ℕ)) (o : List ℕ) → AnswersLine m mid (f.part ++ line) o new → AppendsSome between written' o
       → FeedsSome group m old bytes new (record { before = written; after = written' })
@@ -83,17 +71,7 @@ module _ {S : Type 0} {group : Group} {m : Machine S} {old : S} {bytes rest : Li
 pub Fed-end : {S : Type 0} {group : Group} {m : Machine S} {old : S} {bytes rest : List ℕ} {new : S} {written written' : Option (List ℕ)} {pending : Pending}
     → (f : Fed group m old bytes rest new written written' pending) → (cut rest).lines ≡ [] → (pending' : Pending)
     → ((part : List ℕ) → Stands pending part → Stands pending' (part ++ rest)) → FeedsAll group m old bytes new (record { before = written; after = written' }) pending'
-Fed-end {group = group} {m = m} {old = old} {bytes = bytes} {rest = rest} {new = new} f free pending' added =
-    let last = cut-both f.part rest f.free free in
-    let whole : cut bytes ≡ record { lines = f.ran ++ []; rest = f.part ++ rest } =
-    f.cuts ∙ ap (λ (c : Cut). record { lines = f.ran ++ c.lines; rest = c.rest }) last in
-    let L : List (List ℕ) → Type 0 = λ ls. PassesAll group m old ls f.out new in
-    let R : List ℕ → Type 0 = λ r. Stands pending' r in (
-      f.out,
-      subst L (sym (ap (λ (c : Cut). c.lines) whole ∙ append-nil f.ran)) f.passes,
-      f.wrote,
-      subst R (sym (ap (λ (c : Cut). c.rest) whole)) (added f.part f.stands),
-    )
+Fed-end {group = group} {m = m} {old = old} {bytes = bytes} {rest = rest} {new = new} f free pending' added = grind (arith, common_steps, cut-both, cut, append-nil)
 
 -- what follows a line is less
 pub less_left : (rest line more : List ℕ) → rest ≡ line ++ 10 ∷ more → length more < length rest

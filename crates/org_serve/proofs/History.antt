@@ -1,5 +1,6 @@
 -- What a crash leaves of a run that is reported in one list of texts.
 use Rattle.std.proofs.Common.{◌≡◌, ◌⊎◌, inl, inr, ⊎_elim, ℕ, ◌≤◌, false, List, [], ◌∷◌, Option, Some, None, Result, Ok, Err, refl, sym, ap, ◌∙◌, subst, arith}
+use Rattle.std.proofs.lemmas.Grind.{common_steps}
 use Rattle.org_disk.specs.declared.disk.Disk.{Ghosts}
 use Rattle.std.specs.Prelude.{slice_get, IsSomeAnd}
 use Rattle.std.proofs.lemmas.Option.{slice_get_within}
@@ -18,8 +19,8 @@ use Rattle.org_commands.specs.Outcome.{outcome}
 use Rattle.org_commands.specs.Step.{Step}
 use Rattle.org_store.specs.History.{Trace, Lists, HoldsPrefix}
 use Rattle.org_store.specs.Runs.{IsOnDisk}
-use Rattle.org_store.proofs.History.{Begin, Counts, Stands, Texts, adds, begin_adds, further, lists_settling, lists_step, same_or_sound, texts_after, torn}
-use Rattle.org_store.proofs.Runs.{Course, HaveTexts, IsBetween, course_none, course_run, course_settle, falls, holds_back, on_disk_after}
+use Rattle.org_store.proofs.History.{Begin, Counts, Stands, Texts, adds, begin_adds, further, lists_step, same_or_sound, texts_after, torn}
+use Rattle.org_store.proofs.Runs.{Course, HaveTexts, IsBetween, course_none, course_run, falls, holds_back, on_disk_after}
 use Rattle.org_store.specs.Calls.{Call, Machine, StepsBy, model}
 use Rattle.org_store.specs.Calls.Call.{Grouped, Ran, Settled}
 use Rattle.org_serve.specs.Pipes.{Exchange}
@@ -56,10 +57,7 @@ module _ {D : Type 0} (g : Ghosts D) where
 
   lift_end : (mid : Trace D) (new : StoreView D) → (new ≡ mid.store) ⊎ HasSettled (stores_while_honest g) mid.store new
       → let last : Trace D = record { store = new; texts = mid.texts } in (last ≡ mid) ⊎ HasSettled (traces_while_honest g) mid last
-  lift_end mid new ends = ⊎_elim
-      (λ same. inl (ap (λ (k : StoreView D). record { store = k; texts = mid.texts }) same))
-      (λ settled. inr (settled.0, record { before = settled.1.before; did = λ here. (settled.1.did here, refl) }))
-      ends
+  lift_end mid new ends = grind (arith, common_steps)
 
   lift_settled : (group : Group) (mid : Trace D) (new : StoreView D) → MayHaveSettled group (stores_while_honest g) mid.store new
       → MayHaveSettled group (traces_while_honest g) mid (record { store = new; texts = mid.texts })
@@ -130,10 +128,7 @@ module _ {D : Type 0} (g : Ghosts D) where
   lists_lines old new (line ∷ lines) out a here = lists_lines a.0 new lines a.2 a.5 (lists_read old a.3.0 a.1 a.0 a.3.2 here)
 
   pub lists_end : (mid last : Trace D) → (last ≡ mid) ⊎ HasSettled Sound mid last → Lists mid.store.session mid.texts → Lists last.store.session last.texts
-  lists_end mid last ends lists = ⊎_elim
-      (λ same. subst (λ (p : Trace D). Lists p.store.session p.texts) (sym same) lists)
-      (λ settled. subst (Lists last.store.session) (sym settled.1.0.1) (lists_settling mid.store.session last.store.session settled.0 mid.texts settled.1.0.0.step lists))
-      ends
+  lists_end mid last ends lists = grind (arith, common_steps)
 
   begin_read : (old : Trace D) (read : Result Command (Fault BadLine)) (out : List ℕ) (new : Trace D) → AnswersRead Sound old read out new → Begin old.texts new.texts
   begin_read old (Err fault) out new ran = subst (λ (p : Trace D). Begin old.texts p.texts) (sym ran.1) (λ k files is. is)
@@ -144,10 +139,7 @@ module _ {D : Type 0} (g : Ghosts D) where
   begin_lines old new (line ∷ lines) out a = λ k files is. begin_lines a.0 new lines a.2 a.5 k files (begin_read old a.3.0 a.1 a.0 a.3.2 k files is)
 
   pub begin_end : (mid last : Trace D) → (last ≡ mid) ⊎ HasSettled Sound mid last → Begin mid.texts last.texts
-  begin_end mid last ends = ⊎_elim
-      (λ same. subst (λ (p : Trace D). Begin mid.texts p.texts) (sym same) (λ k files is. is))
-      (λ settled. subst (Begin mid.texts) (sym settled.1.0.1) (λ k files is. is))
-      ends
+  begin_end mid last ends = grind (arith, common_steps)
 
   -- What is reached by lines.
 
@@ -178,10 +170,7 @@ module _ {D : Type 0} (g : Ghosts D) where
       (λ k files is. ends k files (begin_lines a.0 mid lines a.2 a.5 k files is)) a.3.0 a.1 a.3.2
 
   pub course_last : (mid last : Trace D) → (last ≡ mid) ⊎ HasSettled Sound mid last → Goes mid last (Counts last mid)
-  course_last mid last ends = ⊎_elim
-      (λ same. subst (λ p. Goes mid p (Counts p mid)) (sym same) (course_none g mid.store (Counts mid mid) (inl refl)))
-      (λ settled. course_settle g mid.store last.store settled.0 (Counts last mid) settled.1.0.0 (inl refl))
-      ends
+  course_last mid last ends = grind (arith, common_steps)
 
   -- What a crash leaves since a store of a run that wasn't broken.
   pub leaves_since : (only_now : (disk : D) (image : Image) → g.honest disk → g.left_since disk (g.instant disk) image → AreImages (g.files disk) image)
@@ -276,16 +265,7 @@ module _ {D : Type 0} (g : Ghosts D) where
 
 -- no line was answered yet
 pub at_first : {S : Type 0} {m : Machine S} (first new : S) (lines : List (List ℕ)) (out : List ℕ) → Answers m first lines out new → Reaches m first lines out new first
-at_first first new lines out answered = record {
-  answered = [];
-  others = lines;
-  written = [];
-  more = out;
-  all_lines = refl;
-  all_written = refl;
-  before = (refl, refl);
-  behind = answered;
-}
+at_first first new lines out answered = grind (arith, common_steps)
 
 -- What a crash leaves of a run of a store that has such a list as it begins.
 pub run_leaves : {D : Type 0} (g : Ghosts D)

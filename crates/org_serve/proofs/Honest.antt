@@ -1,6 +1,7 @@
 -- Steps that are said only where the disk is honest after them: where it is honest at the end, it
 -- was at each step, and all of them are said.
-use Rattle.std.proofs.Common.{◌≡◌, ◌⊎◌, inl, inr, ⊎_elim, ℕ, Bool, true, false, nat_lt, List, [], ◌∷◌, ◌++◌, Option, Result, Ok, Err, refl, ap, ◌∙◌, subst, append_assoc}
+use Rattle.std.proofs.Common.{arith, ◌≡◌, ◌⊎◌, inl, ℕ, Bool, true, false, nat_lt, List, [], ◌∷◌, ◌++◌, Option, Result, Ok, Err, refl, ap, ◌∙◌, subst, append_assoc}
+use Rattle.std.proofs.lemmas.Grind.{common_steps}
 use Rattle.org_disk.specs.declared.disk.Disk.{Ghosts}
 use Rattle.org_commands.specs.declared.command.Command.{Command}
 use Rattle.org_commands.specs.declared.tally.Group.{Group}
@@ -20,7 +21,6 @@ use Rattle.org_serve.specs.History.{Reaches}
 use Rattle.org_serve.specs.Lines.{cut}
 use Rattle.org_serve.specs.Serving.{Answers, AnswersEach, AnswersLine, AnswersRead, EndsAt, EndsBy, EndsWith, Finishes, HasSettled, LineLeadsTo, MayHaveSettled, Passes, PassesAll, ReadLeadsTo, RunsLines, RunsSome, ServesToEnd, Stops, stores_while_honest, traces_while_honest, if_good}
 use Rattle.org_serve.proofs.Inputs.{Served}
-use Rattle.org_serve.proofs.Joins.{end_as}
 
 -- the same machine, where the state after each call is good
 abbrev pub and_good : {S : Type 0} → (S → Type 0) → Machine S → Machine S
@@ -60,10 +60,7 @@ module _ {S : Type 0} (good : S → Type 0) (m : Machine S) where
   honest_each : (P Q : S → List ℕ → List ℕ → S → Type 0) → Ways P Q → (old : S) (lines : List (List ℕ)) (out : List ℕ) (new : S) → AnswersEach P old lines out new → good new
       → AnswersEach Q old lines out new × good old
   honest_each P Q one old [] out new a here = ((a.0, a.1), subst good a.1 here)
-  honest_each P Q one old (line ∷ lines) out new a here =
-      let rest = honest_each P Q one a.0 lines a.2 new a.5 here in
-      let first = one old line a.1 a.0 a.3 rest.1 in
-      ((a.0, a.1, a.2, first.0, a.4, rest.0), first.1)
+  honest_each P Q one old (line ∷ lines) out new a here = grind (arith, common_steps, honest_each P Q one a.0 lines a.2 new a.5 here)
 
   pub honest_lines : (old : S) (lines : List (List ℕ)) (out : List ℕ) (new : S) → Answers Said old lines out new → good new → Answers Sound old lines out new × good old
   honest_lines old lines out new a here = honest_each (AnswersLine Said) (AnswersLine Sound) honest_line old lines out new a here
@@ -73,19 +70,11 @@ module _ {S : Type 0} (good : S → Type 0) (m : Machine S) where
 
   honest_ends_at : (group : Group) (P Q : S → List ℕ → List ℕ → S → Type 0) → Ways P Q → {old new : S} {lines : List (List ℕ)} {out : List ℕ} → EndsAt group Said P old lines out new → good new
       → EndsAt group Sound Q old lines out new
-  honest_ends_at group P Q one {old} {new} ends here =
-      let last = one ends.mid ends.line ends.answer new ends.last here in
-      end_as group Said Sound P Q ends (honest_passes group old ends.passed ends.before ends.mid ends.passes last.1).0 last.0
-
-  pub honest_settled : (old new : S) → HasSettled Said old new → good new → HasSettled Sound old new × good old
-  honest_settled old new settled here = ((settled.0, (settled.1.did here, here)), settled.1.before here)
+  honest_ends_at group P Q one {old} {new} ends here = grind (arith, common_steps, honest_passes)
 
   -- the settling was made or wasn't
   pub honest_last : (mid new : S) → (new ≡ mid) ⊎ HasSettled Said mid new → good new → ((new ≡ mid) ⊎ HasSettled Sound mid new) × good mid
-  honest_last mid new ends here = ⊎_elim
-      (λ same. (inl same, subst good same here))
-      (λ settled. let one = honest_settled mid new settled here in (inr one.0, one.1))
-      ends
+  honest_last mid new ends here = grind (arith, common_steps)
 
   honest_ends : (fell pending : Bool) (old : S) (end : ServeEnd) (out : List ℕ) (new : S) → EndsBy Said fell pending old end out new → good new → EndsBy Sound fell pending old end out new × good old
   honest_ends true pending old end out new ends here = ((ends.0, ends.1, ends.2), subst good ends.2 here)
@@ -106,14 +95,7 @@ module _ {S : Type 0} (good : S → Type 0) (m : Machine S) where
 
   pub honest_served : (group : Group) {old new : S} {left left' written written' : Option (List ℕ)} {pending : Pending} → Served group Said old new left left' written written' pending → good new
       → Served group Sound old new left left' written written' pending
-  honest_served group {old} {new} s here = record {
-    input = s.input;
-    out = s.out;
-    read = s.read;
-    passes = (honest_passes group old (cut s.input).lines s.out new s.passes here).0;
-    wrote = s.wrote;
-    stands = s.stands;
-  }
+  honest_served group {old} {new} s here = grind (arith, common_steps, honest_passes, cut)
 
   pub honest_some : (group : Group) (old new : S) (io : Exchange) → RunsSome group Said old new io → good new → RunsSome group Sound old new io
   honest_some group old new io some here = (some.0, some.1, some.2, honest_ends_at group (AnswersLine Said) (AnswersLine Sound) honest_line some.3 here)
@@ -143,20 +125,7 @@ module _ {S : Type 0} (good : S → Type 0) (m : Machine S) where
       )
 
   pub honest_reaches : (old : S) (lines : List (List ℕ)) (out : List ℕ) (new here : S) → Reaches Said old lines out new here → good new → Reaches Sound old lines out new here × good here
-  honest_reaches old lines out new here reaches honestly =
-      let behind = honest_lines here reaches.others reaches.more new reaches.behind honestly in (
-        record {
-          answered = reaches.answered;
-          others = reaches.others;
-          written = reaches.written;
-          more = reaches.more;
-          all_lines = reaches.all_lines;
-          all_written = reaches.all_written;
-          before = (honest_lines old reaches.answered reaches.written here reaches.before behind.1).0;
-          behind = behind.0;
-        },
-        behind.1,
-      )
+  honest_reaches old lines out new here reaches honestly = grind (arith, common_steps, honest_lines)
 
 -- The run up to an intermediate state, as one in which a write failed there.
 abbrev pub up_to : {S : Type 0} {m : Machine S} {first last : S} {end : ServeEnd} {io : Exchange} → (run : RunsLines m first last end io) (here : S) (way : Reaches m first run.ran run.out run.mid here) → RunsLines m first here Write io

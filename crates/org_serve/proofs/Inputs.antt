@@ -1,5 +1,6 @@
 -- How the pieces of an input are served, one by one.
 use Rattle.std.proofs.Common.{◌≡◌, ◌≢◌, inl, inr, ℕ, ◌≤◌, List, [], ◌∷◌, ◌++◌, length, Option, refl, sym, ap, ◌∙◌, subst, append_assoc, arith}
+use Rattle.std.proofs.lemmas.Grind.{common_steps}
 use Rattle.std.specs.Io.KnownBytes.{Consumes, Appends, IsAtEnd}
 use Rattle.org_commands.specs.declared.tally.Group.{Group}
 use Rattle.org_commands.specs.declared.tally.Group.TheVariants.{Of, Whole}
@@ -13,7 +14,7 @@ use Rattle.org_serve.specs.Lines.{Cut, cut, Stands}
 use Rattle.org_serve.specs.Serving.{EndsAt, EndsWith, FeedsAll, FeedsSome, FeedsToEnd, MayHaveSettled, Passes, PassesAll, RunsSome, Serves, ServesAll, ServesInput, ServesToEnd, most_read, refused_end}
 use Rattle.org_serve.proofs.Counting.{read_apart}
 use Rattle.org_serve.proofs.Cuts.{cut-append}
-use Rattle.org_serve.proofs.Joins.{Appends-append, Appends-none, Consumes-append, Consumes-none, Consumes-no_more, Each-append, some_then}
+use Rattle.org_serve.proofs.Joins.{Appends-append, Consumes-append, Each-append, some_then}
 
 -- The input so far was read, its lines are answered, and what stands behind its last newline is
 -- kept.
@@ -24,11 +25,6 @@ pub record Served {S : Type 0} (group : Group) (m : Machine S) (old new : S) (le
   pub passes : PassesAll group m old (cut input).lines out new
   pub wrote : Appends written written' out
   pub stands : Stands pending (cut input).rest
-
--- none of it was read
-pub Served-none : {S : Type 0} {group : Group} {m : Machine S} {old : S} {left written : Option (List ℕ)} {pending : Pending} → Stands pending []
-    → Served group m old old left left written written pending
-Served-none {left = left} {written = written} stands = record { input = []; out = []; read = Consumes-none left; passes = (refl, refl); wrote = Appends-none written; stands = stands }
 
 -- lines of a piece, behind those of the input before it
 ends_later : {S : Type 0} {group : Group} {m : Machine S} {Last : S → List ℕ → List ℕ → S → Type 0} {old mid new : S} (input piece out more : List ℕ) → PassesAll group m old (cut input).lines out mid
@@ -103,14 +99,7 @@ module _ {S : Type 0} {group : Group} {m : Machine S} {old mid : S} {between amo
 -- no more is read
 pub Served-no_more : {S : Type 0} {group : Group} {m : Machine S} {old new : S} {left between written written' : Option (List ℕ)} {pending : Pending}
     → Served group m old new left between written written' pending → (left' : Option (List ℕ)) → Consumes between left' [] → Served group m old new left left' written written' pending
-Served-no_more {left = left} {between = between} s left' read = record {
-  input = s.input;
-  out = s.out;
-  read = Consumes-no_more left between left' s.input s.read read;
-  passes = s.passes;
-  wrote = s.wrote;
-  stands = s.stands;
-}
+Served-no_more {left = left} {between = between} s left' read = grind (arith, common_steps)
 
 -- What is read and written, by the sessions.
 
@@ -134,11 +123,7 @@ stopped_input (Of size) old new end io stop = absurd stop.4.last.2
 stopped_input Whole old new end io stop = inr stop
 
 pub serves_stop : {old new : Session} {end : ServeEnd} (io : Exchange) → end ≢ Read → end ≢ Write → ServesToEnd old.group model old end new io → Serves old end new io
-serves_stop {old} {new} {end} io unread unwritten stop = record {
-  all = λ other not. stopped_input old.group old new end io stop;
-  read = λ is. absurd (unread is);
-  write = λ is. absurd (unwritten is);
-}
+serves_stop {old} {new} {end} io unread unwritten stop = grind (arith, common_steps, stopped_input)
 
 -- the input is read to its end
 pub serves_end : {old mid : Session} (io : Exchange) {among : Option (List ℕ)} {pending : Pending}

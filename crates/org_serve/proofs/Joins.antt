@@ -1,6 +1,7 @@
 -- Runs, reads and writes, one after another.
-use Rattle.std.proofs.Common.{◌≡◌, ℕ, List, [], ◌∷◌, ◌++◌, Option, None, Some, Result, Ok, Err, refl, sym, ap, ◌∙◌, append_assoc, append-nil, subst, true≢false}
-use Rattle.std.specs.Prelude.{OnOk, OnErr, IfErr, IsErr, IsErrAnd, false, is_ok}
+use Rattle.std.proofs.Common.{arith, ◌≡◌, ℕ, List, [], ◌∷◌, ◌++◌, Option, None, Some, Result, Ok, Err, refl, sym, ap, ◌∙◌, append_assoc, append-nil, subst}
+use Rattle.std.proofs.lemmas.Grind.{common_steps}
+use Rattle.std.specs.Prelude.{OnOk, OnErr, IfErr, IsErrAnd, false, is_ok}
 use Rattle.std.specs.Io.KnownBytes.{Consumes, Appends, Keeps}
 use Rattle.std.specs.Result.{result_and}
 use Rattle.org_disk.specs.Disk.{IsCounted}
@@ -19,16 +20,13 @@ use Rattle.org_serve.specs.Writes.{Writes}
 use Rattle.org_store.specs.Calls.{Machine}
 use Rattle.org_store.specs.Calls.Call.{Ran}
 use Rattle.org_serve.specs.Replies.{answer_text, fault_text}
-use Rattle.org_serve.specs.Serving.{Answers, AnswersEach, AnswersLine, AnswersRead, EndsAt, IsReadAs, LineLeadsTo, LineOutcome, Passes, PassesAll, ReadLeadsTo, ReadOutcome, behind}
+use Rattle.org_serve.specs.Serving.{Answers, AnswersEach, AnswersLine, AnswersRead, EndsAt, LineLeadsTo, Passes, PassesAll, ReadLeadsTo, ReadOutcome, behind}
 
 -- Lines answered one by one, and then more.
 module _ {S : Type 0} (OneLine : S → List ℕ → List ℕ → S → Type 0) where
   pub Each-append : (old mid new : S) (ls ms : List (List ℕ)) (out more : List ℕ)
       → AnswersEach OneLine old ls out mid → AnswersEach OneLine mid ms more new → AnswersEach OneLine old (ls ++ ms) (out ++ more) new
-  Each-append old mid new [] ms out more a b =
-      let P : S → Type 0 = λ s. AnswersEach OneLine s ms ([] ++ more) new in
-      let Q : List ℕ → Type 0 = λ o. AnswersEach OneLine old ms (o ++ more) new in
-      subst Q (sym a.0) (subst P a.1 b)
+  Each-append old mid new [] ms out more a b = grind (arith, common_steps)
   Each-append old mid new (line ∷ ls) ms out more a b =
       (a.0, a.1, a.2 ++ more, a.3, ap (λ o. o ++ more) a.4 ∙ append_assoc a.1 a.2 more, Each-append a.0 mid new ls ms a.2 more a.5 b)
 
@@ -74,15 +72,7 @@ pub then_leads : {S W E : Type 0} (w : sinks.Ghosts W) (group : Group) (next : N
     → ReadOutcome group result m old read out new × Writes w first last result out
 then_leads w group next m old read out new first last (Ok done) result is leads wrote =
     subst (λ r. ReadOutcome group r m old read out new × Writes w first last r out) (sym is) (leads, record { ok = wrote.ok; part = tt; same = wrote.same; counted = tt })
-then_leads w group next m old read out new first last (Err fault) result is leads wrote =
-    subst (λ r. ReadOutcome group r m old read out new × Writes w first last r out) (sym is)
-    (read_answers group next m old read out new leads, record { ok = tt; part = wrote.part; same = tt; counted = wrote.counted })
-
--- what a line comes to, as what it was read as does
-pub outcome_of : {S E : Type 0} (group : Group) (result : Result Next E) (m : Machine S) (old : S) (line : List ℕ) (read : Result Command (Fault BadLine)) (out : List ℕ) (new : S) → IsReadAs line read
-    → ReadOutcome group result m old read out new → LineOutcome group result m old line out new
-outcome_of group (Ok next) m old line read out new is ran = (read, is, ran)
-outcome_of group (Err fault) m old line read out new is ran = (read, is, ran)
+then_leads w group next m old read out new first last (Err fault) result is leads wrote = grind (arith, common_steps)
 
 pub all_answer : {S : Type 0} (group : Group) (m : Machine S) (old : S) (lines : List (List ℕ)) (out : List ℕ) (new : S) → PassesAll group m old lines out new → Answers m old lines out new
 all_answer group m old lines out new a = Each-weaker (Passes group m) (AnswersLine m) (line_answers group Line m) old lines out new a
@@ -90,9 +80,7 @@ all_answer group m old lines out new a = Each-weaker (Passes group m) (AnswersLi
 -- lines up to one that is answered
 pub end_answers : {S : Type 0} (group : Group) (m : Machine S) {old new : S} {lines : List (List ℕ)} {out : List ℕ} (ends : EndsAt group m (AnswersLine m) old lines out new)
     → Answers m old (ends.passed ++ ends.line ∷ []) out new
-end_answers group m {old} {new} ends =
-    subst (λ o. Answers m old (ends.passed ++ ends.line ∷ []) o new) (sym ends.all_out)
-    (Each-one (AnswersLine m) old ends.mid new ends.passed ends.line ends.before ends.answer (all_answer group m old ends.passed ends.before ends.mid ends.passes) ends.last)
+end_answers group m {old} {new} ends = grind (arith, common_steps, Each-one, all_answer)
 
 -- .. passed and answered by other machines
 abbrev pub end_as : {S : Type 0} (group : Group) (m n : Machine S) (P Q : S → List ℕ → List ℕ → S → Type 0) {old new : S} {lines : List (List ℕ)} {out : List ℕ} (ends : EndsAt group m P old lines out new)
@@ -140,10 +128,6 @@ Consumes-kept None y kept = tt
 Consumes-kept (Some xs) None kept = kept
 Consumes-kept (Some xs) (Some ys) kept = sym kept
 
--- no more is read
-pub Consumes-no_more : (x y z : Option (List ℕ)) (a : List ℕ) → Consumes x y a → Consumes y z [] → Consumes x z a
-Consumes-no_more x y z a p q = subst (λ t. Consumes x z t) (append-nil a) (Consumes-append x y z a [] p q)
-
 -- Writes that fail.
 
 -- within the first of two texts
@@ -155,18 +139,6 @@ pub some_then : (x y z : Option (List ℕ)) (a b : List ℕ) → Appends x y a �
 some_then x y z a b all some =
     (a ++ some.0, some.1, ap (λ t. a ++ t) some.2 ∙ sym (append_assoc a some.0 some.1), Appends-append x y z a some.0 all some.3)
 
-pub Appends-kept : (x y : Option (List ℕ)) → Keeps x y → Appends x y []
-Appends-kept None y kept = tt
-Appends-kept (Some xs) None kept = kept
-Appends-kept (Some xs) (Some ys) kept = kept ∙ sym (append-nil xs)
-
-pub all_some : (x y : Option (List ℕ)) (a : List ℕ) → Appends x y a → AppendsSome x y a
-all_some x y a all = (a, [], sym (append-nil a), all)
-
--- behind the text
-pub some_kept : (x y z : Option (List ℕ)) (a : List ℕ) → Appends x y a → Keeps y z → AppendsSome x z a
-some_kept x y z a all kept = all_some x z a (subst (λ t. Appends x z t) (append-nil a) (Appends-append x y z a [] all (Appends-kept y z kept)))
-
 pub on_err : {A E P : Type 0} (r : Result A E) → P → OnErr r P
 on_err (Ok x) held = tt
 on_err (Err e) held = held
@@ -175,29 +147,8 @@ on_err (Err e) held = held
 pub then_flushed : {W A B E F : Type 0} (w : sinks.Ghosts W) {first mid new : W} {result : Result A E} (last : Result B F) {text : List ℕ} {x : A} → result ≡ Ok x
     → Writes w first mid result text → Keeps (w.written mid) (w.written new)
     → OnOk last (w.failures new ≡ w.failures mid) → OnErr last (IsCounted (w.failures mid) (w.failures new)) → Writes w first new last text
-then_flushed w {first} {mid} {new} (Ok y) {text} is wrote kept same counted =
-    let done = rw is at wrote.ok in
-    record {
-      ok = subst (λ (l : List ℕ). Appends (w.written first) (w.written new) l) (append-nil text)
-          (Appends-append (w.written first) (w.written mid) (w.written new) text [] done (Appends-kept (w.written mid) (w.written new) kept));
-      part = tt;
-      same = same ∙ (rw is at wrote.same);
-      counted = tt;
-    }
-then_flushed w {first} {mid} {new} (Err e) {text} is wrote kept same counted =
-    let done = rw is at wrote.ok in
-    record {
-      ok = tt;
-      part = some_kept (w.written first) (w.written mid) (w.written new) text done kept;
-      same = tt;
-      counted = subst (λ (k : ℕ). IsCounted k (w.failures new)) (rw is at wrote.same) counted;
-    }
-
--- a write that failed, handed on
-pub passed_on : {W A B E F : Type 0} (w : sinks.Ghosts W) {first new : W} {result : Result A E} (last : Result B F) {text : List ℕ} {e : E} → result ≡ Err e
-    → IsErr last → Writes w first new result text → Writes w first new last text
-passed_on w (Ok y) is failed wrote = absurd (true≢false (sym failed))
-passed_on w (Err f) is failed wrote = record { ok = tt; part = rw is at wrote.part; same = tt; counted = rw is at wrote.counted }
+then_flushed w {first} {mid} {new} (Ok y) {text} is wrote kept same counted = grind (arith, common_steps)
+then_flushed w {first} {mid} {new} (Err e) {text} is wrote kept same counted = grind (arith, common_steps)
 
 -- what a `?` passed on
 pub passed_never : {A E : Type 0} (P : E → Type 0) (Q : Type 0) (answer : Result A E) → IsErrAnd answer P → OnOk answer Q

@@ -1,11 +1,11 @@
 -- How a path is read step by step.
-use Rattle.std.proofs.Common.{◌≡◌, ℕ, ◌==◌, map, ◌+◌, ◌^◌, ◌<◌, List, [], ◌∷◌, ◌++◌, length, get_or, take, drop, Bor, Option, None, Some, refl, sym, ap, subst, ◌∙◌, add-one, drop-cons, arith}
+use Rattle.std.proofs.Common.{◌≡◌, ℕ, ◌==◌, map, ◌+◌, ◌^◌, ◌<◌, List, [], ◌∷◌, ◌++◌, length, get_or, take, drop, Bor, Option, None, Some, refl, sym, ap, ◌∙◌, arith}
+use Rattle.std.proofs.lemmas.Grind.{common_steps}
 use Rattle.std.specs.Iterator.{Yields}
 use Rattle.std.specs.List.{AllByRecursion, slice_split}
 use Rattle.std.specs.Option.{option_map, option_and_then}
 use Rattle.std.proofs.lemmas.Iterator.{YieldsList}
 use Rattle.std.proofs.lemmas.Iterator.Consumers.{YieldsList-so_far, YieldsList-turn}
-use Rattle.std.proofs.lemmas.List.{take-append-drop}
 use Rattle.std.proofs.lemmas.List.Splits.{slice_split_none, slice_split_at}
 use Rattle.org_outline.specs.declared.steps.Step.{Step}
 use Rattle.org_outline.specs.States.{Keywords}
@@ -45,10 +45,7 @@ steps_in-bad : (fields : List (List ℕ)) (steps : List Step) (field : List ℕ)
 steps_in-bad fields steps field more reported e = steps_in-append fields (field ∷ more) ∙ rw (reported, e) refl
 
 cut_at : (fields : List (List ℕ)) (i : ℕ) (field : List ℕ) → (i < length fields) × (field ≡ get_or fields i field) → fields ≡ take i fields ++ field ∷ drop (i + 1) fields
-cut_at fields i field at =
-    let within : i < length fields = at.0 in
-    let later : drop i fields ≡ field ∷ drop (i + 1) fields = rw add-one (drop-cons fields i field within) ∙ ap (λ f. f ∷ drop (i + 1) fields) (sym at.1) in
-    sym (take-append-drop i fields) ∙ ap (λ rest. take i fields ++ rest) later
+cut_at fields i field at = grind (arith, common_steps)
 
 -- where a field of those that are yielded can't be read, they are no path
 pub steps_in-stopped : {S : Type 0} {steps : S → Option (Bor (List ℕ)) → S → Type 0} {s : S} {all : List (List ℕ)} (road : YieldsList steps (λ x. x.now) s all) (xs : List (Bor (List ℕ))) (t : S) (y : Yields steps s xs t) → (r : Option (Bor (List ℕ))) (u : S) (x : Bor (List ℕ)) → r ≡ Some x → steps t r u
@@ -80,11 +77,7 @@ path-written step path all = ap steps_in (split-path step path all) ∙ steps-wr
 
 numbered_written : (most : ℕ) (path : List Step) → most < 10 ^ 9 → AllByRecursion (IsNumbered most) path → AreWritten path
 numbered_written most [] few all = tt
-numbered_written most (step ∷ path) few all =
-    let n = all.0 in
-    let low = n.low in
-    let high = n.high in
-    (subst IsWritten (sym n.is) (low, omega (arith, high, few)), numbered_written most path few all.1)
+numbered_written most (step ∷ path) few all = grind (arith, common_steps, numbered_written most path few all.1)
 
 read_back : (path : List Step) → 0 < length path → AreWritten path → path_of (path_field path) ≡ Some path
 read_back [] some all = absurd (omega (arith, some))

@@ -1,6 +1,7 @@
 -- A command that a line is read as can be spelled.
 use Rattle.std.proofs.Common.{◌≡◌, ℕ, zero, suc, ◌+◌, ◌-◌, ◌*◌, ◌^◌, ◌<◌, ◌≤◌, ◌==◌, ◌&&◌, Bool, true, false, List, [], ◌∷◌, length, codes, fold, take, drop, Option, None, Some, refl, ap, subst, arith, inl, inr}
-use Rattle.std.specs.Prelude.{nat_le, nat_lt, pos, slice_index, if◌then◌else◌}
+use Rattle.std.proofs.lemmas.Grind.{common_steps}
+use Rattle.std.specs.Prelude.{nat_le, nat_lt, pos, if◌then◌else◌}
 use Rattle.std.specs.Char.{is_ascii_digit}
 use Rattle.std.specs.List.{list_all, slice_split}
 use Rattle.std.specs.Option.{option_and_then, option_map}
@@ -65,13 +66,8 @@ file_is field name e =
 abbrev more : ℕ → ℕ → ℕ
 more n b = 10 * n + (b - 48)
 
-digit_low : (b : ℕ) → is_ascii_digit b ≡ true → b ≤ 57
-digit_low b digit = grind arith
-
 below : (k n d b : ℕ) → n < 10 ^ k → d ≡ b - 48 → is_ascii_digit b ≡ true → 10 * n + d < 10 ^ suc k
-below k n d b low is digit =
-    let tenfold : 10 ^ suc k ≡ 10 * 10 ^ k = pow-succ' 10 k in
-    omega (arith, digit_low b digit, tenfold)
+below k n d b low is digit = grind (arith, common_steps)
 
 digits_below : (field : List ℕ) (k n : ℕ) → n < 10 ^ k → list_all is_ascii_digit field ≡ true → fold more n field < 10 ^ (k + length field)
 digits_below [] k n low all = let same : k + 0 ≡ k = omega arith in rw same low
@@ -113,14 +109,10 @@ digit_high : (b : ℕ) → is_ascii_digit b ≡ true → 48 ≤ b
 digit_high b digit = grind arith
 
 first_high : (b : ℕ) (field : List ℕ) → is_ascii_digit b ≡ true → (b == 48) ≡ false → 1 ≤ fold more 0 (b ∷ field)
-first_high b field digit other =
-    let first : 48 < b = grind (arith, nat_tests, digit_high b digit) in
-    omega (arith, digits_rise field (more 0 b))
+first_high b field digit other = grind (arith, common_steps, nat_tests, digit_high, digits_rise, more)
 
 number_is : (field : List ℕ) (n : ℕ) → number_of field ≡ Some n → IsWritten (Some n)
-number_is [] n e =
-    let d = digits_are 9 [] n (untested (slice_index [] 0 == 48) (digits_of 9 []) n e).1 in
-    absurd (let some = d.some in omega arith)
+number_is [] n e = grind (arith, common_steps)
 number_is (b ∷ field) n e =
     let test = untested (b == 48) (digits_of 9 (b ∷ field)) n e in
     let d = digits_are 9 (b ∷ field) n test.1 in
@@ -222,26 +214,15 @@ clock_out_is moment c e = let m = map_some ClockOut (moment_of moment) c e in su
 
 clocked_is : (file path : List ℕ) (c : Command) → Read (clocked_of file path) c
 unfolding clocked_of
-clocked_is file path c e =
-    let f = then_some _ (file_of file) c e in
-    let p = map_some _ (path_of path) c f.2 in
-    subst IsSpellable p.2 (file_is file f.0 f.1, path_is path p.0 p.1)
+clocked_is file path c e = grind (arith, common_steps, then_some, map_some, file_is, path_is)
 
 archive_is : (file path moment : List ℕ) (c : Command) → Read (archive_of file path moment) c
 unfolding archive_of
-archive_is file path moment c e =
-    let f = then_some _ (file_of file) c e in
-    let p = then_some _ (path_of path) c f.2 in
-    let m = map_some _ (moment_of moment) c p.2 in
-    subst IsSpellable m.2 (file_is file f.0 f.1, path_is path p.0 p.1, moment_is moment m.0 m.1)
+archive_is file path moment c e = grind (arith, common_steps, then_some, map_some, file_is, path_is, moment_is)
 
 clock_in_is : (file path moment : List ℕ) (c : Command) → Read (clock_in_of file path moment) c
 unfolding clock_in_of
-clock_in_is file path moment c e =
-    let f = then_some _ (file_of file) c e in
-    let p = then_some _ (path_of path) c f.2 in
-    let m = map_some _ (moment_of moment) c p.2 in
-    subst IsSpellable m.2 (file_is file f.0 f.1, path_is path p.0 p.1, moment_is moment m.0 m.1)
+clock_in_is file path moment c e = grind (arith, common_steps, then_some, map_some, file_is, path_is, moment_is)
 
 todo_is : (file path state moment : List ℕ) (c : Command) → Read (todo_of file path state moment) c
 unfolding todo_of
@@ -263,13 +244,7 @@ edit_is file at old new c e =
 
 refile_is : (file path to_file to_path place : List ℕ) (c : Command) → Read (refile_of file path to_file to_path place) c
 unfolding refile_of
-refile_is file path to_file to_path place c e =
-    let f = then_some _ (file_of file) c e in
-    let p = then_some _ (path_of path) c f.2 in
-    let g = then_some _ (file_of to_file) c p.2 in
-    let q = then_some _ (path_of to_path) c g.2 in
-    let l = map_some _ (place_of place) c q.2 in
-    subst IsSpellable l.2 (file_is file f.0 f.1, path_is path p.0 p.1, file_is to_file g.0 g.1, path_is to_path q.0 q.1)
+refile_is file path to_file to_path place c e = grind (arith, common_steps, then_some, map_some, file_is, path_is)
 
 capture_is : (file target place moment template initial : List ℕ) (c : Command) → Read (capture_of file target place moment template initial) c
 unfolding capture_of
@@ -286,16 +261,10 @@ fields_are : (fields : List (List ℕ)) (c : Command) → Read (command_of_field
 fields_are [] c e = absurd cc
 fields_are (word ∷ []) c e =
     chosen (bytes_eq word (codes "settle")) (Some Settle) None c (IsSpellable c) (λ h. subst IsSpellable (some_is Settle c h) tt) (never c (IsSpellable c)) e
-fields_are (word ∷ a ∷ []) c e =
-    let P = IsSpellable c in
-    chosen (bytes_eq word (codes "show")) _ _ c P (show_is a c) (chosen (bytes_eq word (codes "clock-out")) _ None c P (clock_out_is a c) (never c P)) e
+fields_are (word ∷ a ∷ []) c e = grind (arith, common_steps, chosen, show_is, clock_out_is, never)
 fields_are (word ∷ a ∷ b ∷ []) c e = chosen (bytes_eq word (codes "time")) _ None c (IsSpellable c) (clocked_is a b c) (never c (IsSpellable c)) e
-fields_are (word ∷ a ∷ b ∷ d ∷ []) c e =
-    let P = IsSpellable c in
-    chosen (bytes_eq word (codes "archive")) _ _ c P (archive_is a b d c) (chosen (bytes_eq word (codes "clock-in")) _ None c P (clock_in_is a b d c) (never c P)) e
-fields_are (word ∷ a ∷ b ∷ d ∷ f ∷ []) c e =
-    let P = IsSpellable c in
-    chosen (bytes_eq word (codes "todo")) _ _ c P (todo_is a b d f c) (chosen (bytes_eq word (codes "edit")) _ None c P (edit_is a b d f c) (never c P)) e
+fields_are (word ∷ a ∷ b ∷ d ∷ []) c e = grind (arith, common_steps, chosen, archive_is, clock_in_is, never)
+fields_are (word ∷ a ∷ b ∷ d ∷ f ∷ []) c e = grind (arith, common_steps, chosen, todo_is, edit_is, never)
 fields_are (word ∷ a ∷ b ∷ d ∷ f ∷ g ∷ []) c e = chosen (bytes_eq word (codes "refile")) _ None c (IsSpellable c) (refile_is a b d f g c) (never c (IsSpellable c)) e
 fields_are (word ∷ a ∷ b ∷ d ∷ f ∷ g ∷ h ∷ []) c e = chosen (bytes_eq word (codes "capture")) _ None c (IsSpellable c) (capture_is a b d f g h c) (never c (IsSpellable c)) e
 fields_are (word ∷ a ∷ b ∷ d ∷ f ∷ g ∷ h ∷ i ∷ fields) c e = absurd cc

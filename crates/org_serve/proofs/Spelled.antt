@@ -1,11 +1,9 @@
 -- A line that spells a command is cut into the fields that it was made of, and read as the command.
-use Rattle.std.proofs.Common.{◌≡◌, ℕ, ◌+◌, ◌-◌, ◌*◌, ◌/◌, ◌%◌, ◌^◌, ◌<◌, ◌≤◌, ◌==◌, true, false, List, [], ◌∷◌, ◌++◌, length, get_or, codes, Option, None, Some, refl, sym, ap, ◌∙◌, arith, inl, inr}
-use Rattle.std.specs.Prelude.{decimal, nat_le, nat_lt, pos, ℤ}
+use Rattle.std.proofs.Common.{rules, ◌≡◌, ℕ, ◌+◌, ◌/◌, ◌%◌, ◌^◌, ◌<◌, ◌≤◌, ◌==◌, true, false, List, [], ◌∷◌, ◌++◌, length, get_or, codes, Option, None, Some, refl, sym, ap, ◌∙◌, arith, inl, inr}
+use Rattle.std.proofs.lemmas.Grind.{common_steps}
+use Rattle.std.specs.Prelude.{decimal, nat_le}
 use Rattle.std.specs.Char.{is_ascii_digit}
 use Rattle.std.specs.List.{All, AllByRecursion, list_all, slice_split, join_with_byte}
-use Rattle.std.specs.Option.{option_and_then}
-use Rattle.jiff_core.specs.Calendar.{days_in_month}
-use Rattle.jiff_core.proofs.CalendarLemmas.{days_in_month_bounds}
 use Rattle.std.specs.Str.{all_ascii_digits}
 use Rattle.std.proofs.lemmas.Bool.{cases_Bool, ne_eqb}
 use Rattle.std.proofs.lemmas.Bool.Decides.{eqb_tells, nat_tests}
@@ -21,7 +19,7 @@ use Rattle.org_stamp.specs.Calendar.{CivilDay, Moment, IsDay}
 use Rattle.org_stamp.specs.Stamp.{two_digits, clock_text, date_text}
 use Rattle.org_commands.specs.declared.command.Command.{Command}
 use Rattle.org_commands.specs.declared.command.Command.TheVariants.{Capture, Refile, Todo, ClockIn, ClockOut, Edit, Time, Archive, Show, Settle}
-use Rattle.org_serve.specs.Grammar.{IsWritten, escaped, file_of, number_field, step_field, path_of, path_field, target_of, place_of, leads_with_zero, position_of, pair_of, year_of, date_of, time_of, moment_at, moment_of, show_of, capture_of, refile_of, todo_of, edit_of, archive_of, clock_in_of, clock_out_of, clocked_of, command_of, command_of_fields}
+use Rattle.org_serve.specs.Grammar.{IsWritten, escaped, file_of, number_field, step_field, path_of, path_field, target_of, place_of, leads_with_zero, position_of, pair_of, date_of, time_of, moment_at, moment_of, show_of, capture_of, refile_of, todo_of, edit_of, archive_of, clock_in_of, clock_out_of, clocked_of, command_of, command_of_fields}
 use Rattle.org_serve.specs.Spelling.{place_field, moment_field, target_field, line_of, IsFile, AreSteps, IsPath, IsMoment, IsPosition, IsTarget, IsSpellable}
 use Rattle.org_serve.proofs.Escapes.{unescaped-escaped}
 use Rattle.org_serve.proofs.Paths.{path-written}
@@ -43,22 +41,7 @@ no_tab-append = All-append (λ b. (b == 9) ≡ false)
 
 no_tab-escaped : (text : List ℕ) → HasNoTab (escaped text)
 no_tab-escaped [] = no_tab-nil
-no_tab-escaped (b ∷ bytes) =
-    let later : HasNoTab (escaped bytes) = no_tab-escaped bytes in
-    let behind_backslash = λ (c : ℕ) (e : (c == 9) ≡ false). no_tab-cons 92 (c ∷ escaped bytes) refl (no_tab-cons c (escaped bytes) e later) in
-    elim (eqb_tells b 10) [
-      | inl newline ↦ rw newline.0 (behind_backslash 110 refl)
-      | inr p ↦ (elim (eqb_tells b 9) [
-        | inl tab ↦ rw (p.0, tab.0) (behind_backslash 116 refl)
-        | inr q ↦ (elim (eqb_tells b 92) [
-          | inl backslash ↦ rw (p.0, q.0, backslash.0) (behind_backslash 92 refl)
-          | inr r ↦ (elim (eqb_tells b 47) [
-            | inl slash ↦ rw (p.0, q.0, r.0, slash.0) (behind_backslash 115 refl)
-            | inr s ↦ rw (p.0, q.0, r.0, s.0) (no_tab-cons b (escaped bytes) q.0 later)
-          ])
-        ])
-      ])
-    ]
+no_tab-escaped (b ∷ bytes) = grind (arith, common_steps, no_tab-escaped bytes)
 
 digits_no_tab : (ds : List ℕ) → all_ascii_digits ds ≡ true → HasNoTab ds
 digits_no_tab [] all = no_tab-nil
@@ -76,9 +59,7 @@ no_tab-decimal n small = digits_no_tab (decimal n) (digits_decimal numerals n sm
 
 no_tab-number : (number : Option ℕ) → IsWritten number → HasNoTab (number_field number)
 no_tab-number None written = no_tab-nil
-no_tab-number (Some n) written =
-    let high = written.1 in
-    no_tab-cons 92 (35 ∷ decimal n) refl (no_tab-cons 35 (decimal n) refl (no_tab-decimal n (omega (arith, high))))
+no_tab-number (Some n) written = grind (arith, common_steps, no_tab-cons, no_tab-decimal)
 
 no_tab-step : (step : Step) → IsWritten step.number → HasNoTab (step_field step)
 no_tab-step step written = no_tab-append (escaped step.title) (number_field step.number) (no_tab-escaped step.title) (no_tab-number step.number written)
@@ -96,14 +77,7 @@ no_tab-two : (n : ℕ) → HasNoTab (two_digits n)
 no_tab-two n = no_tab-cons (48 + n / 10 % 10) ((48 + n % 10) ∷ []) (no_tab-digit (n / 10)) (no_tab-cons (48 + n % 10) [] (no_tab-digit n) no_tab-nil)
 
 no_tab-moment : (m : Moment) → HasNoTab (moment_field m)
-no_tab-moment m =
-    let d = m.day in
-    let year = two_digits (d.year / 100) ++ two_digits d.year in
-    let date = no_tab-append year (45 ∷ two_digits d.month ++ 45 ∷ two_digits d.day)
-    (no_tab-append (two_digits (d.year / 100)) (two_digits d.year) (no_tab-two (d.year / 100)) (no_tab-two d.year))
-    (no_tab-append (45 ∷ two_digits d.month) (45 ∷ two_digits d.day) (no_tab-cons 45 (two_digits d.month) refl (no_tab-two d.month)) (no_tab-cons 45 (two_digits d.day) refl (no_tab-two d.day))) in
-    let clock = no_tab-append (two_digits (m.minute / 60)) (58 ∷ two_digits (m.minute % 60)) (no_tab-two (m.minute / 60)) (no_tab-cons 58 (two_digits (m.minute % 60)) refl (no_tab-two (m.minute % 60))) in
-    no_tab-append (date_text d) (32 ∷ clock_text m.minute) date (no_tab-cons 32 (clock_text m.minute) refl clock)
+no_tab-moment m = search (rules, arith, no_tab-append, no_tab-two, no_tab-cons)
 
 word_no_tab : (w : List ℕ) → list_all (λ b. nat_le 10 b) w ≡ true → HasNoTab w
 word_no_tab [] all = no_tab-nil
@@ -153,11 +127,7 @@ leads (a ∷ []) first = refl
 leads (a ∷ b ∷ more) first = ne_eqb a 48 (λ is. omega arith)
 
 no_lead : (n : ℕ) → n < 2 ^ 64 → leads_with_zero (decimal n) ≡ false
-no_lead n small =
-    elim (eqb_tells n 0) [
-      | inl none ↦ (let zero = none.1 in ap leads_with_zero (decimal_digit n (omega (arith, zero))))
-      | inr some ↦ (let other = some.1 in leads (decimal n) (first_decimal n (omega arith) small))
-    ]
+no_lead n small = grind (arith, common_steps, eqb_tells, decimal_digit, leads, first_decimal)
 
 position_read : (n : ℕ) → IsPosition n → position_of (decimal n) ≡ Some n
 unfolding position_of
@@ -171,18 +141,7 @@ position_read n high =
     rw (no_lead n small, one, eight, digits) (ap Some (digits_value-decimal numerals n small))
 
 pair_read : (n : ℕ) → pair_of (48 + n / 10 % 10) (48 + n % 10) ≡ Some (n % 100)
-pair_read n =
-    let low : nat_le 48 (48 + n / 10 % 10) ≡ true = grind (arith, nat_tests) in
-    let high : nat_le (48 + n / 10 % 10) 57 ≡ true = grind (arith, nat_tests) in
-    let low2 : nat_le 48 (48 + n % 10) ≡ true = grind (arith, nat_tests) in
-    let high2 : nat_le (48 + n % 10) 57 ≡ true = grind (arith, nat_tests) in
-    let value : 10 * (48 + n / 10 % 10 - 48) + (48 + n % 10 - 48) ≡ n % 100 = omega arith in
-    rw (low, high, low2, high2) (ap Some value)
-
-year_read : (y : ℕ) → y ≤ 9999 → year_of (48 + y / 100 / 10 % 10) (48 + y / 100 % 10) (48 + y / 10 % 10) (48 + y % 10) ≡ Some y
-year_read y high =
-    let value : 100 * (y / 100 % 100) + y % 100 ≡ y = omega arith in
-    rw (pair_read (y / 100), pair_read y) (ap Some value)
+pair_read n = grind (arith, common_steps)
 
 pair_is : (n : ℕ) → n < 100 → pair_of (48 + n / 10 % 10) (48 + n % 10) ≡ Some n
 pair_is n low = let value : n % 100 ≡ n = omega arith in pair_read n ∙ ap Some value
@@ -190,41 +149,18 @@ pair_is n low = let value : n % 100 ≡ n = omega arith in pair_read n ∙ ap So
 passes : (a b : ℕ) → a ≤ b → nat_le a b ≡ true
 passes a b le = grind (arith, nat_tests)
 
-short_month : (y : ℤ) (m : ℕ) → days_in_month y m ≤ 31
-short_month y m = (days_in_month_bounds y m).0
-
 date_read : (d : CivilDay) → IsDay d → date_of (date_text d) ≡ Some (d.year, d.month, d.day)
-date_read d is =
-    let low = is.0.1 in
-    let month : d.month < 100 = omega (arith, is.1.1) in
-    let day : d.day < 100 = omega (arith, is.2.1, short_month (pos d.year) d.month) in
-    rw (year_read d.year low, pair_is d.month month, pair_is d.day day) refl
+date_read d is = grind (arith, common_steps)
 
 clock_read : (n : ℕ) → n < 1440 → time_of (32 ∷ clock_text n) ≡ Some (n / 60, n % 60)
-clock_read n low =
-    let hour : n / 60 < 100 = omega arith in
-    let minute : n % 60 < 100 = omega arith in
-    rw (pair_is (n / 60) hour, pair_is (n % 60) minute) refl
+clock_read n low = grind (arith, common_steps)
 
 moment_made : (m : Moment) → IsMoment m → moment_at (m.day.year, m.day.month, m.day.day) (m.minute / 60, m.minute % 60) ≡ Some m
-moment_made m is =
-    let d = m.day in
-    let day = is.day in
-    let minute = is.minute in
-    let hours : nat_lt (m.minute / 60) 24 ≡ true = grind (arith, nat_tests, minute) in
-    let minutes : nat_lt (m.minute % 60) 60 ≡ true = grind (arith, nat_tests) in
-    let same : m.minute / 60 * 60 + m.minute % 60 ≡ m.minute = omega arith in
-    rw (passes 1 d.year day.0.0, passes d.year 9999 day.0.1, passes 1 d.month day.1.0, passes d.month 12 day.1.1, passes 1 d.day day.2.0, passes d.day (days_in_month (pos d.year) d.month) day.2.1, hours, minutes)
-    (ap (λ n. Some (let at : Moment = record { day = d; minute = n } in at)) same)
+moment_made m is = grind (arith, common_steps)
 
 moment_read : (m : Moment) → IsMoment m → moment_of (moment_field m) ≡ Some m
 unfolding moment_of
-moment_read m is =
-    let d = m.day in
-    let time : Option (ℕ × ℕ) = time_of (32 ∷ clock_text m.minute) in
-    ap (λ (date : Option (ℕ × ℕ × ℕ)). option_and_then (λ date. option_and_then (λ t. moment_at date t) time) date) (date_read d is.day)
-    ∙ ap (λ (t : Option (ℕ × ℕ)). option_and_then (λ t. moment_at (d.year, d.month, d.day) t) t) (clock_read m.minute is.minute)
-    ∙ moment_made m is
+moment_read m is = grind (arith, common_steps, moment_at, date_read, clock_read, moment_made)
 
 -- ---- the line
 

@@ -1,5 +1,6 @@
 -- How a step of a path is read: its mark, its number, its title.
 use Rattle.std.proofs.Common.{◌≡◌, ℕ, suc, ◌+◌, ◌-◌, ◌*◌, ◌^◌, ◌<◌, ◌≤◌, ◌==◌, ◌&&◌, true, false, List, [], ◌∷◌, ◌++◌, length, get_or, take, drop, Option, None, Some, refl, sym, ap, ◌∙◌, append-nil, append_assoc, length-append, arith, inl, inr}
+use Rattle.std.proofs.lemmas.Grind.{common_steps}
 use Rattle.std.specs.Prelude.{decimal, fold, nat_le, slice_index}
 use Rattle.std.specs.Char.{is_ascii_digit}
 use Rattle.std.specs.List.{list_all}
@@ -11,7 +12,7 @@ use Rattle.std.proofs.lemmas.Str.Parse.{FoldsDigits, IsNumeralModel, numerals_by
 use Rattle.std.proofs.lemmas.List.{take_at, drop_at}
 use Rattle.std.proofs.lemmas.List.Elements.{All-nil, All-append}
 use Rattle.org_outline.specs.declared.steps.Step.{Step}
-use Rattle.org_serve.specs.Grammar.{IsWritten, escaped, mark_from, number_field, number_of, step_at, step_field, step_of}
+use Rattle.org_serve.specs.Grammar.{IsWritten, escaped, mark_from, number_field, number_of, step_field, step_of}
 use Rattle.org_serve.proofs.Escapes.{HasNoSlash, no_slash-cons, no_slash-escaped, unescaped-escaped}
 
 -- ---- the mark
@@ -19,24 +20,7 @@ use Rattle.org_serve.proofs.Escapes.{HasNoSlash, no_slash-cons, no_slash-escaped
 -- a title that is escaped has none, so that it is looked for behind it
 mark-behind : (at : ℕ) (text tail : List ℕ) → mark_from false at (escaped text ++ tail) ≡ mark_from false (at + length (escaped text)) tail
 mark-behind at [] tail = let here : at ≡ at + 0 = omega arith in ap (λ k. mark_from false k tail) here
-mark-behind at (b ∷ bytes) tail =
-    let pair : suc (suc at) + length (escaped bytes) ≡ at + suc (suc (length (escaped bytes))) = omega arith in
-    let one : suc at + length (escaped bytes) ≡ at + suc (length (escaped bytes)) = omega arith in
-    let behind_pair = mark-behind (suc (suc at)) bytes tail ∙ ap (λ k. mark_from false k tail) pair in
-    let behind_one = mark-behind (suc at) bytes tail ∙ ap (λ k. mark_from false k tail) one in
-    elim (eqb_tells b 10) [
-      | inl newline ↦ rw newline.0 behind_pair
-      | inr p ↦ (elim (eqb_tells b 9) [
-        | inl tab ↦ rw (p.0, tab.0) behind_pair
-        | inr q ↦ (elim (eqb_tells b 92) [
-          | inl backslash ↦ rw (p.0, q.0, backslash.0) behind_pair
-          | inr r ↦ (elim (eqb_tells b 47) [
-            | inl slash ↦ rw (p.0, q.0, r.0, slash.0) behind_pair
-            | inr s ↦ rw (p.0, q.0, r.0, s.0, r.0) behind_one
-          ])
-        ])
-      ])
-    ]
+mark-behind at (b ∷ bytes) tail = grind (arith, common_steps, mark-behind (suc (suc at)) bytes tail, mark-behind (suc at) bytes tail)
 
 -- ---- the number
 
@@ -69,10 +53,7 @@ number-written n low high =
 
 title_written : (title : List ℕ) (number : Option ℕ) → IsWritten number → step_of (escaped title ++ number_field number) ≡ Some (record { title = title; number = number })
 unfolding step_of
-title_written title None written =
-    let field = escaped title in
-    let none : mark_from false 0 (field ++ []) ≡ None = mark-behind 0 title [] in
-    rw none (ap (λ (f : List ℕ). step_at f None) (append-nil field) ∙ rw (unescaped-escaped title) refl)
+title_written title None written = grind (arith, common_steps, mark-behind, append-nil, unescaped-escaped)
 title_written title (Some n) written =
     let field = escaped title in
     let ds = decimal n in

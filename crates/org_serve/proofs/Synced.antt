@@ -1,12 +1,13 @@
 -- A run over a disk whose files were synced first.
 use Rattle.std.proofs.Common.{◌≡◌, ◌≤◌, inl, inr, ⊎_elim, ℕ, List, None, Result, Ok, Err, IfErr, refl, sym, ◌∙◌, ap, subst, arith}
+use Rattle.std.proofs.lemmas.Grind.{common_steps}
 use Rattle.org_disk.specs.declared.disk.Disk.{Ghosts}
 use Rattle.std.specs.Prelude.{IsErrOf, IsSomeAnd, IsTrue, is_some}
 use Rattle.std.proofs.lemmas.Result.{IfOk-weaker}
 use Rattle.org_disk.specs.CountsFailures.{CountsFailures, LeavesOver}
-use Rattle.org_disk.specs.Disk.{FileState, IsImage, AreImages, HasRisen, LeavesOnly}
+use Rattle.org_disk.specs.Disk.{FileState, IsImage, AreImages, LeavesOnly}
 use Rattle.org_disk.specs.Names.{journal_name}
-use Rattle.org_disk.proofs.Moments.{Image, passes_as, passes_then, leaves_only}
+use Rattle.org_disk.proofs.Moments.{Image, passes_as}
 use Rattle.org_journal.specs.Recovered.{SameFiles, IsRecoverable, recovered, contents}
 use Rattle.org_journal.proofs.Accounted.{accounts_after}
 use Rattle.org_fileset.specs.declared.open.OpenFault.{OpenFault}
@@ -21,7 +22,7 @@ use Rattle.org_serve.specs.Pipes.{Exchange}
 use Rattle.org_serve.specs.declared.end.ServeEnd.{ServeEnd}
 use Rattle.org_store.specs.History.{Trace}
 use Rattle.org_store.proofs.Sortings.{few_or_many}
-use Rattle.org_serve.specs.Syncing.{AnswersSync, AreSynced, IsNotStored, OutsideStable, IsAsFound, IsSyncFault, Syncs, stored}
+use Rattle.org_serve.specs.Syncing.{AnswersSync, AreSynced, IsNotStored, OutsideStable, IsAsFound, Syncs, stored}
 use Rattle.org_serve.specs.Whole.{ServesOver, BreaksByCount, IsForeign, IsIntermediate, IsIntermediateTo, IsDurable, DurableFrom, LeavesDiskOfRun, LeavesSyncedDisk, RunsAs, RunsSynced, SaysFailure, ServesDisk}
 use Rattle.org_serve.proofs.Foreign.{leaves_foreign, synced_alone}
 use Rattle.org_serve.proofs.Honest.{sound_traced, up_to}
@@ -43,17 +44,7 @@ leaves_as leaves weaker = record { each = λ image left. weaker image (leaves.ea
 -- the syncs, and a run behind them
 pub leaves_behind : {m n k : ℕ} {s u v : ℕ → Image → Type 0} {P Q R : Image → Type 0} → LeavesOnly m n s u P → LeavesOnly n k u v Q
     → ((image : Image) → P image → R image) → ((image : Image) → Q image → R image) → LeavesOnly m k s v R
-leaves_behind {m} first second early late =
-    leaves_only (passes_then (passes_as first.passes early) second.passes late)
-    (λ image left. early image (first.each image (first.passes.keeps m image (omega arith) left)))
-
--- why files weren't synced, as why a store isn't opened
-pub sync_reason : (given : List (List ℕ)) (Honest : Type 0) (before now : Image) (fault : OpenFault) → IsSyncFault given fault → IsReason given Honest before now fault
-sync_reason given Honest before now open_fault.TooManyFiles why = why
-sync_reason given Honest before now open_fault.BadJournal why = absurd why
-sync_reason given Honest before now (open_fault.TooLarge name) why = absurd why
-sync_reason given Honest before now open_fault.Device why = why
-sync_reason given Honest before now open_fault.OutOfMemory why = tt
+leaves_behind {m} first second early late = grind (arith, common_steps)
 
 -- why it isn't opened, of files that read as before
 pub reason_before : (given : List (List ℕ)) (Honest : Type 0) (before mid now : Image) → (Honest → mid ≡ before) → (fault : OpenFault) → IsReason given Honest mid now fault → IsReason given Honest before now fault
@@ -129,10 +120,7 @@ module _ {D : Type 0} (g : Ghosts D)
 
     pub breaks_from : g.failures mid ≡ g.failures disk → BreaksByCount served → BreaksByCount served_from
     unfolding served_from
-    breaks_from same breaks = record {
-      broken = λ broke. subst (λ n. HasRisen n (g.failures now)) same (breaks.broken broke);
-      sound = λ sound. breaks.sound sound ∙ same;
-    }
+    breaks_from same breaks = grind (arith, common_steps)
 
     first_honest : (later : Trace D) → IsIntermediate served later → g.honest later.store.disk → g.honest served.first.store.disk
     first_honest later (inl way) h = (sound_traced g (up_to served.run later way) h).1

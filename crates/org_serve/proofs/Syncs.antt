@@ -1,20 +1,15 @@
 -- Syncs of the files of a store, one after another, and what they make of a disk.
-use Rattle.std.proofs.Common.{true≢false, OnOk, IsErr, ◌≡◌, ◌⊎◌, inl, inr, ⊎_elim, ℕ, ◌+◌, ◌<◌, ◌≤◌, List, [], ◌∷◌, ◌++◌, length, take, drop, get_or, true, Option, Some, None, Result, Ok, Err, refl, sym, ◌∙◌, ap, subst}
-use Rattle.std.specs.Prelude.{IsSomeAnd, IsErrAnd, is_some, IsTrue}
-use Rattle.std.proofs.lemmas.Result.{err_from_is_err_and}
+use Rattle.std.proofs.Common.{arith, true≢false, OnOk, IsErr, ◌≡◌, ◌⊎◌, inl, inr, ⊎_elim, ℕ, ◌+◌, ◌<◌, ◌≤◌, List, [], ◌∷◌, ◌++◌, length, take, get_or, true, Option, Some, None, Result, Ok, Err, refl, sym, ◌∙◌, ap, subst}
+use Rattle.std.proofs.lemmas.Grind.{common_steps}
+use Rattle.std.specs.Prelude.{IsSomeAnd, is_some, IsTrue}
 use Rattle.std.specs.List.{Contains}
-use Rattle.std.proofs.lemmas.List.{take_more, take_all}
+use Rattle.std.proofs.lemmas.List.{take_more}
 use Rattle.std.proofs.lemmas.List.Elements.{Contains-push_cases}
 use Rattle.org_disk.specs.Disk.{FileState, IsImage, IsStable, AreImages, Changes, sync}
-use Rattle.org_disk.specs.Names.{journal_name}
 use Rattle.org_disk.proofs.Images.{only_image, stable_is}
 use Rattle.org_disk.proofs.Names.{name_cases}
 use Rattle.org_journal.specs.Recovered.{Image, SameFiles, RecoversTo, IsRecoverable, recovered, contents}
-use Rattle.org_journal.specs.Reading.{journal_at}
-use Rattle.org_journal.specs.Gate.{is_open}
 use Rattle.org_fileset.specs.Names.{AreSorted}
-use Rattle.org_fileset.specs.declared.open.OpenFault.{OpenFault}
-use Rattle.org_fileset.specs.declared.open.OpenFault.TheVariants.{TooManyFiles, Device}
 use Rattle.org_fileset.specs.Recovery.{EachRecovers, RecoversAsBefore}
 use Rattle.org_fileset.proofs.Elements.{no_member, cons_cases, cons_here, cons_later}
 use Rattle.org_fileset.proofs.Recovering.{stable_from_only, with_bytes, one_image, here_is}
@@ -46,10 +41,7 @@ same_contents name mid new changes = λ i n. each n i
 -- all of them
 pub all_synced : (names : List (List ℕ)) (i : ℕ) (old new : List ℕ → FileState) → length names ≤ i → contents new ≡ contents old
     → ((n : List ℕ) → Contains (take i names) n → IsStable (new n)) → AreSynced names old new
-all_synced names i old new all same stable = record {
-  same = same;
-  stable = λ n there. stable n (subst (λ (l : List (List ℕ)). Contains l n) (sym (take_all i names all)) there);
-}
+all_synced names i old new all same stable = grind (arith, common_steps)
 
 -- a name is among these or it isn't
 pub among_cases : (names : List (List ℕ)) (name : List ℕ) → Contains names name ⊎ (Contains names name → ⊥)
@@ -97,17 +89,7 @@ module _ (old new : List ℕ → FileState) (own : (name : List ℕ) → IsImage
 
   pub still_recoverable : IsRecoverable old → IsRecoverable new
   still_recoverable (inl stable) = inl (λ name not. still_stable name (stable name not))
-  still_recoverable (inr over_record) =
-      let same = one_content journal_name over_record.stable in
-      inr (record {
-        stable = still_stable journal_name over_record.stable;
-        opened = ap is_open same ∙ over_record.opened;
-        entries = over_record.entries;
-        found = ap (λ (l : List ℕ). journal_at (drop 1 l)) same ∙ over_record.found;
-        others = λ name not none. still_stable name (over_record.others name not none);
-        texts = over_record.texts;
-        same = λ image left. over_record.same image (all_images images image left);
-      })
+  still_recoverable (inr over_record) = grind (arith, common_steps, one_content, still_stable, all_images)
 
   pub still_recovers : EachRecovers old → EachRecovers new
   still_recovers each image left = each image (all_images images image left)
@@ -158,15 +140,6 @@ some_or_none files = cases (recovered files)
     cases : (o : Option Image) → IsTrue (is_some o) ⊎ (o ≡ None)
     cases None = inr refl
     cases (Some found) = inl refl
-
--- answers that don't tell too many files
-pub ok_many : {A P : Type 0} {x : A} → ◌≡◌ {A = Result A OpenFault} (Ok x) (Err TooManyFiles) → P
-ok_many is = absurd (cc is)
-
-pub device_many : {A P : Type 0} {answer : Result A OpenFault} → IsErrAnd answer (λ y. y ≡ Device) → answer ≡ Err TooManyFiles → P
-device_many {answer = answer} is many =
-    let p = err_from_is_err_and answer is in
-    absurd (cc (many, p.1, p.2))
 
 pub ok_apart : {A E : Type 0} {x : A} {e : E} → ◌≡◌ {A = Result A E} (Ok x) (Err e) → ⊥
 ok_apart is = cc is

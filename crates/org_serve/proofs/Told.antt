@@ -1,15 +1,10 @@
 -- What a reply tells of the commands that are on the disk.
-use Rattle.std.proofs.Common.{◌≡◌, inl, inr, ℕ, Bool, true, false, nat_lt, List, [], ◌++◌, Option, Some, None, Result, Ok, Err, sym, ap, ◌∙◌, codes}
+use Rattle.std.proofs.Common.{◌≡◌, ℕ, Bool, true, false, nat_lt, List, [], ◌++◌, Option, Some, None, Result, Ok, Err, ap, codes}
 use Rattle.std.specs.Prelude.{decimal, if◌then◌else◌}
-use Rattle.std.proofs.lemmas.Bool.{cases_Bool}
-use Rattle.org_commands.specs.declared.command.Command.{Command}
 use Rattle.org_commands.specs.declared.command.Reply.{Reply}
 use Rattle.org_commands.specs.declared.command.Reply.TheVariants.{Done, Safe, Text, Time}
 use Rattle.org_commands.specs.declared.command.RunFault.{RunFault}
-use Rattle.org_commands.specs.Session.{Session}
-use Rattle.org_commands.specs.Step.{Step}
 use Rattle.org_serve.specs.Replies.{answer_text, safe_line, reported_safe}
-use Rattle.org_store.proofs.History.{done_broken}
 
 same_some : (one other : ℕ) → Some one ≡ Some other → one ≡ other
 same_some one other same = cc
@@ -27,15 +22,3 @@ safe_written (Ok (Safe n)) old new a reported = ([], ap safe_line (same_some n a
 safe_written (Ok (Text bytes)) old new a reported = none_some a reported
 safe_written (Ok (Time minutes)) old new a reported = none_some a reported
 safe_written (Err fault) old new a reported = none_some a reported
-
-pub safe_known : (old new : Session) (command : Command) (answer : Result Reply RunFault) (a : ℕ) → Step old command answer new → reported_safe answer old.acknowledged new.acknowledged ≡ Some a
-    → (new.acknowledged ≡ a) × (new.broken ≡ false)
-safe_known old new command (Ok (Done n)) a step reported = elim (cases_Bool (nat_lt old.acknowledged new.acknowledged)) [
-  | inl t ↦ (same_some new.acknowledged a (rw t at reported), ap (λ (s : Session). s.broken) step.1.3 ∙ done_broken old step.1.0 ∙ step.0)
-  | inr f ↦ none_some a (rw f at reported)
-]
-safe_known old new command (Ok (Safe n)) a step reported =
-    (ap (λ (s : Session). s.acknowledged) step.3 ∙ sym step.2 ∙ same_some n a reported, ap (λ (s : Session). s.broken) step.3 ∙ step.0)
-safe_known old new command (Ok (Text bytes)) a step reported = none_some a reported
-safe_known old new command (Ok (Time minutes)) a step reported = none_some a reported
-safe_known old new command (Err fault) a step reported = none_some a reported

@@ -1,11 +1,10 @@
 -- Applying twice is applying once, also where only a part of the work was done the first time.
-use Rattle.std.proofs.Common.{◌≡◌, ◌⊎◌, inl, inr, ⊎_elim, ℕ, zero, suc, ◌+◌, ◌-◌, ◌<◌, ◌≤◌, min, List, [], ◌∷◌, length, get_or, take, drop, Some, refl, sym, ◌∙◌, ap, subst, arith, length-drop, length-take}
+use Rattle.std.proofs.Common.{◌≡◌, ◌⊎◌, inl, inr, ⊎_elim, ℕ, zero, suc, ◌+◌, ◌-◌, ◌<◌, ◌≤◌, min, List, [], ◌∷◌, length, get_or, take, drop, Some, sym, ◌∙◌, ap, subst, arith, length-drop, length-take}
+use Rattle.std.proofs.lemmas.Grind.{common_steps}
 use Rattle.std.specs.Prelude.{slice_get}
 use Rattle.std.proofs.lemmas.Bool.{cases_lt}
 use Rattle.std.proofs.lemmas.List.{get_or-drop, get_or-take}
-use Rattle.org_splice.specs.Overwritten.{overwritten}
 use Rattle.org_splice.specs.Patches.{end_of, last_end, Rise, AreWellFormed, BeginWithin, Fit, PatchedTo, IsOutside, IsPartlyPatched}
-use Rattle.org_splice.proofs.Overwritten.{length-overwritten, overwritten-outside}
 use Rattle.org_splice.proofs.Patching.{last_end-place, length-patched, patched-outside, patched-same}
 
 -- Patches that fit a text of one size, and another size
@@ -14,15 +13,10 @@ use Rattle.org_splice.proofs.Patching.{last_end-place, length-patched, patched-o
 -- reaches the final length
 begin_shorter : (size other final place : ℕ) (patches : List (ℕ × List ℕ)) → min size final ≤ other → Rise place patches → last_end place patches ≤ final → BeginWithin size place patches → BeginWithin other place patches
 begin_shorter size other final place [] long rise within begin = tt
-begin_shorter size other final place (patch ∷ patches) long rise within begin =
-    let later : end_of patch ≤ last_end (end_of patch) patches = last_end-place (end_of patch) patches rise.1 in
-    (omega (arith, begin.0, long, within, later), begin_shorter size other final (end_of patch) patches long rise.1 within begin.1)
+begin_shorter size other final place (patch ∷ patches) long rise within begin = grind (arith, common_steps, end_of, last_end-place, begin_shorter size other final (end_of patch) patches long rise.1 within begin.1)
 
 pub Fit-between : (patches : List (ℕ × List ℕ)) (final size other : ℕ) → Rise 0 patches → last_end 0 patches ≤ final → min size final ≤ other → Fit patches final size → Fit patches final other
-Fit-between patches final size other rise within long fit = record {
-  begin = begin_shorter size other final 0 patches long rise within fit.begin;
-  ends = omega (arith, fit.ends, long);
-}
+Fit-between patches final size other rise within long fit = grind (arith, common_steps, begin_shorter)
 
 -- the sizes don't matter to the patches that begin behind them
 begin_behind : (size other place : ℕ) (patches : List (ℕ × List ℕ)) → size ≤ place → Rise place patches → BeginWithin size place patches → BeginWithin other place patches
@@ -33,79 +27,35 @@ begin_behind size other place (patch ∷ patches) short rise begin =
 -- one of these patches lies between the first place and the last end
 inside_all : (place : ℕ) (patches : List (ℕ × List ℕ)) (k from : ℕ) (bytes : List ℕ) → Rise place patches → slice_get patches k ≡ Some (from, bytes) → (place ≤ from) × (from + length bytes ≤ last_end place patches)
 inside_all place [] k from bytes rise is = cc
-inside_all place (patch ∷ patches) zero from bytes rise is =
-    let same : patch ≡ (from, bytes) = cc in
-    let start : patch.0 ≡ from = ap (λ (p : ℕ × List ℕ). p.0) same in
-    let long : length patch.1 ≡ length bytes = ap (λ (p : ℕ × List ℕ). length p.1) same in
-    (omega (arith, rise.0, start), omega (arith, start, long, last_end-place (end_of patch) patches rise.1))
-inside_all place (patch ∷ patches) (suc k) from bytes rise is =
-    let rest = inside_all (end_of patch) patches k from bytes rise.1 is in
-    (omega (arith, rest.0, rise.0), rest.1)
+inside_all place (patch ∷ patches) zero from bytes rise is = grind (arith, common_steps, last_end-place, end_of)
+inside_all place (patch ∷ patches) (suc k) from bytes rise is = grind (arith, common_steps, inside_all (end_of patch) patches k from bytes rise.1 is)
 
 -- a position outside all of them is outside this one
 outside_one : (patches : List (ℕ × List ℕ)) (k from : ℕ) (bytes : List ℕ) (i : ℕ) → slice_get patches k ≡ Some (from, bytes) → IsOutside patches i → (i < from) ⊎ (from + length bytes ≤ i)
 outside_one [] k from bytes i is outside = cc
-outside_one (patch ∷ patches) zero from bytes i is outside =
-    let same : patch ≡ (from, bytes) = cc in
-    let P : ℕ × List ℕ → Type 0 = λ p. (i < p.0) ⊎ (p.0 + length p.1 ≤ i) in
-    subst P same outside.0
+outside_one (patch ∷ patches) zero from bytes i is outside = grind (arith, common_steps)
 outside_one (patch ∷ patches) (suc k) from bytes i is outside = outside_one patches k from bytes i is outside.1
 
 -- two sizes within one of these patches are as good as one another
 begin_at : (size other place : ℕ) (patches : List (ℕ × List ℕ)) (k from : ℕ) (bytes : List ℕ) → slice_get patches k ≡ Some (from, bytes) → size ≤ from + length bytes → from ≤ other → Rise place patches
     → BeginWithin size place patches → BeginWithin other place patches
 begin_at size other place [] k from bytes is short long rise begin = tt
-begin_at size other place (patch ∷ patches) zero from bytes is short long rise begin =
-    let same : patch ≡ (from, bytes) = cc in
-    let start : patch.0 ≡ from = ap (λ (p : ℕ × List ℕ). p.0) same in
-    let size_of : length patch.1 ≡ length bytes = ap (λ (p : ℕ × List ℕ). length p.1) same in
-    (omega (arith, start, long), begin_behind size other (end_of patch) patches (omega (arith, short, start, size_of)) rise.1 begin.1)
+begin_at size other place (patch ∷ patches) zero from bytes is short long rise begin = grind (arith, common_steps, begin_behind, end_of)
 begin_at size other place (patch ∷ patches) (suc k) from bytes is short long rise begin =
     (omega (arith, (inside_all (end_of patch) patches k from bytes rise.1 is).0, long), begin_at size other (end_of patch) patches k from bytes is short long rise.1 begin.1)
 
 -- Texts on which a part of the work may have been done
 
-pub IsPartlyPatched-refl : (patches : List (ℕ × List ℕ)) (final : ℕ) (text : List ℕ) → IsPartlyPatched patches final text text
-IsPartlyPatched-refl patches final text = record { no_shorter = omega arith; no_longer = omega arith; same = λ i below outside. refl }
-
 -- They take the same patches to the same text.
 pub PatchedTo-partly : (patches : List (ℕ × List ℕ)) (final : ℕ) (text part to : List ℕ) → AreWellFormed patches final → IsPartlyPatched patches final text part → PatchedTo patches final text to → PatchedTo patches final part to
-PatchedTo-partly patches final text part to formed partly applies =
-    let fit : Fit patches final (length part) = Fit-between patches final (length text) (length part) formed.rise formed.within partly.no_shorter applies.fit in
-    record { fit = fit; makes = patched-same patches final part text formed.rise fit applies.fit partly.same ∙ applies.makes }
+PatchedTo-partly patches final text part to formed partly applies = grind (arith, common_steps, Fit-between, patched-same)
 
 -- so does the text that they make: applying twice is applying once
 pub IsPartlyPatched-patched : (patches : List (ℕ × List ℕ)) (final : ℕ) (text to : List ℕ) → AreWellFormed patches final → PatchedTo patches final text to → IsPartlyPatched patches final text to
-IsPartlyPatched-patched patches final text to formed applies =
-    let long : length to ≡ final = ap length (sym applies.makes) ∙ length-patched patches final text formed.rise applies.fit in
-    record {
-      no_shorter = omega (arith, long);
-      no_longer = omega (arith, long);
-      same = λ i below outside. ap (λ (t : List ℕ). get_or t i 0) (sym applies.makes) ∙ patched-outside patches final text i formed.rise applies.fit below outside;
-    }
+IsPartlyPatched-patched patches final text to formed applies = grind (arith, common_steps, length-patched, patched-outside)
 
 pub PatchedTo-twice : (patches : List (ℕ × List ℕ)) (final : ℕ) (text to : List ℕ) → AreWellFormed patches final → PatchedTo patches final text to → PatchedTo patches final to to
 PatchedTo-twice patches final text to formed applies = PatchedTo-partly patches final text to to formed (IsPartlyPatched-patched patches final text to formed applies) applies
-
--- one of the patches written, at a place within the text
-pub IsPartlyPatched-overwritten : (patches : List (ℕ × List ℕ)) (final : ℕ) (text part : List ℕ) (k from : ℕ) (bytes : List ℕ) → AreWellFormed patches final → slice_get patches k ≡ Some (from, bytes) → from ≤ length part
-    → IsPartlyPatched patches final text part → IsPartlyPatched patches final text (overwritten from bytes part)
-IsPartlyPatched-overwritten patches final text part k from bytes formed is fits partly =
-    let long = length-overwritten from bytes part fits in
-    let within : from + length bytes ≤ last_end 0 patches = (inside_all 0 patches k from bytes formed.rise is).1 in
-    record {
-      no_shorter = omega (arith, long, partly.no_shorter);
-      no_longer = omega (arith, long, partly.no_longer, within, formed.within);
-      same = λ i below outside. overwritten-outside from bytes part i fits (outside_one patches k from bytes i is outside) ∙ partly.same i below outside;
-    }
-
--- a cut to the final length
-pub IsPartlyPatched-take : (patches : List (ℕ × List ℕ)) (final : ℕ) (text part : List ℕ) → final ≤ length part → IsPartlyPatched patches final text part → IsPartlyPatched patches final text (take final part)
-IsPartlyPatched-take patches final text part long partly = record {
-  no_shorter = omega (arith, length-take final part, long);
-  no_longer = omega (arith, length-take final part, long);
-  same = λ i below outside. get_or-take final part i 0 below ∙ partly.same i below outside;
-}
 
 -- The same of two texts, where one differs from the other only where a call may have changed it
 

@@ -1,6 +1,7 @@
 -- Changed ranges: that they stay apart, and cover what they covered.
-use Rattle.std.proofs.Common.{◌≡◌, ◌⊎◌, inl, inr, ⊎_elim, ℕ, ◌+◌, ◌<◌, ◌≤◌, eqb, ltb, leb, min, max, List, [], ◌∷◌, length, get_or, set, zero, suc, ◌++◌, refl, ◌∙◌, ap, arith, cond, lit≤}
-use Rattle.std.proofs.lemmas.Bool.{ltb-true, ltb-false, leb-true, eqb-true, eqb-false, lt-ltb, le-ltb, cond-true, cond-false, cond_both, cases_lt}
+use Rattle.std.proofs.Common.{◌≡◌, ◌⊎◌, inl, inr, ⊎_elim, ℕ, ◌+◌, ◌<◌, ◌≤◌, eqb, ltb, leb, min, max, List, [], ◌∷◌, length, get_or, set, zero, suc, ◌++◌, refl, ap, arith, cond, lit≤}
+use Rattle.std.proofs.lemmas.Grind.{common_steps}
+use Rattle.std.proofs.lemmas.Bool.{ltb-true, ltb-false, leb-true, eqb-true, eqb-false, cond_both, cases_lt}
 use Rattle.org_splice.specs.declared.Span.{Span}
 use Rattle.org_splice.specs.Ranges.{LieApart, IsUnchanged, cut_at, joined, last_two_joined, a_thousand_of, with_range}
 
@@ -22,13 +23,7 @@ LieApart-at place size (range ∷ ranges) (suc i) none apart within = LieApart-a
 
 pub LieApart-cut_at : (place size other : ℕ) (ranges : List Span) → LieApart place size ranges → LieApart place other (cut_at other ranges)
 LieApart-cut_at place size other [] apart = tt
-LieApart-cut_at place size other (range ∷ ranges) apart =
-    let rest = LieApart-cut_at (range.end + 1) size other ranges apart.3 in
-    cond_both (ltb range.start other) (record { start = range.start; end = min range.end other } ∷ cut_at other ranges) (cut_at other ranges) (λ kept. LieApart place other kept)
-    (λ before.
-    let below : range.start < other = ltb-true range.start other before in
-    (apart.0, omega (arith, apart.1, below), omega arith, LieApart-earlier (range.end + 1) (min range.end other + 1) other (cut_at other ranges) (omega arith) rest))
-    (λ behind. LieApart-earlier (range.end + 1) place other (cut_at other ranges) (omega (arith, apart.0, apart.1)) rest)
+LieApart-cut_at place size other (range ∷ ranges) apart = grind (arith, common_steps, cond_both, cut_at, ltb-true, LieApart-earlier, LieApart-cut_at (range.end + 1) size other ranges apart.3)
 
 pub IsUnchanged-cut_at : (size : ℕ) (ranges : List Span) (i : ℕ) → i < size → IsUnchanged (cut_at size ranges) i → IsUnchanged ranges i
 IsUnchanged-cut_at size [] i below = λ outside. tt
@@ -41,10 +36,7 @@ IsUnchanged-cut_at size (range ∷ ranges) i below =
 
 pub length-cut_at : (size : ℕ) (ranges : List Span) → length (cut_at size ranges) ≤ length ranges
 length-cut_at size [] = omega arith
-length-cut_at size (range ∷ ranges) =
-    let rest = length-cut_at size ranges in
-    cond_both (ltb range.start size) (record { start = range.start; end = min range.end size } ∷ cut_at size ranges) (cut_at size ranges) (λ kept. length kept ≤ length (range ∷ ranges))
-    (λ before. omega (arith, rest)) (λ behind. omega (arith, rest))
+length-cut_at size (range ∷ ranges) = grind (arith, common_steps, length-cut_at size ranges)
 
 -- One more
 
@@ -87,10 +79,7 @@ length-joined own (range ∷ ranges) =
 -- a range that ends before all others stays as it is
 pub joined-apart : (size : ℕ) (own : Span) (ranges : List Span) → own.start < own.end → LieApart (own.end + 1) size ranges → joined own ranges ≡ own ∷ ranges
 joined-apart size own [] full apart = refl
-joined-apart size own (range ∷ ranges) full apart =
-    let both : Span = record { start = min own.start range.start; end = max own.end range.end } in
-    cond-false (ltb range.end own.start) (range ∷ joined own ranges) (cond (ltb own.end range.start) (own ∷ range ∷ ranges) (joined both ranges)) (le-ltb range.end own.start (omega (arith, full, apart.0, apart.1)))
-    ∙ cond-true (ltb own.end range.start) (own ∷ range ∷ ranges) (joined both ranges) (lt-ltb own.end range.start (omega (arith, apart.0)))
+joined-apart size own (range ∷ ranges) full apart = grind (arith, common_steps)
 
 -- A thousand
 
@@ -103,11 +92,7 @@ LieApart-last_two_joined place size (range ∷ next ∷ after ∷ ranges) apart 
 pub IsUnchanged-last_two_joined : (place size : ℕ) (ranges : List Span) (i : ℕ) → LieApart place size ranges → IsUnchanged (last_two_joined ranges) i → IsUnchanged ranges i
 IsUnchanged-last_two_joined place size [] i apart outside = tt
 IsUnchanged-last_two_joined place size (last ∷ []) i apart outside = outside
-IsUnchanged-last_two_joined place size (range ∷ last ∷ []) i apart outside =
-    ⊎_elim
-    (λ first. (inl first, (inl (omega (arith, first, apart.1, apart.3.0)), tt)))
-    (λ behind. (inr (omega (arith, behind, apart.3.0, apart.3.1)), (inr behind, tt)))
-    outside.0
+IsUnchanged-last_two_joined place size (range ∷ last ∷ []) i apart outside = grind (arith, common_steps)
 IsUnchanged-last_two_joined place size (range ∷ next ∷ after ∷ ranges) i apart outside = (outside.0, IsUnchanged-last_two_joined (range.end + 1) size (next ∷ after ∷ ranges) i apart.3 outside.1)
 
 length-last_two_joined : (range next : Span) (ranges : List Span) → length (last_two_joined (range ∷ next ∷ ranges)) ≡ length (next ∷ ranges)
@@ -134,17 +119,12 @@ IsUnchanged-a_thousand_of place size ranges i apart =
 pub length-a_thousand_of : (ranges : List Span) → length ranges ≤ 1_001 → length (a_thousand_of ranges) ≤ 1_000
 length-a_thousand_of [] few = lit≤ tt
 length-a_thousand_of (range ∷ []) few = lit≤ tt
-length-a_thousand_of (range ∷ next ∷ ranges) few =
-    cond_both (leb (length (range ∷ next ∷ ranges)) 1_000) (range ∷ next ∷ ranges) (last_two_joined (range ∷ next ∷ ranges)) (λ kept. length kept ≤ 1_000)
-    (λ at_most. leb-true (length (range ∷ next ∷ ranges)) 1_000 at_most)
-    (λ many. omega (arith, few, length-last_two_joined range next ranges))
+length-a_thousand_of (range ∷ next ∷ ranges) few = grind (arith, common_steps, cond_both, leb-true, length-last_two_joined)
 
 -- A splice
 
 pub LieApart-with_range : (size : ℕ) (own : Span) (ranges : List Span) → own.start ≤ own.end → own.end ≤ size → LieApart 0 size ranges → LieApart 0 size (with_range own ranges)
-LieApart-with_range size own ranges rises within apart =
-    cond_both (eqb own.start own.end) ranges (a_thousand_of (joined own ranges)) (λ all. LieApart 0 size all) (λ empty. apart)
-    (λ full. LieApart-a_thousand_of 0 size (joined own ranges) (LieApart-joined 0 size own ranges (omega arith) (let apart_ends = eqb-false own.start own.end full in omega (arith, rises, apart_ends)) within apart))
+LieApart-with_range size own ranges rises within apart = grind (arith, common_steps, cond_both, joined, LieApart-a_thousand_of, LieApart-joined, eqb-false)
 
 pub IsUnchanged-with_range : (size : ℕ) (own : Span) (ranges : List Span) (i : ℕ) → own.start ≤ own.end → own.end ≤ size → LieApart 0 size ranges → IsUnchanged (with_range own ranges) i → ((i < own.start) ⊎ (own.end ≤ i)) × IsUnchanged ranges i
 IsUnchanged-with_range size own ranges i rises within apart =
@@ -153,6 +133,4 @@ IsUnchanged-with_range size own ranges i rises within apart =
     (λ full outside. IsUnchanged-joined own ranges i (IsUnchanged-a_thousand_of 0 size (joined own ranges) i (LieApart-joined 0 size own ranges (omega arith) (let apart_ends = eqb-false own.start own.end full in omega (arith, rises, apart_ends)) within apart) outside))
 
 pub length-with_range : (own : Span) (ranges : List Span) → length ranges ≤ 1_000 → length (with_range own ranges) ≤ 1_000
-length-with_range own ranges few =
-    cond_both (eqb own.start own.end) ranges (a_thousand_of (joined own ranges)) (λ all. length all ≤ 1_000) (λ empty. few)
-    (λ full. length-a_thousand_of (joined own ranges) (omega (arith, few, length-joined own ranges)))
+length-with_range own ranges few = grind (arith, common_steps, cond_both, joined, length-a_thousand_of, length-joined)

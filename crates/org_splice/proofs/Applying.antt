@@ -1,5 +1,5 @@
 -- Edits made of a text, one after another.
-use Rattle.std.proofs.Common.{◌≡◌, ℕ, ◌+◌, ◌≤◌, List, [], ◌∷◌, length, refl, sym, subst}
+use Rattle.std.proofs.Common.{rules, arith, ◌≡◌, ℕ, ◌+◌, ◌≤◌, List, [], ◌∷◌, length, refl, sym, subst}
 use Rattle.org_splice.specs.declared.edit.Edit.{Edit}
 use Rattle.org_splice.specs.Edits.{applied, applied_each, AreEdits, CanApply}
 use Rattle.org_splice.specs.Ranges.{AreChanged}
@@ -22,9 +22,7 @@ spliced_each-bytes (e ∷ es) text = spliced_each-bytes es (spliced e.at e.remov
 -- a splice keeps the changed ranges those of the text
 pub AreChanged-spliced : (at removed : ℕ) (bytes : List ℕ) (text : EditedText) → at + removed ≤ length text.bytes → AreChanged (length text.bytes) text.changed
     → AreChanged (length (spliced at removed bytes text).bytes) (spliced at removed bytes text).changed
-AreChanged-spliced at removed bytes text within are =
-    subst (λ (n : ℕ). AreChanged n (spliced at removed bytes text).changed) (sym (length-spliced at removed bytes text.bytes within))
-    (AreChanged-changed_by at removed (length bytes) (length text.bytes) within text.changed are)
+AreChanged-spliced at removed bytes text within are = search (rules, arith, length-spliced, AreChanged-changed_by)
 
 -- what edits make of a text is an edit of what it was made from
 pub IsEditOf-spliced_each : (es : List Edit) (old : List ℕ) (text : EditedText) → CanApply es text.bytes → AreChanged (length text.bytes) text.changed → IsEditOf old text

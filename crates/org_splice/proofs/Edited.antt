@@ -1,8 +1,8 @@
 -- A splice keeps what is known of a text: its ranges stay apart and few, and it stays an edit of
 -- what it was made from.
 use Rattle.std.proofs.Common.{◌≡◌, ◌⊎◌, inl, inr, ⊎_elim, ℕ, ◌+◌, ◌-◌, ◌<◌, ◌≤◌, ◌++◌, eqb, List, length, get_or, take, drop, Some, sym, ◌∙◌, ap, arith, length-append, length-drop, length-take}
+use Rattle.std.proofs.lemmas.Grind.{common_steps}
 use Rattle.std.proofs.lemmas.Bool.{eqb-true, cond_both}
-use Rattle.std.proofs.lemmas.List.{get_or-take, get_or_append_left}
 use Rattle.std.proofs.lemmas.Option.{slice_get-get_or}
 use Rattle.org_splice.specs.declared.Span.{Span}
 use Rattle.org_splice.specs.Ranges.{AreChanged, IsUnchanged, cut_at, own_range, changed_by}
@@ -27,12 +27,7 @@ module _ (at removed added old_size : ℕ) (within : at + removed ≤ old_size) 
 
   pub AreChanged-changed_by : (ranges : List Span) → AreChanged old_size ranges → AreChanged (old_size - removed + added) (changed_by at removed added (old_size - removed + added) ranges)
   unfolding own size
-  AreChanged-changed_by ranges are =
-      let kept = LieApart-cut_at 0 old_size (old_size - removed + added) ranges are.apart in
-      record {
-        apart = LieApart-with_range (old_size - removed + added) (own_range at removed added (old_size - removed + added)) (cut_at (old_size - removed + added) ranges) own_rises own_within kept;
-        few = length-with_range (own_range at removed added (old_size - removed + added)) (cut_at (old_size - removed + added) ranges) (omega (arith, are.few, length-cut_at (old_size - removed + added) ranges));
-      }
+  AreChanged-changed_by ranges are = grind (arith, common_steps, LieApart-cut_at, LieApart-with_range, cut_at, own_rises, own_within, length-with_range, length-cut_at)
 
   -- a position that stays outside the changed ranges is outside them before, and lies before the
   -- splice, or behind one that keeps the length
@@ -55,10 +50,7 @@ length-spliced at removed bytes text within =
 
 -- what a splice leaves where it was
 spliced-same : (at removed : ℕ) (bytes text : List ℕ) (i : ℕ) → at + removed ≤ length text → (i < at) ⊎ ((removed ≡ length bytes) × (at + length bytes ≤ i)) → get_or (take at text ++ bytes ++ drop (at + removed) text) i 0 ≡ get_or text i 0
-spliced-same at removed bytes text i within (inl before) =
-    get_or_append_left (take at text ++ bytes) (drop (at + removed) text) 0 i (omega (arith, before, within, length-append (take at text) bytes, length-take at text))
-    ∙ get_or_append_left (take at text) bytes 0 i (omega (arith, before, within, length-take at text))
-    ∙ get_or-take at text i 0 before
+spliced-same at removed bytes text i within (inl before) = grind (arith, common_steps)
 spliced-same at removed bytes text i within (inr behind) =
     ap (λ (n : ℕ). get_or (take at text ++ bytes ++ drop (at + n) text) i 0) behind.0 ∙ overwritten-outside at bytes text i (omega (arith, within)) (inr behind.1)
 

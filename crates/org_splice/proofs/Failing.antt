@@ -6,10 +6,6 @@ pub not_ok : {T E : Type 0} (r : Result T E) (P : Type 0) → IsErr r → OnOk r
 not_ok (Ok v) P h = absurd (cc)
 not_ok (Err e) P h = tt
 
-pub at_err : {T E : Type 0} (r : Result T E) (P : Type 0) → P → OnErr r P
-at_err (Ok v) P h = tt
-at_err (Err e) P h = h
-
 pub no_value : {T E : Type 0} (r : Result T E) (P : T → Type 0) → IsErr r → IfOk r P
 no_value (Ok v) P h = absurd (cc)
 no_value (Err e) P h = tt

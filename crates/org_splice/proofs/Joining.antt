@@ -1,5 +1,6 @@
 -- The ranges cut, and with one more, made from the first range to the last.
-use Rattle.std.proofs.Common.{◌≡◌, ◌<◌, ◌≤◌, ◌+◌, ℕ, min, max, List, [], ◌∷◌, ◌++◌, sym, ◌∙◌, ap, arith, cond, ltb, append_assoc}
+use Rattle.std.proofs.Common.{◌≡◌, ◌<◌, ◌≤◌, ◌+◌, ℕ, min, max, List, [], ◌∷◌, ◌++◌, arith, append_assoc}
+use Rattle.std.proofs.lemmas.Grind.{common_steps}
 use Rattle.std.proofs.lemmas.Bool.{lt-ltb, le-ltb, cond-true, cond-false}
 use Rattle.org_splice.specs.declared.Span.{Span}
 use Rattle.org_splice.specs.Ranges.{LieApart, cut_at, joined}
@@ -14,53 +15,21 @@ pub record IsJoinedSoFar (size : ℕ) (first : Span) (ranges all : List Span) (o
 -- one that lies before it goes in front
 pub joined_before : (size : ℕ) (first : Span) (ranges all : List Span) (own range : Span) (rest : List Span) → range.end < own.start → IsJoinedSoFar size first ranges all own (range ∷ rest)
     → IsJoinedSoFar size first ranges (all ++ range ∷ []) own rest
-joined_before size first ranges all own range rest before done =
-    let both : Span = record { start = min own.start range.start; end = max own.end range.end } in
-    record {
-      so_far = append_assoc all (range ∷ []) (joined own rest)
-          ∙ ap (λ (t : List Span). all ++ t) (sym (cond-true (ltb range.end own.start) (range ∷ joined own rest) (cond (ltb own.end range.start) (own ∷ range ∷ rest) (joined both rest)) (lt-ltb range.end own.start before)))
-          ∙ done.so_far;
-      full = done.full;
-      apart = LieApart-earlier (range.end + 1) 0 size rest (omega arith) done.apart.3;
-    }
+joined_before size first ranges all own range rest before done = grind (arith, common_steps, append_assoc, joined, cond-true, lt-ltb, LieApart-earlier)
 
 -- one that lies behind it is at hand then
 pub joined_behind : (size : ℕ) (first : Span) (ranges all : List Span) (own range : Span) (rest : List Span) → own.end < range.start → IsJoinedSoFar size first ranges all own (range ∷ rest)
     → IsJoinedSoFar size first ranges (all ++ own ∷ []) range rest
-joined_behind size first ranges all own range rest behind done =
-    let both : Span = record { start = min own.start range.start; end = max own.end range.end } in
-    record {
-      so_far = append_assoc all (own ∷ []) (joined range rest)
-          ∙ ap (λ (t : List Span). all ++ own ∷ t) (joined-apart size range rest done.apart.1 done.apart.3)
-          ∙ ap (λ (t : List Span). all ++ t)
-          (sym (cond-false (ltb range.end own.start) (range ∷ joined own rest) (cond (ltb own.end range.start) (own ∷ range ∷ rest) (joined both rest)) (le-ltb range.end own.start (omega (arith, behind, done.full, done.apart.1)))
-          ∙ cond-true (ltb own.end range.start) (own ∷ range ∷ rest) (joined both rest) (lt-ltb own.end range.start behind)))
-          ∙ done.so_far;
-      full = done.apart.1;
-      apart = LieApart-earlier (range.end + 1) 0 size rest (omega arith) done.apart.3;
-    }
+joined_behind size first ranges all own range rest behind done = grind (arith, common_steps, append_assoc, joined, joined-apart, cond-false, le-ltb, cond-true, lt-ltb, LieApart-earlier)
 
 -- one that touches or overlaps it becomes one with it
 pub joined_touching : (size : ℕ) (first : Span) (ranges all : List Span) (own range : Span) (rest : List Span) → own.start ≤ range.end → range.start ≤ own.end → IsJoinedSoFar size first ranges all own (range ∷ rest)
     → IsJoinedSoFar size first ranges all (record { start = min own.start range.start; end = max own.end range.end }) rest
-joined_touching size first ranges all own range rest not_before not_behind done =
-    let both : Span = record { start = min own.start range.start; end = max own.end range.end } in
-    record {
-      so_far = ap (λ (t : List Span). all ++ t)
-          (sym (cond-false (ltb range.end own.start) (range ∷ joined own rest) (cond (ltb own.end range.start) (own ∷ range ∷ rest) (joined both rest)) (le-ltb range.end own.start not_before)
-          ∙ cond-false (ltb own.end range.start) (own ∷ range ∷ rest) (joined both rest) (le-ltb own.end range.start not_behind)))
-          ∙ done.so_far;
-      full = omega (arith, done.full);
-      apart = LieApart-earlier (range.end + 1) 0 size rest (omega arith) done.apart.3;
-    }
+joined_touching size first ranges all own range rest not_before not_behind done = grind (arith, common_steps, cond-false, joined, le-ltb, LieApart-earlier)
 
 -- a range that is cut: it is kept, or left out
 pub cut_kept : (size : ℕ) (range : Span) (rest : List Span) → range.start < size → cut_at size (range ∷ rest) ≡ record { start = range.start; end = min range.end size } ∷ cut_at size rest
-cut_kept size range rest before =
-    let cut : Span = record { start = range.start; end = min range.end size } in
-    cond-true (ltb range.start size) (cut ∷ cut_at size rest) (cut_at size rest) (lt-ltb range.start size before)
+cut_kept size range rest before = grind (arith, common_steps)
 
 pub cut_left_out : (size : ℕ) (range : Span) (rest : List Span) → size ≤ range.start → cut_at size (range ∷ rest) ≡ cut_at size rest
-cut_left_out size range rest behind =
-    let cut : Span = record { start = range.start; end = min range.end size } in
-    cond-false (ltb range.start size) (cut ∷ cut_at size rest) (cut_at size rest) (le-ltb range.start size behind)
+cut_left_out size range rest behind = grind (arith, common_steps)

@@ -1,7 +1,8 @@
 -- A pass over the lines of a text, and what a terminated text ends with.
-use Rattle.std.proofs.Common.{◌≡◌, ℕ, zero, suc, ◌+◌, ◌-◌, ◌<◌, ◌≤◌, true, false, eqb, List, [], ◌∷◌, ◌++◌, length, drop, take, get_or, Option, None, Some, refl, sym, ap, subst, ◌∙◌, arith, eq-eqb, inl, inr}
+use Rattle.std.proofs.Common.{◌≡◌, ℕ, zero, suc, ◌+◌, ◌-◌, ◌<◌, ◌≤◌, true, false, eqb, List, [], ◌∷◌, ◌++◌, length, drop, take, get_or, Option, None, Some, refl, sym, ap, subst, ◌∙◌, arith, eq-eqb}
+use Rattle.std.proofs.lemmas.Grind.{common_steps}
 use Rattle.std.specs.Prelude.{◌≢◌}
-use Rattle.std.proofs.lemmas.Bool.{cases_Bool, eqb-true}
+use Rattle.std.proofs.lemmas.Bool.{eqb-true}
 use Rattle.std.proofs.lemmas.Bool.Decides.{nat_tests}
 use Rattle.std.proofs.lemmas.List.{append_cancel_left, drop-drop, get_or_at, length-append, length-drop, length-take-le, take_rest}
 use Rattle.memchr.specs.Find.{IsFirstByte, is_byte}
@@ -27,9 +28,7 @@ cut (b ∷ bs) (suc e) lt before here =
     record { line = (before 0 (omega arith), more.line); parts = ap (λ (bs : List ℕ). b ∷ bs) more.parts }
 
 pub cut_found : (t : List ℕ) (e : ℕ) → IsFirstByte (is_byte 10) t (Some e) → Cuts t e
-cut_found t e h =
-    let is : eqb (get_or t e 0) 10 ≡ true = h.1 in
-    cut t e h.0.high (λ k lt same. h.0.before k (omega arith) lt (eq-eqb (get_or t k 0) 10 same)) (grind (arith, nat_tests))
+cut_found t e h = grind (arith, common_steps, cut, eq-eqb, nat_tests)
 
 pub tail_is : (b c : ℕ) (xs ys : List ℕ) → b ∷ xs ≡ c ∷ ys → xs ≡ ys
 tail_is b c xs ys e = cc
@@ -41,9 +40,7 @@ no_line (b ∷ []) none e =
     let ne : b ≢ 10 = none 0 (omega arith) in
     let no : eqb b 10 ≡ false = grind (arith, nat_tests) in
     let e' = rw no at e in absurd cc
-no_line (b ∷ c ∷ bs) none e =
-    let more = no_line (c ∷ bs) (λ k lt. none (suc k) (omega arith)) (tail_is b b (terminated (c ∷ bs)) (c ∷ bs) e) in
-    absurd cc
+no_line (b ∷ c ∷ bs) none e = grind (arith, common_steps, no_line (c ∷ bs) (λ k lt. none (suc k) (omega arith)) (tail_is b b (terminated (c ∷ bs)) (c ∷ bs) e))
 
 -- the line that begins at `start`, and the rest
 pub record Steps (text : List ℕ) (start e : ℕ) : Type 0 where
@@ -53,32 +50,14 @@ pub record Steps (text : List ℕ) (start e : ℕ) : Type 0 where
   pub lines : lines_of (drop start text) ≡ take e (drop start text) ∷ lines_of (drop (start + e + 1) text)
 
 pub step : (text : List ℕ) (start e : ℕ) → terminated (drop start text) ≡ drop start text → IsFirstByte (is_byte 10) (drop start text) (Some e) → Steps text start e
-step text start e whole h =
-    let t = drop start text in
-    let c = cut_found t e h in
-    let l = take e t in
-    let lt : e < length t = h.0.high in
-    let here : start + suc e ≡ start + e + 1 = omega arith in
-    let after : drop (suc e) t ≡ drop (start + e + 1) text = drop-drop (suc e) start text ∙ ap (λ k. drop k text) here in
-    let same : l ++ 10 ∷ terminated (drop (suc e) t) ≡ l ++ 10 ∷ drop (suc e) t = sym (terminated-append l (drop (suc e) t)) ∙ ap terminated (sym c.parts) ∙ whole ∙ c.parts in
-    let P : List ℕ → Type 0 = λ r. terminated r ≡ r in
-    let read : lines_of t ≡ l ∷ lines_of (drop (suc e) t) = ap lines_of c.parts ∙ lines_of-append l (drop (suc e) t) c.line in
-    record {
-      within = omega (arith, length-drop start text);
-      rest = subst P after (tail_is 10 10 (terminated (drop (suc e) t)) (drop (suc e) t) (append_cancel_left l (10 ∷ terminated (drop (suc e) t)) (10 ∷ drop (suc e) t) same));
-      long = length-take-le e t (omega arith);
-      lines = read ∙ ap (λ r. l ∷ lines_of r) after;
-    }
+step text start e whole h = grind (arith, common_steps, cut_found, drop-drop, terminated-append, lines_of-append, length-drop, tail_is, append_cancel_left, length-take-le)
 
 -- the same as the code says it: what `memchr` found in `text[start..]`
 pub record Found (text : List ℕ) (start : ℕ) (r : Option ℕ) : Type 0 where
   pub first : IsFirstByte (is_byte 10) (take (length text - start) (drop start text)) r
 
 pub found_in : (text : List ℕ) (start : ℕ) (r q : Option ℕ) → Found text start r → r ≡ q → IsFirstByte (is_byte 10) (drop start text) q
-found_in text start r q h e =
-    let P : List ℕ → Type 0 = λ t. IsFirstByte (is_byte 10) t q in
-    let Q : Option ℕ → Type 0 = λ q. IsFirstByte (is_byte 10) (take (length text - start) (drop start text)) q in
-    subst P (take_rest text start) (subst Q e h.first)
+found_in text start r q h e = grind (arith, common_steps)
 
 -- a text is terminated where it is empty or ends in a newline
 pub terminated-last : (t : List ℕ) → get_or t (length t - 1) 0 ≡ 10 → terminated t ≡ t
@@ -90,11 +69,7 @@ terminated-last (b ∷ c ∷ bs) e =
 
 pub last-terminated : (t : List ℕ) → terminated t ≡ t → 0 < length t → get_or t (length t - 1) 0 ≡ 10
 last-terminated [] e lt = absurd (omega arith)
-last-terminated (b ∷ []) e lt =
-    elim (cases_Bool (eqb b 10)) [
-      | inl e1 ↦ eqb-true b 10 e1
-      | inr e1 ↦ let e2 = rw e1 at e in absurd cc
-    ]
+last-terminated (b ∷ []) e lt = grind (arith, common_steps)
 last-terminated (b ∷ c ∷ bs) e lt =
     let k : length (b ∷ c ∷ bs) - 1 ≡ suc (length (c ∷ bs) - 1) = omega arith in
     ap (λ k. get_or (b ∷ c ∷ bs) k 0) k ∙ last-terminated (c ∷ bs) (tail_is b b (terminated (c ∷ bs)) (c ∷ bs) e) (omega arith)
@@ -111,12 +86,7 @@ first_newline (b ∷ l) more (suc e) p before here = ap suc (first_newline l mor
 -- the first newline, where there is one
 pub line_end : (t : List ℕ) (start : ℕ) (r : Option ℕ) (e : ℕ) → IsFirstByte (is_byte 10) (take (length t - start) (drop start t)) r → r ≡ Some e
     → (l more : List ℕ) → IsLine l → drop start t ≡ l ++ 10 ∷ more → start + e + 1 ≡ start + length l + 1
-line_end t start r e h is l more p split =
-    let P : List ℕ → Type 0 = λ t. IsFirstByte (is_byte 10) t (Some e) in
-    let Q : Option ℕ → Type 0 = λ r. IsFirstByte (is_byte 10) (take (length t - start) (drop start t)) r in
-    let g = subst P (take_rest t start ∙ split) (subst Q is h) in
-    let same : e ≡ length l = first_newline l more e p (λ k lt e1. g.0.before k (omega arith) lt (eq-eqb (get_or (l ++ 10 ∷ more) k 0) 10 e1)) (eqb-true (get_or (l ++ 10 ∷ more) e 0) 10 g.1) in
-    omega (arith, same)
+line_end t start r e h is l more p split = grind (arith, common_steps, take_rest, first_newline, eq-eqb, eqb-true)
 
 pub line_none : (t : List ℕ) (start : ℕ) (r : Option ℕ) → IsFirstByte (is_byte 10) (take (length t - start) (drop start t)) r → r ≡ None
     → (l more : List ℕ) → IsLine l → drop start t ≡ l ++ 10 ∷ more → ⊥

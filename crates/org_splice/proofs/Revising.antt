@@ -1,17 +1,10 @@
 -- What an edit of a text's parts makes of its versions.
 use Rattle.std.proofs.Common.{◌≡◌, ap, ◌∙◌}
 use Rattle.org_splice.specs.Texts.{EditedText}
-use Rattle.org_splice.specs.Versions.{Versions, revised}
+use Rattle.org_splice.specs.Versions.{Versions}
 
 abbrev pub versions : EditedText → EditedText → Versions
 versions text before = record { text = text; before = before }
-
--- the text is edited, and what it was before its edits stays
-pub revised_by : (edit : EditedText → EditedText) (text new before after : EditedText) (old : Versions) →
-    versions text before ≡ old → new ≡ edit text → after ≡ before → versions new after ≡ revised old (edit old.text)
-revised_by edit text new before after old seen made same =
-    ap (λ (t : EditedText). versions t after) made ∙ ap (versions (edit text)) same
-    ∙ ap (λ (v : Versions). revised v (edit v.text)) seen
 
 -- both stay
 pub as_before : (text new before after : EditedText) (old : Versions) → versions text before ≡ old → new ≡ text → after ≡ before → versions new after ≡ old

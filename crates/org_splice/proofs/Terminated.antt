@@ -1,7 +1,7 @@
 -- A text with a newline at its end, by its last byte.
-use Rattle.std.proofs.Common.{◌≡◌, ℕ, zero, suc, ◌+◌, ◌++◌, eqb, true, false, List, [], ◌∷◌, length, get_or, take, drop, refl, ◌∙◌, ap, arith, eq-eqb}
+use Rattle.std.proofs.Common.{◌≡◌, ℕ, zero, suc, ◌+◌, ◌++◌, eqb, true, false, List, [], ◌∷◌, length, get_or, take, drop, refl, ap, arith, eq-eqb}
+use Rattle.std.proofs.lemmas.Grind.{common_steps}
 use Rattle.std.proofs.lemmas.Bool.{ne_eqb, cond-true, cond-false}
-use Rattle.std.proofs.lemmas.List.{append-nil, take_all, drop_all}
 use Rattle.org_splice.specs.Lines.{terminated, is_terminated}
 
 -- a text that ends in a newline is terminated
@@ -22,10 +22,7 @@ terminated-open (b ∷ c ∷ bs) (suc k) long other = ap (λ (t : List ℕ). b �
 
 -- bytes put at the end
 pub spliced-end : (text bytes : List ℕ) → take (length text) text ++ bytes ++ drop (length text + 0) text ≡ text ++ bytes
-spliced-end text bytes =
-    ap (λ (front : List ℕ). front ++ bytes ++ drop (length text + 0) text) (take_all (length text) text (omega arith))
-    ∙ ap (λ (end : List ℕ). text ++ bytes ++ end) (drop_all (length text + 0) text (omega arith))
-    ∙ append-nil (text ++ bytes)
+spliced-end text bytes = grind (arith, common_steps)
 
 -- the same, as a test answers it
 pub is_terminated-newline : (text : List ℕ) (k : ℕ) → k + 1 ≡ length text → get_or text k 0 ≡ 10 → is_terminated text ≡ true

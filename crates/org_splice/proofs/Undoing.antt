@@ -1,5 +1,6 @@
 -- Edits are taken back, the last first.
-use Rattle.std.proofs.Common.{◌≡◌, ℕ, ◌+◌, ◌-◌, ◌≤◌, List, [], ◌∷◌, ◌++◌, length, take, drop, refl, sym, ◌∙◌, ap, subst, arith, append_assoc, length-append, length-drop, length-take}
+use Rattle.std.proofs.Common.{rules, ◌≡◌, ℕ, ◌+◌, ◌-◌, ◌≤◌, List, [], ◌∷◌, ◌++◌, length, take, drop, refl, sym, ◌∙◌, ap, subst, arith, append_assoc, length-append}
+use Rattle.std.proofs.lemmas.Grind.{common_steps}
 use Rattle.std.specs.Prelude.{slice_range}
 use Rattle.std.proofs.lemmas.List.{take_at, drop_at, take-append-drop, length-take-le}
 use Rattle.std.proofs.Math.Seq.{drop-drop}
@@ -7,7 +8,6 @@ use Rattle.org_splice.specs.Ranges.{AreChanged}
 use Rattle.org_splice.specs.Edits.{edited}
 use Rattle.org_splice.specs.Texts.{EditedText}
 use Rattle.org_splice.specs.declared.Span.{Span}
-use Rattle.org_splice.proofs.Edited.{length-spliced}
 use Rattle.org_splice.specs.declared.undo.Undo.{Undo}
 use Rattle.org_splice.specs.Versions.{AreUndos, IsUndo, text_of_parts, undone, undone_all}
 
@@ -18,16 +18,11 @@ undone_all-push (one ∷ undos) undo text = ap (undone one) (undone_all-push und
 
 pub AreUndos-push : (room : ℕ) (undos : List Undo) (undo : Undo) (text : EditedText) → IsUndo room undo text → AreUndos room undos (undone undo text) → AreUndos room (undos ++ undo ∷ []) text
 AreUndos-push room [] undo text is are = (tt, is)
-AreUndos-push room (one ∷ undos) undo text is are = (
-  AreUndos-push room undos undo text is are.0,
-  subst (IsUndo room one) (sym (undone_all-push undos undo text)) are.1,
-)
+AreUndos-push room (one ∷ undos) undo text is are = grind (arith, common_steps, undone_all-push, AreUndos-push room undos undo text is are.0)
 
 pub AreUndos-last : (room : ℕ) (undos : List Undo) (undo : Undo) (text : EditedText) → AreUndos room (undos ++ undo ∷ []) text → IsUndo room undo text × AreUndos room undos (undone undo text)
 AreUndos-last room [] undo text are = (are.1, tt)
-AreUndos-last room (one ∷ undos) undo text are =
-    let rest = AreUndos-last room undos undo text are.0 in
-    (rest.0, (rest.1, subst (IsUndo room one) (undone_all-push undos undo text) are.1))
+AreUndos-last room (one ∷ undos) undo text are = grind (arith, common_steps, undone_all-push, AreUndos-last room undos undo text are.0)
 
 -- the same as the code says it: `undo` was taken off the list `items`
 pub AreUndos-popped : (room : ℕ) (items undos : List Undo) (undo : Undo) (text : EditedText) → items ≡ undos ++ undo ∷ [] → AreUndos room items text → IsUndo room undo text × AreUndos room undos (undone undo text)
@@ -35,10 +30,7 @@ AreUndos-popped room items undos undo text is are = AreUndos-last room undos und
 
 pub AreUndos-wider : (room wider : ℕ) (undos : List Undo) (text : EditedText) → room ≤ wider → AreUndos room undos text → AreUndos wider undos text
 AreUndos-wider room wider [] text more are = tt
-AreUndos-wider room wider (one ∷ undos) text more are = (
-  AreUndos-wider room wider undos text more are.0,
-  record { within = are.1.within; fits = omega (arith, more, are.1.fits); changed = are.1.changed },
-)
+AreUndos-wider room wider (one ∷ undos) text more are = grind (arith, common_steps, AreUndos-wider room wider undos text more are.0)
 
 -- what stood in a text where bytes came in the place of others
 back : (at removed : ℕ) (added text : List ℕ) → at + removed ≤ length text
@@ -66,37 +58,15 @@ pub record IsBack (undo : Undo) (at removed : ℕ) (added : List ℕ) (text : Ed
 -- taking back what was put in makes what was
 pub undone-put : (undo : Undo) (at removed : ℕ) (added : List ℕ) (new : List Span) (text : EditedText) → at + removed ≤ length text.bytes
     → IsBack undo at removed added text → undone undo (text_of_parts (edited at removed added text.bytes) new) ≡ text
-undone-put undo at removed added new text within is =
-    let with : ℕ → ℕ → List ℕ → List Span → EditedText = λ a n b changed. record { bytes = take a (edited at removed added text.bytes) ++ b ++ drop (a + n) (edited at removed added text.bytes); changed = changed } in
-    let bytes : List ℕ → EditedText = λ b. record { bytes = b; changed = text.changed } in
-    ap (λ (a : ℕ). with a undo.added undo.removed undo.changed.items) is.at_is
-    ∙ ap (λ (n : ℕ). with at n undo.removed undo.changed.items) is.added_is
-    ∙ ap (λ (b : List ℕ). with at (length added) b undo.changed.items) is.removed_is
-    ∙ ap (λ (c : List Span). with at (length added) (slice_range text.bytes at (at + removed)) c) is.changed_is
-    ∙ ap bytes (back at removed added text.bytes within)
+undone-put undo at removed added new text within is = grind (arith, common_steps, back)
 
 -- it can be taken back, where there is room for the text that was
 pub IsUndo-put : (room : ℕ) (undo : Undo) (at removed : ℕ) (added : List ℕ) (new : List Span) (text : EditedText) → at + removed ≤ length text.bytes → length text.bytes ≤ room
     → AreChanged (length text.bytes) text.changed → IsBack undo at removed added text → IsUndo room undo (text_of_parts (edited at removed added text.bytes) new)
-IsUndo-put room undo at removed added new text within fits are is =
-    let long : length (edited at removed added text.bytes) ≡ length text.bytes - removed + length added = length-spliced at removed added text.bytes within in
-    let slice : length (take (at + removed - at) (drop at text.bytes)) ≡ removed = omega (arith, within, length-take (at + removed - at) (drop at text.bytes), length-drop at text.bytes) in
-    let old : length undo.removed ≡ removed = ap length is.removed_is ∙ slice in
-    let size : length (edited at removed added text.bytes) - undo.added + length undo.removed ≡ length text.bytes = omega (arith, long, old, is.added_is, within) in
-    record {
-      within = omega (arith, long, is.at_is, is.added_is, within);
-      fits = omega (arith, size, fits);
-      changed = subst (λ (n : ℕ). AreChanged n undo.changed.items) (sym size) (subst (AreChanged (length text.bytes)) (sym is.changed_is) are);
-    }
+IsUndo-put room undo at removed added new text within fits are is = grind (arith, common_steps)
 
 -- one more, with what takes it back
 pub AreUndos-put : (room wider : ℕ) (undos : List Undo) (undo : Undo) (at removed : ℕ) (added : List ℕ) (new : List Span) (text : EditedText) → at + removed ≤ length text.bytes → length text.bytes ≤ wider → room ≤ wider
     → AreChanged (length text.bytes) text.changed → IsBack undo at removed added text → AreUndos room undos text
     → AreUndos wider (undos ++ undo ∷ []) (text_of_parts (edited at removed added text.bytes) new) × (undone_all (undos ++ undo ∷ []) (text_of_parts (edited at removed added text.bytes) new) ≡ undone_all undos text)
-AreUndos-put room wider undos undo at removed added new text within fits more changed is are =
-    let put = text_of_parts (edited at removed added text.bytes) new in
-    let same = undone-put undo at removed added new text within is in (
-      AreUndos-push wider undos undo put (IsUndo-put wider undo at removed added new text within fits changed is)
-          (subst (AreUndos wider undos) (sym same) (AreUndos-wider room wider undos text more are)),
-      undone_all-push undos undo put ∙ ap (undone_all undos) same,
-    )
+AreUndos-put room wider undos undo at removed added new text within fits more changed is are = search (rules, arith, undone-put, AreUndos-push, IsUndo-put, AreUndos-wider, undone_all-push)

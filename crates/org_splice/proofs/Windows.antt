@@ -1,10 +1,11 @@
 -- Edits of a part of a text are edits of the text.
-use Rattle.std.proofs.Common.{◌≡◌, ℕ, zero, suc, ◌+◌, ◌-◌, ◌<◌, ◌≤◌, ◌++◌, List, [], ◌∷◌, length, take, drop, get_or, sym, ◌∙◌, ap, subst, arith, add-one, append_assoc, length-append}
+use Rattle.std.proofs.Common.{◌≡◌, ℕ, zero, suc, ◌+◌, ◌-◌, ◌<◌, ◌≤◌, ◌++◌, List, [], ◌∷◌, length, take, drop, get_or, sym, ◌∙◌, ap, subst, arith, add-one, append_assoc}
+use Rattle.std.proofs.lemmas.Grind.{common_steps}
 use Rattle.std.specs.Prelude.{slice_range}
-use Rattle.std.proofs.lemmas.List.{take_at, drop_at, take-append-drop, length-take-le}
+use Rattle.std.proofs.lemmas.List.{take-append-drop, length-take-le}
 use Rattle.std.proofs.Math.Seq.{drop-drop}
 use Rattle.org_splice.specs.declared.Span.{Span}
-use Rattle.org_splice.specs.Edits.{edited, IsReplaced}
+use Rattle.org_splice.specs.Edits.{edited}
 use Rattle.org_splice.specs.Ranges.{AreChanged, changed_by}
 use Rattle.org_splice.specs.Texts.{EditedText, spliced, spliced_each}
 use Rattle.org_splice.specs.declared.edit.Edit.{Edit}
@@ -55,20 +56,6 @@ pub next_edit : (i : ℕ) (es : List Edit) (e : Edit) (before after final : Edit
 next_edit i es e before after final more same made all =
     subst (λ (k : ℕ). spliced_each (drop k es) after ≡ final) (sym (add-one i)) (next i es e before after final more same made all)
 
--- what an edit leaves before and behind it
-pub IsReplaced-edited : (at removed added : ℕ) (bytes text new : List ℕ) → at + removed ≤ length text → new ≡ edited at removed bytes text → added ≡ length bytes → IsReplaced at removed added text new
-IsReplaced-edited at removed added bytes text new within made long =
-    let all : List ℕ = edited at removed bytes text in
-    let size : length (take at text) ≡ at = length-take-le at text (omega (arith, within)) in
-    let both : length (take at text ++ bytes) ≡ at + added = omega (arith, length-append (take at text) bytes, size, long) in
-    let whole : length new ≡ length text - removed + length bytes = ap length made ∙ length-spliced at removed bytes text within in
-    record {
-      removed_in = within;
-      added_in = omega (arith, within, whole, long);
-      front = ap (take at) (made ∙ append_assoc (take at text) bytes (drop (at + removed) text)) ∙ take_at (take at text) (bytes ++ drop (at + removed) text) at size;
-      back = ap (drop (at + added)) made ∙ drop_at (take at text ++ bytes) (drop (at + removed) text) (at + added) both;
-    }
-
 -- a part of a text, `removed` bytes from `start` on, for which a window stands, and an edit within
 module _ (text window bytes new : List ℕ) (start removed at gone : ℕ) (part_in : start + removed ≤ length text) (behind : start ≤ at) (within : at - start + gone ≤ length window) (made : new ≡ edited (at - start) gone bytes window) where
   -- the edit of the window is one of the text
@@ -90,11 +77,7 @@ module _ (text window bytes new : List ℕ) (start removed at gone : ℕ) (part_
   -- it makes the same text and the same changed ranges
   pub same_splice : (size : ℕ) (ranges changed : List Span) → size ≡ length text - removed + length new → changed ≡ changed_by at gone (length bytes) size ranges
       → text_of_parts (edited start removed new text) changed ≡ spliced at gone bytes (text_of_parts (edited start removed window text) ranges)
-  same_splice size ranges changed long with =
-      let all : List ℕ = edited start removed window text in
-      let size_is : size ≡ length all - gone + length bytes = long ∙ sym (length-spliced start removed new text part_in) ∙ ap length same_edit ∙ length-spliced at gone bytes all edit_in in
-      ap (λ (b : List ℕ). text_of_parts b changed) same_edit
-      ∙ ap (λ (r : List Span). text_of_parts (edited at gone bytes all) r) (with ∙ ap (λ (n : ℕ). changed_by at gone (length bytes) n ranges) size_is)
+  same_splice size ranges changed long with = grind (arith, common_steps, length-spliced, same_edit, edit_in, changed_by)
 
   pub stay_changed : (size : ℕ) (ranges changed : List Span) → size ≡ length text - removed + length new → changed ≡ changed_by at gone (length bytes) size ranges
       → AreChanged (length (edited start removed window text)) ranges → AreChanged (length (edited start removed new text)) changed

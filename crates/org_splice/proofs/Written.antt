@@ -1,6 +1,7 @@
 -- The patches of an edited text: they are well formed, fit each text that it was made from, and
 -- make the text of it.
 use Rattle.std.proofs.Common.{◌≡◌, inl, inr, ⊎_elim, ℕ, ◌+◌, ◌-◌, ◌<◌, ◌≤◌, ◌++◌, max, List, [], ◌∷◌, length, get_or, take, drop, map, Option, Some, refl, sym, ◌∙◌, ap, subst, arith, append_assoc, length-drop, length-take, lit≤}
+use Rattle.std.proofs.lemmas.Grind.{common_steps}
 use Rattle.std.specs.Prelude.{slice_get, slice_range, unwrap_or}
 use Rattle.std.specs.List.{AllByRecursion}
 use Rattle.std.proofs.lemmas.Bool.{cases_lt}
@@ -36,9 +37,7 @@ module _ (bytes : List ℕ) where
 
   last_end-ranges : (place : ℕ) (ranges : List Span) → place ≤ length bytes → LieApart place (length bytes) ranges → last_end place (map (patch_of bytes) ranges) ≤ length bytes
   last_end-ranges place [] within apart = within
-  last_end-ranges place (range ∷ ranges) within apart =
-      last_end-ranges (end_of (patch_of bytes range)) ranges (omega (arith, apart.2, end_of-patch_of range apart.1 apart.2))
-      (LieApart-earlier (range.end + 1) (end_of (patch_of bytes range)) (length bytes) ranges (omega (arith, end_of-patch_of range apart.1 apart.2)) apart.3)
+  last_end-ranges place (range ∷ ranges) within apart = grind (arith, common_steps, last_end-ranges (end_of (patch_of bytes range)) ranges (omega (arith, apart.2, end_of-patch_of range apart.1 apart.2)) (LieApart-earlier (range.end + 1) (end_of (patch_of bytes range)) (length bytes) ranges (omega (arith, end_of-patch_of range apart.1 apart.2)) apart.3))
 
   full-ranges : (place : ℕ) (ranges : List Span) → LieApart place (length bytes) ranges → AllByRecursion (λ patch. 1 ≤ length patch.1) (map (patch_of bytes) ranges)
   full-ranges place [] apart = tt

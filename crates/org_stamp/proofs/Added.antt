@@ -1,5 +1,6 @@
 -- Days and months that the library adds to a day.
-use Rattle.std.proofs.Common.{◌≡◌, ℕ, ◌<◌, ◌≤◌, inl, inr, Bool, true, false, IsTrue, ℤ, pos, ◌+ℤ◌, refl, ap, ◌∙◌, arith}
+use Rattle.std.proofs.Common.{◌≡◌, ℕ, ◌<◌, ◌≤◌, Bool, true, false, ℤ, pos, ◌+ℤ◌, ap, ◌∙◌, arith}
+use Rattle.std.proofs.lemmas.Grind.{common_steps}
 use Rattle.std.proofs.lemmas.Bool.{cases_lt}
 use Rattle.jiff_core.specs.declared.civil.date.Date.{Date}
 use Rattle.jiff_core.specs.declared.span.Span.{Span}
@@ -11,7 +12,7 @@ use Rattle.jiff_core.specs.Sign.{signed}
 use Rattle.jiff_core.specs.Span.{SetsUnit, total_magnitude, span_months, span_days, clock_days}
 use Rattle.jiff_core.proofs.SignedLemmas.{signed_arith}
 use Rattle.jiff_core.proofs.DateLemmas.{epoch_day_range}
-use Rattle.jiff.specs.Words.{date_add, CanAddToDate, add_months, shifted_year, shifted_month}
+use Rattle.jiff.specs.Words.{date_add, CanAddToDate, shifted_year, shifted_month}
 use Rattle.org_stamp.specs.Calendar.{CivilDay, IsDay, day_number, months_after}
 use Rattle.org_stamp.proofs.Later.{IsFoundDay, last_number, year_within, same_parts, months_civil}
 
@@ -30,10 +31,6 @@ pub record GoesOn (months days : ℕ) (s : Span) : Type 0 where
   pub days_are : span_days s ≡ pos days
   pub clock : clock_days s ≡ pos 0
 
-not_negative : (b : Bool) → (IsTrue b → ⊥) → b ≡ false
-not_negative true not = absurd (not refl)
-not_negative false not = refl
-
 signed_forward : (b : Bool) (m n : ℕ) → b ≡ false → m ≡ n → signed b m ≡ pos n
 signed_forward true m n is same = absurd (cc)
 signed_forward false m n is same = ap pos same
@@ -42,15 +39,9 @@ signed_zero : (b : Bool) (n : ℕ) → n ≡ 0 → signed b n ≡ pos 0
 signed_zero true n none = omega (arith, signed_arith)
 signed_zero false n none = omega (arith, signed_arith)
 
-unsigned_old : (old : Span) → total_magnitude old ≡ 0 → IsTrue old.negative → ⊥
-unsigned_old old none negative = omega (arith, old.zero_has_no_sign negative, none)
-
 -- one unit of a span without any was set to n
 set_forward : (unit : TimeUnit) (n : ℕ) (z : ℤ) (old s : Span) → total_magnitude old ≡ 0 → SetsUnit unit z old s → z ≡ pos n → s.negative ≡ false
-set_forward unit n z old s none sets is = not_negative s.negative (λ negative. elim (sets.sign.0 negative) [
-  | inl less ↦ omega (arith, signed_arith, less, is)
-  | inr old_too ↦ unsigned_old old none old_too.0
-])
+set_forward unit n z old s none sets is = grind (arith, common_steps)
 
 no_clock : (old s : Span) → total_magnitude old ≡ 0 → s.hours ≡ old.hours → s.minutes ≡ old.minutes → s.seconds ≡ old.seconds → s.milliseconds ≡ old.milliseconds → s.microseconds ≡ old.microseconds → s.nanoseconds ≡ old.nanoseconds
     → clock_days s ≡ pos 0
@@ -79,10 +70,7 @@ shifted : (d : CivilDay) (a : Date) (n : ℕ) → IsDay d → IsDateOf d a → (
 shifted d a n h is = omega (arith, signed_arith, is.year, is.month, h.1)
 
 pub months_added : (d : CivilDay) (a : Date) (n : ℕ) (s : Span) → IsDay d → IsDateOf d a → GoesOn n 0 s → date_add a s ≡ day_number (months_after d n)
-months_added d a n s h is on =
-    let parts = shifted d a n h is in
-    let months : add_months a (pos n) ≡ day_number (months_after d n) = rw (parts.0, parts.1, is.day) refl in
-    rw (on.months_are, on.days_are, on.clock) (omega (arith, signed_arith, months))
+months_added d a n s h is on = grind (arith, common_steps)
 
 pub months_fit : (d : CivilDay) (a : Date) (n : ℕ) (s : Span) → IsDay d → IsDateOf d a → GoesOn n 0 s → (months_after d n).year ≤ 9999 → CanAddToDate a s
 months_fit d a n s h is on last =
@@ -90,18 +78,9 @@ months_fit d a n s h is on last =
     let parts = shifted d a n h is in
     (rw (on.months_are, parts.0) (omega (arith, signed_arith, last)), rw added (last_number (months_after d n) (months_civil d n h) last))
 
-pub months_past : (d : CivilDay) (n : ℕ) → IsDay d → (n ≤ 239_976 → ⊥) → 9999 < (months_after d n).year
-months_past d n h not =
-    let many : 239_976 < n = elim (cases_lt 239_976 n) [ inl past ↦ past | inr few ↦ absurd (not few) ] in
-    omega (arith, h.0.0, many)
-
 -- where the library has no such day, the year is past 9999
 pub no_months : (d : CivilDay) (a : Date) (n : ℕ) (s : Span) → IsDay d → IsDateOf d a → GoesOn n 0 s → (CanAddToDate a s → ⊥) → 9999 < (months_after d n).year
-no_months d a n s h is on none =
-    elim (cases_lt 9999 (months_after d n).year) [
-      | inl past ↦ past
-      | inr last ↦ absurd (none (months_fit d a n s h is on last))
-    ]
+no_months d a n s h is on none = grind (arith, common_steps, cases_lt, months_fit)
 
 -- the library's date of the day that the number has
 pub months_found : (d : CivilDay) (n : ℕ) (date : Date) → IsDay d → epoch_day date ≡ day_number (months_after d n) → IsFoundDay date (months_after d n)

@@ -1,5 +1,6 @@
 -- When a moved timestamp starts after now.
-use Rattle.std.proofs.Common.{◌≡◌, ℕ, ◌+◌, ◌/◌, ◌<◌, ◌≤◌, inl, inr, nat_lt, Bool, true, false, Option, None, Some, List, ℤ, pos, ◌+ℤ◌, ◌*ℤ◌, ◌<ℤ◌, ◌≤ℤ◌, refl, sym, ap, ◌∙◌, subst, arith}
+use Rattle.std.proofs.Common.{◌≡◌, ℕ, ◌+◌, ◌<◌, ◌≤◌, inl, inr, nat_lt, Bool, true, false, Option, None, Some, List, ℤ, pos, ◌+ℤ◌, ◌*ℤ◌, ◌<ℤ◌, ◌≤ℤ◌, refl, sym, ap, ◌∙◌, subst, arith}
+use Rattle.std.proofs.lemmas.Grind.{common_steps}
 use Rattle.std.proofs.lemmas.Bool.{cases_lt}
 use Rattle.std.proofs.lemmas.Bool.Decides.{nat_tests}
 use Rattle.jiff_core.proofs.SignedLemmas.{signed_arith}
@@ -36,15 +37,11 @@ not_later_day a (Some t) cs d now w m h later =
     ]
 
 pub total_minutes : (s : StampValue) (total : ℕ) → IsDay s.day → minutes_of (start_of (at_total s s.day total)) ≡ day_number s.day *ℤ pos 1440 +ℤ pos total
-total_minutes s total h =
-    let number = after_number s.day (total / 1440) (civil_of s.day h) in
-    omega (arith, signed_arith, number)
+total_minutes s total h = grind (arith, common_steps, after_number, civil_of)
 
 -- minutes count from the start
 pub minutes_moved : (s : StampValue) (n : ℕ) → IsDay s.day → minutes_of (start_of (moved s Minutes n)) ≡ minutes_of (start_of s) +ℤ pos n
-minutes_moved s n h =
-    let total = total_minutes s ((start_of s).minute + n) h in
-    omega (arith, signed_arith, total)
+minutes_moved s n h = grind (arith, common_steps, total_minutes)
 
 pub later_in : (s : StampValue) (base is : Base) (n : ℕ) (now : Moment) → base ≡ is → IsLater (moved s is n) now → IsLater (moved s base n) now
 later_in s base is n now e h = subst (λ (x : Base). IsLater (moved s x n) now) (sym e) h

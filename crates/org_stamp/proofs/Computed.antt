@@ -1,6 +1,7 @@
 -- The next repetition, computed.
-use Rattle.std.proofs.Common.{◌≡◌, ℕ, zero, suc, ◌+◌, ◌*◌, ◌<◌, ◌≤◌, ◌==◌, Bool, true, false, not, ◌&&◌, inl, inr, nat_lt, Option, None, Some, ℤ, pos, neg_ℤ, ◌<ℤ◌, ◌≤ℤ◌, refl, sym, ap, ◌∙◌, if◌then◌else◌, arith, mul-le-mul_left}
-use Rattle.std.specs.Prelude.{MatchBool, Result, Ok, Err, int_lt}
+use Rattle.std.proofs.Common.{rules, ◌≡◌, ℕ, zero, suc, ◌+◌, ◌*◌, ◌<◌, ◌≤◌, Bool, true, false, not, inl, inr, Option, None, Some, ℤ, pos, neg_ℤ, ◌<ℤ◌, ◌≤ℤ◌, refl, sym, ap, ◌∙◌, if◌then◌else◌, arith, mul-le-mul_left}
+use Rattle.std.proofs.lemmas.Grind.{common_steps}
+use Rattle.std.specs.Prelude.{MatchBool, Result, int_lt}
 use Rattle.std.proofs.lemmas.Bool.{cases_lt}
 use Rattle.std.proofs.lemmas.Bool.Decides.{nat_tests}
 use Rattle.jiff_core.proofs.SignedLemmas.{signed_arith}
@@ -13,10 +14,9 @@ use Rattle.org_stamp.specs.declared.kind.Mark.TheVariants.{Cumulate, CatchUp, Re
 use Rattle.org_stamp.specs.declared.kind.Interval.{Interval}
 use Rattle.org_stamp.specs.declared.kind.Repeater.{Repeater}
 use Rattle.org_fault.specs.declared.refusal.Refusal.{Refusal}
-use Rattle.org_fault.specs.declared.refusal.Refusal.TheVariants.{BadRepeat}
-use Rattle.org_stamp.specs.Calendar.{CivilDay, Moment, IsDay, day_number, minutes_of, days_after, months_after, month_number}
-use Rattle.org_stamp.specs.Stamp.{StampValue, IsStamp, has_one_time, first_repeater, start_of}
-use Rattle.org_stamp.specs.Repeat.{in_base, is_hour, shifted, moved, in_range, IsLater, IsLaterBy, is_later, is_later_by, first_from, most_times, target_of, RepeatsBy, RepeatsAs, IsNext, repeated_by, repeated_as, repeated}
+use Rattle.org_stamp.specs.Calendar.{CivilDay, Moment, IsDay, day_number, minutes_of, days_after, months_after}
+use Rattle.org_stamp.specs.Stamp.{StampValue, IsStamp, first_repeater, start_of}
+use Rattle.org_stamp.specs.Repeat.{in_base, shifted, moved, in_range, IsLater, IsLaterBy, is_later, is_later_by, first_from, most_times, target_of, RepeatsBy, RepeatsAs, IsNext, repeated_by, repeated_as, repeated}
 use Rattle.org_stamp.proofs.Later.{after_number, civil_of, last_number, reach, IsTarget}
 use Rattle.org_stamp.proofs.Ahead.{minutes_moved, later_day}
 
@@ -56,11 +56,7 @@ times_over j v some = omega (arith, mul-le-mul_left j some)
 
 target_is : (t : Option Times) (now : Moment) → IsTarget (target_of t now) now.day
 target_is None now = inr refl
-target_is (Some t) now =
-    elim (cases_lt now.minute t.start) [
-      | inl lt ↦ let test : nat_lt now.minute t.start ≡ true = grind (arith, nat_tests) in inl (rw test refl)
-      | inr le ↦ let test : nat_lt now.minute t.start ≡ false = grind (arith, nat_tests) in inr (rw test refl)
-    ]
+target_is (Some t) now = grind (arith, common_steps)
 
 module _ (s : StampValue) (now : Moment) (valid : IsStamp s) (today : IsDay now.day) (minute : now.minute < 1440) where
   -- a day so far ahead is later
@@ -79,9 +75,7 @@ module _ (s : StampValue) (now : Moment) (valid : IsStamp s) (today : IsDay now.
       ])
 
   far_months : (n : ℕ) → most_times < n → IsLater (record s { day = months_after s.day n }) now
-  far_months n far =
-      let within : month_number now.day < month_number s.day + n = omega (arith, today.0.1, far) in
-      far_day (months_after s.day n) (reach s.day now.day n (target_of s.time now) valid.day today within (target_is s.time now))
+  far_months n far = search (rules, arith, far_day, reach, target_of, target_is)
 
   far_minutes : (n : ℕ) → 60 * most_times < n → IsLater (moved s Minutes n) now
   far_minutes n far = omega (arith, signed_arith, minutes_moved s n valid.day, numbers, far, minute)
@@ -116,12 +110,7 @@ module _ (s : StampValue) (now : Moment) (valid : IsStamp s) (today : IsDay now.
 
   as_computed : (o : Option Repeater) (r : Result StampValue Refusal) → RepeatsAs o s now r → repeated_as o s now ≡ r
   as_computed None r is = sym is
-  as_computed (Some p) r is =
-      let hour = is_hour p.interval.unit && not (has_one_time s.time) in
-      matched (p.interval.value == 0) (Ok s) (if hour then Err BadRepeat else repeated_by p.mark p.interval s now) r
-      (MatchBool hour (r ≡ Err BadRepeat) (RepeatsBy p.mark p.interval s now r))
-      (λ some rest. matched hour (Err BadRepeat) (repeated_by p.mark p.interval s now) r (RepeatsBy p.mark p.interval s now r)
-      (λ _ by. by_computed p.mark p.interval r (grind (arith, nat_tests, some)) by) rest) is
+  as_computed (Some p) r is = grind (arith, common_steps, matched, by_computed, nat_tests)
 
 pub repeats_computed : (s : StampValue) (now : Moment) (r : Result StampValue Refusal) → IsStamp s → IsDay now.day → now.minute < 1440 → IsNext s now r → repeated s now ≡ r
 repeats_computed s now r valid today minute is = as_computed s now valid today minute (first_repeater s.cookies) r is

@@ -1,10 +1,10 @@
 -- Bytes are runs with blanks before each, exactly where cutting them at their blanks gives those
 -- runs.
 use Rattle.std.proofs.Common.{◌≡◌, ◌≢◌, ℕ, suc, ◌-◌, Bool, true, false, ◌&&◌, IsTrue, append-nil, List, [], ◌∷◌, ◌++◌, length, get_or, filter, refl, sym, ap, ◌∙◌, subst, arith}
+use Rattle.std.proofs.lemmas.Grind.{common_steps}
 use Rattle.std.specs.Bool.{⊤}
 use Rattle.std.specs.List.{slice_split, onto_first, list_all}
 use Rattle.std.proofs.lemmas.List.Splits.{slice_split-cons_yes, slice_split-cons_no}
-use Rattle.std.proofs.lemmas.Bool.{false≢true}
 use Rattle.org_stamp.specs.Parts.{is_blank}
 use Rattle.org_stamp.specs.Stamp.{IsBlanks}
 use Rattle.org_stamp.specs.Front.{has_bytes}
@@ -52,10 +52,7 @@ ends_rest x (y ∷ ys) h = h
 
 -- one blank more before the first run
 longer : (x : ℕ) (xs : List ℕ) (tail : List ℕ) → is_blank x ≡ true → EndsPlain (x ∷ xs) → xs ≡ tail → (runs : List (List ℕ)) → HasRuns tail runs → HasRuns (x ∷ xs) runs
-longer x xs tail e ends same [] h =
-    let none : xs ≡ [] = same ∙ h in
-    let last : is_blank x ≡ false = subst (λ (l : List ℕ). EndsPlain (x ∷ l)) none ends in
-    absurd (false≢true (sym last ∙ e))
+longer x xs tail e ends same [] h = grind (arith, common_steps)
 longer x xs tail e ends same (w ∷ ws) h =
     (x ∷ h.0, h.1, ap (λ l. x ∷ l) (same ∙ h.2), record { some = λ is. absurd (cc); blank = rw e h.3.blank }, h.4, h.5)
 
@@ -121,14 +118,10 @@ first_blank [] more h = absurd (h.some refl)
 first_blank (b ∷ bs) more h = (b, bs ++ more, refl, (both (is_blank b) (list_all is_blank bs) h.blank).0)
 
 run_then_blank : (run : List ℕ) (b : ℕ) (after : List ℕ) (runs : List (List ℕ)) → IsWord run → is_blank b ≡ true → filter has_bytes (slice_split is_blank (b ∷ after)) ≡ runs → filter has_bytes (slice_split is_blank (run ++ (b ∷ after))) ≡ run ∷ runs
-run_then_blank run b after runs w e h =
-    let next = ap (filter has_bytes) (slice_split-cons_yes is_blank b after e) in
-    ap (filter has_bytes) (split_here run b after w.plain e) ∙ kept_word run (slice_split is_blank after) w ∙ ap (λ l. run ∷ l) (sym next ∙ h)
+run_then_blank run b after runs w e h = grind (arith, common_steps, slice_split-cons_yes, split_here, kept_word)
 
 run_then : (run rest : List ℕ) (runs : List (List ℕ)) → IsWord run → HasRuns rest runs → filter has_bytes (slice_split is_blank rest) ≡ runs → filter has_bytes (slice_split is_blank (run ++ rest)) ≡ run ∷ runs
-run_then run rest [] w h e =
-    let whole : run ++ rest ≡ run = rw h (append-nil run) in
-    ap (λ l. filter has_bytes (slice_split is_blank l)) whole ∙ ap (filter has_bytes) (split_none run w.plain) ∙ kept_word run [] w
+run_then run rest [] w h e = grind (arith, common_steps, append-nil, split_none, kept_word)
 run_then run rest (next ∷ runs) w h e =
     let first = first_blank h.0 (next ++ h.1) h.3 in
     let is : rest ≡ first.0 ∷ first.1 = h.2 ∙ first.2 in
@@ -137,6 +130,4 @@ run_then run rest (next ∷ runs) w h e =
 
 pub pieces_are : (bytes : List ℕ) (runs : List (List ℕ)) → HasRuns bytes runs → filter has_bytes (slice_split is_blank bytes) ≡ runs
 pieces_are bytes [] h = ap (λ l. filter has_bytes (slice_split is_blank l)) h
-pieces_are bytes (run ∷ runs) h =
-    let e = run_then run h.1 runs h.4 h.5 (pieces_are h.1 runs h.5) in
-    ap (λ l. filter has_bytes (slice_split is_blank l)) h.2 ∙ pieces_of_runs h.0 run h.1 (run ∷ runs) h.3.blank h.4 e
+pieces_are bytes (run ∷ runs) h = grind (arith, common_steps, run_then, pieces_of_runs, pieces_are h.1 runs h.5)

@@ -1,6 +1,6 @@
 -- The place of the first byte that passes a test.
-use Rattle.std.proofs.Common.{◌≡◌, ℕ, ◌<◌, true, false, Bool, Option, Some, None, List, length, position, nat_lt, refl, sym, ap, arith}
-use Rattle.std.specs.Prelude.{IfSome}
+use Rattle.std.proofs.Common.{◌≡◌, ℕ, true, false, Bool, Option, Some, None, List, length, position, nat_lt, refl, arith}
+use Rattle.std.proofs.lemmas.Grind.{common_steps}
 use Rattle.std.specs.List.{position_or_len}
 use Rattle.std.proofs.lemmas.List.Sums.{position_or_len_is}
 use Rattle.memchr.specs.Find.{IsFirstByte}
@@ -14,11 +14,4 @@ first_byte test text None none =
     let all : position_or_len test text ≡ length text = position_or_len_is test text (length text) 0 (omega arith) (λ k lt. fails _ (none k (omega arith) lt)) (λ lt. absurd (omega arith)) in
     let past : nat_lt (position_or_len test text) (length text) ≡ false = grind arith in
     rw past refl
-first_byte test text (Some k) first =
-    let at : position_or_len test text ≡ k = position_or_len_is test text k 0 (omega (arith, first.0.high)) (λ j lt. fails _ (first.0.before j (omega arith) lt)) (λ lt. first.1) in
-    let within : nat_lt (position_or_len test text) (length text) ≡ true = grind (arith, first.0.high) in
-    rw within (ap (λ n. Some n) (sym at))
-
-pub first_within : (test : ℕ → Bool) (text : List ℕ) (r : Option ℕ) → IsFirstByte test text r → IfSome r (λ i. i < length text)
-first_within test text None none = tt
-first_within test text (Some k) first = first.0.high
+first_byte test text (Some k) first = grind (arith, common_steps, position_or_len_is, fails)

@@ -1,17 +1,17 @@
 -- What the reader gathers from runs, against the parts that the bytes have.
-use Rattle.std.proofs.Common.{◌≡◌, ℕ, suc, ◌+◌, ◌-◌, ◌*◌, ◌<◌, ◌≤◌, ◌==◌, ◌⊎◌, inl, inr, Bool, true, false, not, ◌&&◌, ◌||◌, cond, IsTrue, Option, None, Some, is_some, List, [], ◌∷◌, ◌++◌, length, filter, count_by, position, slice_index, take, drop, nat_lt, nat_le, append-nil, append_assoc, refl, sym, ap, ◌∙◌, subst, arith}
+use Rattle.std.proofs.Common.{◌≡◌, ℕ, suc, ◌+◌, ◌-◌, ◌<◌, ◌≤◌, ◌==◌, ◌⊎◌, inl, inr, Bool, true, false, not, ◌&&◌, ◌||◌, cond, IsTrue, Option, None, Some, is_some, List, [], ◌∷◌, ◌++◌, length, filter, count_by, position, slice_index, take, nat_lt, append_assoc, refl, sym, ap, ◌∙◌, subst, arith}
+use Rattle.std.proofs.lemmas.Grind.{common_steps}
 use Rattle.std.specs.List.{slice_split, list_all, filter_map, cons_option, prefix_len, position_or_len, AllByRecursion}
 use Rattle.std.specs.Option.{option_to_list}
 use Rattle.std.specs.Char.{is_ascii_digit}
 use Rattle.std.proofs.lemmas.List.Sums.{sum_by-cons}
-use Rattle.std.proofs.lemmas.Bool.Decides.{nat_tests}
 use Rattle.org_stamp.specs.declared.kind.Times.{Times}
 use Rattle.org_stamp.specs.declared.kind.Kind.{Kind}
 use Rattle.org_stamp.specs.declared.kind.Kind.TheVariants.{Name, Clock, Repeat, Delay}
-use Rattle.org_stamp.specs.Parts.{◌>>=◌, is_blank, is_closing, kind_of, times_of, times_cut, clock_of, minute_if_any, number_of, delay_of, repeater_of, is_name_byte}
-use Rattle.org_stamp.specs.Stamp.{Part, is_name, times_in, is_cookie, are_apart, AreApart, IsRun, HasParts, IsTime, IsCookie, IsWritable}
+use Rattle.org_stamp.specs.Parts.{◌>>=◌, is_blank, is_closing, kind_of, times_of, times_cut, clock_of, delay_of, repeater_of, is_name_byte}
+use Rattle.org_stamp.specs.Stamp.{Part, is_name, times_in, is_cookie, AreApart, IsRun, HasParts, IsTime, IsCookie, IsWritable}
 use Rattle.org_stamp.specs.Front.{has_bytes}
-use Rattle.org_stamp.specs.Reading.{Gathered, nothing, tail_of, cookies_with, found_with, pieces_with}
+use Rattle.org_stamp.specs.Reading.{Gathered, nothing, tail_of, found_with, pieces_with}
 use Rattle.org_stamp.proofs.Runs.{is_plain}
 use Rattle.org_stamp.proofs.Cut.{HasRuns, both, runs_of, ends_plain}
 
@@ -100,43 +100,15 @@ pub record AddsOne (p : Part) (g g₁ : Gathered) : Type 0 where
   pub cookies : g₁.cookies ≡ g.cookies ++ filter (λ q. is_cookie q.kind) (p ∷ [])
   pub apart : AreApart g.cookies → AreApart g₁.cookies
 
--- a cookie more
-pub adds_cookie : (cs : List Part) (p : Part) (ds : List Part) → cookies_with cs p ≡ Some ds → (ds ≡ cs ++ p ∷ []) × (AreApart cs → AreApart ds)
-adds_cookie [] p ds e = let same : p ∷ [] ≡ ds = cc in (sym same, λ a. rw (← same) tt)
-adds_cookie (a ∷ []) p ds e =
-    elim (chosen (are_apart a.kind p.kind) (Some (a ∷ p ∷ [])) None (Some ds) e) [
-      | inl h ↦ let same : a ∷ p ∷ [] ≡ ds = same_some _ _ h.1 in (sym same, λ _. rw (← same) h.0)
-      | inr h ↦ absurd (cc)
-    ]
-adds_cookie (a ∷ b ∷ cs) p ds e = absurd (cc)
-
 adds_time : (g : Gathered) (run : List ℕ) (t : Times) (g₁ : Gathered) (o : Option Times) → g.time ≡ o → cond (is_some o) None (Some (record g { time = Some t })) ≡ Some g₁ → AddsOne (record { run = run; kind = Clock t }) g g₁
 adds_time g run t g₁ (Some u) same e = absurd (cc)
-adds_time g run t g₁ None same e =
-    let is = same_some _ _ e in
-    rw (← is) (record { name = omega arith; time = rw same refl; cookies = sym (append-nil _); apart = λ a. a })
+adds_time g run t g₁ None same e = grind (arith, common_steps)
 
 pub adds_one : (g : Gathered) (run : List ℕ) (k : Kind) (g₁ : Gathered) → found_with g run k ≡ Some g₁ → AddsOne (record { run = run; kind = k }) g g₁
-adds_one g run Name g₁ e =
-    elim (chosen g.named None (Some (record g { named = true })) (Some g₁) e) [
-      | inl h ↦ absurd (cc)
-      | inr h ↦
-          let same = same_some _ _ h.1 in
-          rw (← same) (record { name = rw h.0 refl; time = sym (append-nil _); cookies = sym (append-nil _); apart = λ a. a })
-    ]
+adds_one g run Name g₁ e = grind (arith, common_steps)
 adds_one g run (Clock t) g₁ e = adds_time g run t g₁ g.time refl e
-adds_one g run (Repeat r) g₁ e =
-    let p : Part = record { run = run; kind = Repeat r } in
-    let with = bind_ok (cookies_with g.cookies p) (λ cs. Some (record g { cookies = cs })) g₁ e in
-    let more = adds_cookie g.cookies p with.0 with.1 in
-    let same = same_some _ _ with.2 in
-    rw (← same) (record { name = omega arith; time = sym (append-nil _); cookies = more.0; apart = more.1 })
-adds_one g run Delay g₁ e =
-    let p : Part = record { run = run; kind = Delay } in
-    let with = bind_ok (cookies_with g.cookies p) (λ cs. Some (record g { cookies = cs })) g₁ e in
-    let more = adds_cookie g.cookies p with.0 with.1 in
-    let same = same_some _ _ with.2 in
-    rw (← same) (record { name = omega arith; time = sym (append-nil _); cookies = more.0; apart = more.1 })
+adds_one g run (Repeat r) g₁ e = grind (arith, common_steps)
+adds_one g run Delay g₁ e = grind (arith, common_steps)
 
 pub cons_option-append : {A : Type 0} (f : Part → Option A) (p : Part) (ps : List Part) → filter_map f (p ∷ ps) ≡ option_to_list (f p) ++ filter_map f ps
 cons_option-append {A = A} f p ps = by_option (f p) (filter_map f ps)
@@ -169,14 +141,8 @@ pub record Adds (ps : List Part) (g h : Gathered) : Type 0 where
   pub cookies : h.cookies ≡ g.cookies ++ filter (λ p. is_cookie p.kind) ps
   pub apart : AreApart g.cookies → AreApart h.cookies
 
-one_if-le : (b : Bool) → one_if b ≤ 1
-one_if-le true = omega arith
-one_if-le false = omega arith
-
 pub adds : (ps : List Part) (g h : Gathered) → parts_with g ps ≡ Some h → Adds ps g h
-adds [] g h e =
-    let is = same_some _ _ e in
-    rw (← is) (record { name = omega (arith, one_if-le g.named); time = sym (append-nil _); cookies = sym (append-nil _); apart = λ a. a })
+adds [] g h e = grind (arith, common_steps)
 adds (p ∷ ps) g h e =
     let step = bind_ok (found_with g p.run p.kind) (λ k. parts_with k ps) h e in
     let one = adds_one g p.run p.kind step.0 step.1 in
@@ -188,39 +154,12 @@ adds (p ∷ ps) g h e =
       apart = λ a. more.apart (one.apart a);
     }
 
-minute_in : (h m n : ℕ) → minute_if_any h m ≡ Some n → n < 1440
-minute_in h m n e =
-    elim (chosen (nat_lt h 24 && nat_lt m 60) (Some (h * 60 + m)) None (Some n) e) [
-      | inl k ↦
-          let same = same_some _ _ k.1 in
-          let parts = both (nat_lt h 24) (nat_lt m 60) k.0 in
-          let hours : h < 24 = grind (arith, nat_tests, parts.0) in
-          let minutes : m < 60 = grind (arith, nat_tests, parts.1) in
-          omega (arith, same)
-      | inr k ↦ absurd (cc)
-    ]
-
 clock_in : (text : List ℕ) (n : ℕ) → clock_of text ≡ Some n → n < 1440
-clock_in text n e =
-    let read : Option ℕ = number_of (take (length text - 3) text) >>= λ h. number_of (drop (length text - 2) text) >>= λ m. minute_if_any h m in
-    elim (chosen (nat_le 4 (length text) && nat_le (length text) 5 && (slice_index text (length text - 3) == 58)) read None (Some n) e) [
-      | inl k ↦
-          let hours = bind_ok (number_of (take (length text - 3) text)) (λ h. number_of (drop (length text - 2) text) >>= λ m. minute_if_any h m) n k.1 in
-          let minutes = bind_ok (number_of (drop (length text - 2) text)) (λ m. minute_if_any hours.0 m) n hours.2 in
-          minute_in hours.0 minutes.0 n minutes.2
-      | inr k ↦ absurd (cc)
-    ]
+clock_in text n e = grind (arith, common_steps)
 
 times_within : (text : List ℕ) (at : Option ℕ) (t : Times) → times_cut text at ≡ Some t → IsTime (Some t)
-times_within text None t e =
-    let start = bind_ok (clock_of text) (λ n. Some (record { start = n; end = None })) t e in
-    let same = same_some _ _ start.2 in
-    rw (← same) (clock_in text start.0 start.1, tt)
-times_within text (Some at) t e =
-    let start = bind_ok (clock_of (take at text)) (λ n. clock_of (drop (at + 1) text) >>= λ m. Some (record { start = n; end = Some m })) t e in
-    let end = bind_ok (clock_of (drop (at + 1) text)) (λ m. Some (record { start = start.0; end = Some m })) t start.2 in
-    let same = same_some _ _ end.2 in
-    rw (← same) (clock_in (take at text) start.0 start.1, (clock_in (drop (at + 1) text) end.0 end.1, tt))
+times_within text None t e = grind (arith, common_steps)
+times_within text (Some at) t e = grind (arith, common_steps)
 
 -- a time that was read lies within the day
 pub kind_time : (run : List ℕ) (t : Times) → kind_of run ≡ Some (Clock t) → IsTime (Some t)

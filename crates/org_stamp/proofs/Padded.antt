@@ -1,5 +1,6 @@
 -- What the padded parts of a duration are.
-use Rattle.std.proofs.Common.{◌≡◌, ℕ, ◌-◌, ◌/◌, ◌%◌, ◌^◌, ◌<◌, ◌≤◌, ◌==◌, false, inl, inr, List, [], ◌∷◌, ◌++◌, length, replicate, append-nil, refl, sym, ap, ◌∙◌, arith}
+use Rattle.std.proofs.Common.{◌≡◌, ℕ, ◌-◌, ◌/◌, ◌%◌, ◌^◌, ◌<◌, ◌≤◌, false, List, [], ◌∷◌, ◌++◌, length, replicate, append-nil, ap, ◌∙◌, arith}
+use Rattle.std.proofs.lemmas.Grind.{common_steps}
 use Rattle.std.specs.Fmt.{decimal, styled_decimal, padded_integral, format_spec, char_count}
 use Rattle.std.proofs.lemmas.Bool.{cases_lt}
 use Rattle.std.proofs.lemmas.Bool.Decides.{nat_tests}
@@ -17,21 +18,11 @@ unfolding padded_integral char_count lib.Utf8.encode
 one_place width ds one = rw one (ap (λ l. 32 ∷ l) (append-nil ds))
 
 padded_hours : (width n : ℕ) → 1 ≤ width → width ≤ 2 → n < 2 ^ 64 → styled_decimal (format_spec 32 0 0 width (2 ^ 64 - 1)) n ≡ replicate (width - length (decimal n)) 32 ++ decimal n
-padded_hours width n low high small =
-    let wide : (width == 0) ≡ false = grind (arith, nat_tests) in
-    let some = decimal_nonempty n small in
-    elim (cases_lt (length (decimal n)) width) [
-      | inl less ↦ let one : width - length (decimal n) ≡ 1 = omega (arith, some, less) in rw wide (one_place width (decimal n) one ∙ ap (λ k. replicate k 32 ++ decimal n) (sym one))
-      | inr all ↦ let none : width - length (decimal n) ≡ 0 = omega (arith, all) in rw wide (no_place width (decimal n) none ∙ ap (λ k. replicate k 32 ++ decimal n) (sym none))
-    ]
+padded_hours width n low high small = grind (arith, common_steps, nat_tests, decimal_nonempty, cases_lt, one_place, no_place)
 
 padded_minutes : (n : ℕ) → n < 60 → padded_integral (format_spec 32 0 4 2 (2 ^ 64 - 1)) false [] (decimal n) ≡ two_digits n
 unfolding padded_integral char_count
-padded_minutes n small =
-    elim (cases_lt n 10) [
-      | inl one ↦ let high : n / 10 % 10 ≡ 0 = omega arith in let low : n % 10 ≡ n = omega arith in rw (decimal_digit n one, high, low) refl
-      | inr two ↦ let high : n / 10 % 10 ≡ n / 10 = omega arith in rw (decimal_step n two (omega arith), decimal_digit (n / 10) (omega arith), high) refl
-    ]
+padded_minutes n small = grind (arith, common_steps, cases_lt, decimal_digit, decimal_step)
 
 -- the hours and the minutes under their options are the duration's text
 pub duration_is : (minutes width : ℕ) (hours rest : _) → hours ≡ format_spec 32 0 0 width (2 ^ 64 - 1) → rest ≡ format_spec 32 0 4 2 (2 ^ 64 - 1) → 1 ≤ width → width ≤ 2 → minutes < 2 ^ 64 →

@@ -1,5 +1,6 @@
 -- Bytes cut at their blanks.
 use Rattle.std.proofs.Common.{◌≡◌, ℕ, ◌+◌, ◌-◌, ◌<◌, ◌≤◌, Bool, true, false, not, ◌&&◌, IsTrue, if◌then◌else◌, Option, None, Some, List, [], ◌∷◌, ◌++◌, length, get_or, take, drop, refl, sym, ap, ◌∙◌, arith}
+use Rattle.std.proofs.lemmas.Grind.{common_steps}
 use Rattle.std.specs.List.{slice_split, onto_first, list_all}
 use Rattle.std.specs.Option.{option_map}
 use Rattle.std.specs.Bool.{then_some}
@@ -53,10 +54,7 @@ run_more tail start at low high h e =
 
 -- the last run
 pub cut_none : (tail : List ℕ) (start at : ℕ) → at ≡ length tail → IsTrue (list_all is_plain (take (at - start) (drop start tail))) → slice_split is_blank (drop start tail) ≡ drop start tail ∷ []
-cut_none tail start at e h =
-    let whole : take (at - start) (drop start tail) ≡ drop start tail = rw e (take_rest tail start) in
-    let all : IsTrue (list_all is_plain (drop start tail)) = rw whole at h in
-    split_none (drop start tail) all
+cut_none tail start at e h = grind (arith, common_steps, take_rest, split_none)
 
 -- one piece more is found
 pub pieces_next : (g h : Gathered) (pieces : List (List ℕ)) (run : List ℕ) (rest : List (List ℕ)) → pieces ≡ run ∷ rest → Some h ≡ piece_with g run → pieces_with h rest ≡ pieces_with g pieces

@@ -1,8 +1,8 @@
 -- What is gathered run by run is what all parts say together.
-use Rattle.std.proofs.Common.{◌≡◌, ℕ, ◌+◌, ◌-◌, ◌≤◌, ◌==◌, inl, inr, Bool, true, false, not, ◌&&◌, cond, Option, None, Some, List, [], ◌∷◌, ◌++◌, length, filter, count_by, slice_index, take, drop, nat_le, append-nil, append_assoc, refl, sym, ap, ◌∙◌, subst, arith}
+use Rattle.std.proofs.Common.{◌≡◌, ℕ, ◌+◌, ◌-◌, ◌≤◌, ◌==◌, Bool, true, false, not, ◌&&◌, cond, Option, None, Some, List, [], ◌∷◌, ◌++◌, length, filter, count_by, slice_index, take, drop, append-nil, append_assoc, refl, sym, ap, ◌∙◌, subst, arith}
+use Rattle.std.proofs.lemmas.Grind.{common_steps}
 use Rattle.std.specs.List.{slice_split, filter_map}
 use Rattle.std.specs.Option.{option_to_list}
-use Rattle.std.proofs.lemmas.Bool.Decides.{nat_tests}
 use Rattle.org_stamp.specs.Calendar.{CivilDay}
 use Rattle.org_stamp.specs.declared.kind.Times.{Times}
 use Rattle.org_stamp.specs.declared.kind.Kind.{Kind}
@@ -11,8 +11,7 @@ use Rattle.org_stamp.specs.Parts.{◌>>=◌, is_blank, date_of, kind_of}
 use Rattle.org_stamp.specs.Stamp.{StampValue, Part, is_name, times_in, is_cookie, AreApart, Says}
 use Rattle.org_stamp.specs.Front.{has_bytes, runs_in, parts_in, parts_of_tail, time_among, all_apart, said_by, inside_of}
 use Rattle.org_stamp.specs.Reading.{Gathered, nothing, value_of, tail_of, cookies_with, found_with, pieces_with}
-use Rattle.org_stamp.proofs.Found.{adds, bind_ok, bind_same, chosen, same_some, runs_with, parts_with, skip, one_if, adds_one, cons_option-append, filter-append, count-cons}
-use Rattle.org_stamp.proofs.Cut.{both}
+use Rattle.org_stamp.proofs.Found.{adds, bind_ok, bind_same, same_some, runs_with, parts_with, skip, one_if, adds_one, cons_option-append, filter-append, count-cons}
 
 -- ---- at most one part of each kind is gathered
 
@@ -92,41 +91,15 @@ apart_of (a ∷ []) e = tt
 apart_of (a ∷ b ∷ []) e = e
 apart_of (a ∷ b ∷ c ∷ cs) e = absurd (cc)
 
-all_apart_of : (cs : List Part) → AreApart cs → all_apart cs ≡ true
-all_apart_of [] h = refl
-all_apart_of (a ∷ []) h = refl
-all_apart_of (a ∷ b ∷ []) h = h
-all_apart_of (a ∷ b ∷ c ∷ cs) h = absurd h
-
 time_is : (ts : List Times) (o : Option Times) → ts ≡ option_to_list o → time_among ts ≡ Some o
 time_is ts None e = ap time_among e
 time_is ts (Some t) e = ap time_among e
 
-time_found : (ts : List Times) (o : Option Times) → time_among ts ≡ Some o → ts ≡ option_to_list o
-time_found [] o e = ap option_to_list (same_some None o e)
-time_found (t ∷ []) o e = ap option_to_list (same_some (Some t) o e)
-time_found (t ∷ u ∷ ts) o e = absurd (cc)
-
 said_of : (ps : List Part) (s : StampValue) → Says ps s → said_by s.active s.day ps ≡ Some s
-said_of ps s h =
-    let name : nat_le (count_by (λ p. is_name p.kind) ps) 1 ≡ true = grind (arith, nat_tests, h.name) in
-    let time = time_is (filter_map (λ p. times_in p.kind) ps) s.time h.time in
-    rw (name, h.cookies, all_apart_of s.cookies h.apart, time) refl
+said_of ps s h = grind (arith, common_steps)
 
 says_of : (active : Bool) (day : CivilDay) (ps : List Part) (s : StampValue) → said_by active day ps ≡ Some s → Says ps s × (active ≡ s.active) × (day ≡ s.day)
-says_of active day ps s e =
-    let times = filter_map (λ p. times_in p.kind) ps in
-    let cookies = filter (λ p. is_cookie p.kind) ps in
-    let names = nat_le (count_by (λ p. is_name p.kind) ps) 1 in
-    let with : Option Times → Option StampValue = λ time. Some (record { active = active; day = day; time = time; cookies = cookies }) in
-    elim (chosen (names && all_apart cookies) (time_among times >>= with) None (Some s) e) [
-      | inl h ↦
-          let tests = both names (all_apart cookies) h.0 in
-          let time = bind_ok (time_among times) with s h.1 in
-          let is = same_some _ _ time.2 in
-          rw (← is) (record { name = grind (arith, nat_tests, tests.0); time = time_found times time.0 time.1; cookies = refl; apart = apart_of cookies tests.1 }, refl, refl)
-      | inr h ↦ absurd (cc)
-    ]
+says_of active day ps s e = grind (arith, common_steps)
 
 same_options : {A : Type 0} (o p : Option A) → ((x : A) → o ≡ Some x → p ≡ Some x) → ((x : A) → p ≡ Some x → o ≡ Some x) → o ≡ p
 same_options None None f g = refl
@@ -171,12 +144,7 @@ runs_said g (run ∷ runs) = by_kind (kind_of run) (λ h. runs_said h runs)
         bind_same (found_with g run k) (λ h. runs_with h runs) (λ h. parts_in runs >>= λ ps. parts_with h ps) more ∙ part_first g (record { run = run; kind = k }) (parts_in runs)
 
 pieces_said : (active : Bool) (day : CivilDay) (pieces : List (List ℕ)) → (pieces_with nothing pieces >>= λ g. Some (value_of active day g)) ≡ (parts_in (filter has_bytes pieces) >>= λ ps. said_by active day ps)
-pieces_said active day pieces =
-    let runs = filter has_bytes pieces in
-    let value : Gathered → Option StampValue = λ g. Some (value_of active day g) in
-    ap (λ o. o >>= value) (skip nothing pieces ∙ runs_said nothing runs)
-    ∙ bind_bind (parts_in runs) (λ ps. parts_with nothing ps) value
-    ∙ bind_same (parts_in runs) (λ ps. parts_with nothing ps >>= value) (λ ps. said_by active day ps) (λ ps. gathered_said active day ps)
+pieces_said active day pieces = grind (arith, common_steps, skip, nothing, runs_said, bind_bind, bind_same, gathered_said)
 
 tail_said : (active : Bool) (day : CivilDay) (tail : List ℕ) → (tail_of tail >>= λ g. Some (value_of active day g)) ≡ (parts_of_tail tail >>= λ ps. said_by active day ps)
 tail_said active day [] = refl
@@ -190,9 +158,7 @@ tail_said active day (x ∷ xs) =
 
 -- what the reader makes of what stands between the brackets
 pub inside_said : (active : Bool) (inside : List ℕ) → (date_of (take 10 inside) >>= λ day. tail_of (drop 10 inside) >>= λ g. Some (value_of active day g)) ≡ inside_of active inside
-inside_said active inside =
-    bind_same (date_of (take 10 inside)) (λ day. tail_of (drop 10 inside) >>= λ g. Some (value_of active day g)) (λ day. parts_of_tail (drop 10 inside) >>= λ ps. said_by active day ps)
-    (λ day. tail_said active day (drop 10 inside))
+inside_said active inside = grind (arith, common_steps, bind_same, tail_said)
 
 pub inside_read : (active : Bool) (inside : List ℕ) (day : Option CivilDay) (found : Option Gathered) → day ≡ date_of (take 10 inside) → found ≡ tail_of (drop 10 inside) →
     (day >>= λ d. found >>= λ g. Some (value_of active d g)) ≡ inside_of active inside

@@ -1,5 +1,6 @@
 -- Two sections of one text edited, the later first.
-use Rattle.std.proofs.Common.{◌≡◌, eqb, ℕ, zero, suc, ◌+◌, ◌-◌, ◌<◌, ◌≤◌, ltb, true, false, Option, Some, None, Result, Ok, Err, List, [], ◌∷◌, ◌++◌, length, refl, sym, ap, subst, ◌∙◌, arith, inl, inr}
+use Rattle.std.proofs.Common.{◌≡◌, eqb, ℕ, zero, suc, ◌+◌, ◌-◌, ◌<◌, ◌≤◌, ltb, true, false, Option, Some, Result, Ok, Err, List, [], ◌∷◌, ◌++◌, length, refl, sym, ap, subst, ◌∙◌, arith, inl, inr}
+use Rattle.std.proofs.lemmas.Grind.{common_steps}
 use Rattle.std.specs.Prelude.{◌≢◌, ◌⊎◌}
 use Rattle.std.specs.Result.{result_map_both}
 use Rattle.std.proofs.lemmas.Bool.{cases_Bool, eqb-true}
@@ -81,9 +82,6 @@ in_either_order q r t s (suc k) (suc m) (Tree n a b kids later) lt =
 -- ---- in a document
 
 module _ (d : Document) (m : ℕ) (r : List ℕ) (s : List (List ℕ)) where
-  dm : Document
-  dm = with_own_lines m r s d
-
   pub own_rest : (k : ℕ) → m ≢ k → (node_at (with_own_lines m r s d) k).node.rest ≡ (node_at d k).node.rest
   own_rest k ne = ap (λ (o : OwnParts). o.rest) (others-rewritten m k r s d ne)
 
@@ -120,9 +118,6 @@ module _ (d : Document) (m : ℕ) (r : List ℕ) (s : List (List ℕ)) where
 not_same : (i from : ℕ) → i ≢ from → eqb i from ≡ false
 not_same i from other = elim (cases_Bool (eqb i from)) [ inl e ↦ absurd (other (eqb-true i from e)) | inr e ↦ e ]
 
-pub switched_none : (now : Moment) (from : ℕ) (d : Document) (i : ℕ) → i ≡ from → switched now from d i ≡ Ok None
-switched_none now from d i same = let yes : eqb i from ≡ true = grind (arith, nat_tests) in rw yes refl
-
 switched_by : (now : Moment) (from : ℕ) (d : Document) (i : ℕ) (r : Result Document Refusal) → i ≢ from → with_closed now from d ≡ r
     → switched now from d i ≡ result_map_both (λ terminated. Some (with_opened now i terminated)) (λ why. why) r
 switched_by now from d i r other is = rw (not_same i from other) (ap (result_map_both (λ terminated. Some (with_opened now i terminated)) (λ why. why)) is)
@@ -137,9 +132,7 @@ switch_refused now t u from i fault text other a = by_fault fault (subst (λ (u 
 
 -- there was no memory once the clock that runs can be closed
 pub switch_starved : (now : Moment) (t u : List ℕ) (from i : ℕ) (closing : Edit) (fault : Fault Refusal) → u ≡ t → i ≢ from → ClosesSection now (tree u) from (Ok closing) → fault ≡ OutOfMemory → AnswersSwitch now t from i (Err fault)
-switch_starved now t u from i closing fault text other closes memory =
-    let can = subst (λ (u : List ℕ). ClosesSection now (tree u) from (Ok closing)) text closes in
-    rw memory (switch_refused now t t from i OutOfMemory refl other (can.0, can.1))
+switch_starved now t u from i closing fault text other closes memory = grind (arith, common_steps, switch_refused)
 
 module _ (t : List ℕ) (i from : ℕ) (now : Moment) (opening closing : Edit) (new : List (List ℕ)) (stays_terminated : terminated t ≡ t) (lt : i < node_count (tree t)) (there : from < node_count (tree t))
     (opens : EditsSection opening (tree t) i (opened_section now (tree t) i)) (closes : EditsSection closing (tree t) from new) where

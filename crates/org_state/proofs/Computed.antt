@@ -1,6 +1,6 @@
 -- A change of a state, computed.
-use Rattle.std.proofs.Common.{◌≡◌, ℕ, Bool, true, false, Option, Some, None, Result, Ok, Err, List, sym, ap, ◌∙◌}
-use Rattle.std.specs.Result.{result_map_both}
+use Rattle.std.proofs.Common.{arith, ◌≡◌, ℕ, Bool, true, false, Option, Some, None, Result, Ok, Err, List, sym}
+use Rattle.std.proofs.lemmas.Grind.{common_steps}
 use Rattle.org_stamp.specs.Calendar.{Moment}
 use Rattle.org_outline.specs.declared.steps.Step.{Step}
 use Rattle.org_outline.specs.States.{Keywords}
@@ -9,15 +9,12 @@ use Rattle.org_meta.specs.Planning.{PlanningLine}
 use Rattle.org_meta.specs.Sections.{split}
 use Rattle.org_meta.proofs.Computed.{entries_computed}
 use Rattle.org_fault.specs.declared.refusal.Refusal.{Refusal}
-use Rattle.org_state.specs.Keyword.{keyword_in}
-use Rattle.org_state.specs.Todo.{Own, changed, first_active, repeating, repeated_parts, TurnsDone, Turns, is_done, own_at, with_own_at, heading_to_change, IsTodoAt, IsTodo, turned_done, turned, todo_at, todo}
+use Rattle.org_state.specs.Todo.{Own, changed, repeating, TurnsDone, Turns, is_done, heading_to_change, IsTodoAt, IsTodo, turned_done, turned, todo_at, todo}
 
 module _ (states : Keywords) (state : List ℕ) (now : Moment) where
   done_computed : (own : Own) (o : Option PlanningLine) (r : Result Own Refusal) → TurnsDone states state now own o r → turned_done states state now own o ≡ r
   done_computed own None r is = sym is
-  done_computed own (Some p) r (text, are, is) =
-      ap (λ t. changed states (first_active states) own (result_map_both (repeated_parts state (keyword_in states own.rest) now p (split own.section)) (λ why. why) t))
-      (entries_computed now p.entries text are) ∙ sym is
+  done_computed own (Some p) r (text, are, is) = grind (arith, common_steps, changed, split, entries_computed)
 
   turn_computed : (was is : Bool) (own : Own) (r : Result Own Refusal) → Turns was is states state now own r → turned was is states state now own ≡ r
   turn_computed true false own r turns = sym turns
@@ -28,9 +25,7 @@ module _ (states : Keywords) (state : List ℕ) (now : Moment) where
   at_computed : (d : Document) (heading : Result (Option ℕ) Refusal) (r : Result (Option Document) Refusal) → IsTodoAt states state now d heading r → todo_at states state now d heading ≡ r
   at_computed d (Err fault) r is = sym is
   at_computed d (Ok None) r is = sym is
-  at_computed d (Ok (Some i)) r (own, changes, is) =
-      ap (result_map_both (λ own. Some (with_own_at i d own)) (λ why. why))
-      (turn_computed (is_done states (keyword_in states (own_at d i).rest)) (is_done states state) (own_at d i) own changes) ∙ sym is
+  at_computed d (Ok (Some i)) r (own, changes, is) = grind (arith, common_steps, turn_computed, is_done)
 
 pub todo_computed : (states : Keywords) (path : List Step) (state : List ℕ) (now : Moment) (d : Document) (r : Result (Option Document) Refusal) → IsTodo states path state now d r
     → todo states path state now d ≡ r

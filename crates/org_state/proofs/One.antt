@@ -1,7 +1,7 @@
 -- A change of a state has one outcome.
-use Rattle.std.proofs.Common.{◌≡◌, ℕ, Bool, true, false, Option, Some, None, Ok, Err, List, [], ◌∷◌, sym, ap, subst, ◌∙◌}
+use Rattle.std.proofs.Common.{arith, ◌≡◌, ℕ, Bool, true, false, Option, Some, None, Ok, Err, List, [], ◌∷◌, sym, ap, subst, ◌∙◌}
+use Rattle.std.proofs.lemmas.Grind.{common_steps}
 use Rattle.std.specs.Prelude.{Result, MatchBool, MatchResult}
-use Rattle.std.specs.Result.{result_map_both}
 use Rattle.org_stamp.specs.Calendar.{Moment}
 use Rattle.org_stamp.specs.Stamp.{StampValue}
 use Rattle.org_stamp.specs.Repeat.{IsRepeated}
@@ -11,9 +11,8 @@ use Rattle.org_outline.specs.declared.steps.Step.{Step}
 use Rattle.org_outline.specs.States.{Keywords}
 use Rattle.org_outline.specs.Tree.{Document}
 use Rattle.org_meta.specs.Planning.{PlanningEntry, PlanningLine, is_closed, is_repeating, entry_text, entry_with, behind_text, IsRepeatedEntry, AreRepeated}
-use Rattle.org_state.specs.Todo.{Own, with_own_at, own_at, Turns, TurnsDone, IsTodoAt, IsTodo, is_done, repeating, changed, first_active, repeated_parts, heading_to_change}
+use Rattle.org_state.specs.Todo.{Own, Turns, TurnsDone, IsTodoAt, IsTodo, is_done, repeating, changed, heading_to_change}
 use Rattle.org_meta.specs.Sections.{split}
-use Rattle.org_state.specs.Keyword.{keyword_in}
 
 -- what an entry becomes by its repeated stamp
 ByStamp : PlanningEntry → Result StampValue Refusal → Result (List ℕ) Refusal → Type 0
@@ -34,9 +33,7 @@ module _ (e : PlanningEntry) (now : Moment) where
   unfolding ByTests
   by_tests true again r s a b = a ∙ sym b
   by_tests false false r s a b = a ∙ sym b
-  by_tests false true r s a b =
-      let same : b.0 ≡ a.0 = repeated_one e.stamp now b.0 a.0 b.1 a.1 in
-      by_stamp e a.0 r s a.2 (subst (λ (q : Result StampValue Refusal). ByStamp e q s) same b.2)
+  by_tests false true r s a b = grind (arith, common_steps, repeated_one, by_stamp)
 
   one_entry : (r s : Result (List ℕ) Refusal) → IsRepeatedEntry e now r → IsRepeatedEntry e now s → r ≡ s
   unfolding ByTests ByStamp
@@ -62,11 +59,7 @@ one_text (e ∷ es) now r s a b =
 module _ (states : Keywords) (state : List ℕ) (now : Moment) where
   one_done : (own : Own) (o : Option PlanningLine) (r s : Result Own Refusal) → TurnsDone states state now own o r → TurnsDone states state now own o s → r ≡ s
   one_done own None r s a b = a ∙ sym b
-  one_done own (Some p) r s a b =
-      let same : a.0 ≡ b.0 = one_text p.entries now a.0 b.0 a.1 b.1 in
-      let made = λ (text : Result (List ℕ) Refusal).
-      changed states (first_active states) own (result_map_both (repeated_parts state (keyword_in states own.rest) now p (split own.section)) (λ why. why) text) in
-      a.2 ∙ ap made same ∙ sym b.2
+  one_done own (Some p) r s a b = grind (arith, common_steps, one_text, changed, split)
 
   one_turn : (was is : Bool) (own : Own) (r s : Result Own Refusal) → Turns was is states state now own r → Turns was is states state now own s → r ≡ s
   one_turn true true own r s a b = a ∙ sym b
@@ -77,10 +70,7 @@ module _ (states : Keywords) (state : List ℕ) (now : Moment) where
   one_at : (d : Document) (at : Result (Option ℕ) Refusal) (r s : Result (Option Document) Refusal) → IsTodoAt states state now d at r → IsTodoAt states state now d at s → r ≡ s
   one_at d (Err fault) r s a b = a ∙ sym b
   one_at d (Ok None) r s a b = a ∙ sym b
-  one_at d (Ok (Some i)) r s a b =
-      let own : Own = own_at d i in
-      let same : a.0 ≡ b.0 = one_turn (is_done states (keyword_in states own.rest)) (is_done states state) own a.0 b.0 a.1 b.1 in
-      a.2 ∙ ap (result_map_both (λ own. Some (with_own_at i d own)) (λ why. why)) same ∙ sym b.2
+  one_at d (Ok (Some i)) r s a b = grind (arith, common_steps, one_turn, is_done)
 
 pub one_outcome : (states : Keywords) (path : List Step) (state : List ℕ) (now : Moment) (d : Document) (r q : Result (Option Document) Refusal)
     → IsTodo states path state now d r → IsTodo states path state now d q → r ≡ q

@@ -1,11 +1,11 @@
 -- The open clocks of a document: the first runs, one more is opened, the first is closed.
-use Rattle.std.proofs.Common.{◌≡◌, eqb, ℕ, zero, suc, ◌+◌, ◌<◌, Bool, true, false, ◌&&◌, Option, Some, None, Result, Ok, Err, List, [], ◌∷◌, ◌++◌, length, drop, map, filter, get_or, refl, sym, ap, subst, ◌∙◌, arith, inl, inr, append_assoc}
+use Rattle.std.proofs.Common.{rules, ◌≡◌, ℕ, zero, suc, ◌+◌, ◌<◌, Bool, true, false, ◌&&◌, Option, Some, None, Result, Ok, Err, List, [], ◌∷◌, ◌++◌, length, drop, map, filter, get_or, refl, sym, ap, subst, ◌∙◌, arith, inl, inr, append_assoc}
+use Rattle.std.proofs.lemmas.Grind.{common_steps}
 use Rattle.std.specs.Prelude.{◌≢◌, codes, is_some, slice_get}
 use Rattle.std.specs.List.{list_any, position}
 use Rattle.std.specs.Option.{option_map, unwrap_or}
 use Rattle.std.specs.Result.{result_map_both}
 use Rattle.std.proofs.lemmas.Bool.{cases_Bool, false≢true}
-use Rattle.std.proofs.lemmas.List.{map-append}
 use Rattle.std.proofs.lemmas.List.Elements.{filter-append}
 use Rattle.std.proofs.lemmas.List.Quantifiers.{position-Some}
 use Rattle.org_stamp.specs.Calendar.{Moment, IsDay}
@@ -44,20 +44,10 @@ adds_behind x front old new a = record {
 }
 
 adds_before : {X : Type 0} (x : X) (old new back : List X) → Adds x old new → Adds x (old ++ back) (new ++ back)
-adds_before x old new back a = record {
-  before = a.before;
-  after = a.after ++ back;
-  was = ap (λ l. l ++ back) a.was ∙ append_assoc a.before a.after back;
-  is = ap (λ l. l ++ back) a.is ∙ append_assoc a.before (x ∷ a.after) back;
-}
+adds_before x old new back a = grind (arith, common_steps)
 
 adds_mapped : {X Y : Type 0} (f : X → Y) (x : X) (old new : List X) → Adds x old new → Adds (f x) (map f old) (map f new)
-adds_mapped f x old new a = record {
-  before = map f a.before;
-  after = map f a.after;
-  was = ap (map f) a.was ∙ map-append f a.before a.after;
-  is = ap (map f) a.is ∙ map-append f a.before (x ∷ a.after);
-}
+adds_mapped f x old new a = grind (arith, common_steps)
 
 pub adds_alone : {X : Type 0} (x : X) (old new : List X) → Adds x old new → old ≡ [] → new ≡ x ∷ []
 adds_alone {X = X} x old new a none = by_parts a.before a.after a.is (sym none ∙ a.was)
@@ -213,12 +203,7 @@ line_opens : (line : List ℕ) (ls : List (List ℕ)) → is_open line ≡ true 
 line_opens line ls runs = rw runs refl
 
 line_in : (line l : List ℕ) (ls : List (List ℕ)) → is_open line ≡ true → Adds line (filter is_open (l ∷ ls)) (filter is_open (l ∷ line ∷ ls))
-line_in line l ls runs = record {
-  before = filter is_open (l ∷ []);
-  after = filter is_open ls;
-  was = line_first l ls;
-  is = line_first l (line ∷ ls) ∙ ap (λ (t : List (List ℕ)). filter is_open (l ∷ []) ++ t) (line_opens line ls runs);
-}
+line_in line l ls runs = search (rules, arith, line_first, line_opens)
 
 AddsIn : List ℕ → List (List ℕ) → Option (List (List ℕ)) → Type 0
 AddsIn line ls None = Unit {0}
@@ -241,10 +226,7 @@ in_log line (l ∷ ls) runs =
 
     behind : (o : Option (List (List ℕ))) → AddsIn line ls o → AddsIn line (l ∷ ls) (option_map (λ ms. l ∷ ms) o)
     behind None a = tt
-    behind (Some new) a =
-        subst (λ (old : List (List ℕ)). Adds line old (filter is_open (l ∷ new))) (sym (line_first l ls))
-        (subst (λ (made : List (List ℕ)). Adds line (filter is_open (l ∷ []) ++ filter is_open ls) made) (sym (line_first l new))
-        (adds_behind line (filter is_open (l ∷ [])) (filter is_open ls) (filter is_open new) a))
+    behind (Some new) a = grind (arith, common_steps, line_first, adds_behind)
 
 logged_adds : (line : List ℕ) (ls : List (List ℕ)) → is_open line ≡ true → Adds line (filter is_open ls) (filter is_open (logged line ls))
 unfolding AddsIn
@@ -317,13 +299,7 @@ pub record Switched (now : Moment) (from i : ℕ) (d new : Document) : Type 0 wh
   pub opened : with_opened now i middle ≡ new
 
 pub switched_by : (now : Moment) (from i : ℕ) (d new : Document) → switched now from d i ≡ Ok (Some new) → Switched now from i d new
-switched_by now from i d new e =
-    elim (cases_Bool (eqb i from)) [
-      | inl same ↦ absurd (let none = rw same at e in cc)
-      | inr other ↦
-          let c = map_ok (λ closed. Some (with_opened now i closed)) (λ (why : Refusal). why) (with_closed now from d) (Some new) (rw other at e) in
-          record { middle = c.0; closed = c.1; opened = let both : Some (with_opened now i c.0) ≡ Some new = c.2 in cc }
-    ]
+switched_by now from i d new e = grind (arith, common_steps)
 
 pub closed_count : (now : Moment) (i : ℕ) (d new : Document) → with_closed now i d ≡ Ok new → node_count new ≡ node_count d
 closed_count now i d new e =

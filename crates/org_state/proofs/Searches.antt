@@ -1,9 +1,7 @@
 -- The running clock, and the time clocked, found heading by heading.
-use Rattle.std.proofs.Common.{◌≡◌, ℕ, zero, suc, ◌+◌, ◌-◌, ◌<◌, ◌≤◌, true, false, Bool, Option, Some, None, List, [], ◌∷◌, length, take, drop, get_or, rules, refl, sym, ap, ◌∙◌, arith, min, length-drop}
-use Rattle.std.specs.Prelude.{is_some, slice_range, ◌⊎◌}
-use Rattle.std.proofs.Common.{ltb, inl, inr}
-use Rattle.std.proofs.lemmas.Bool.{cases_Bool}
-use Rattle.std.proofs.lemmas.Bool.Decides.{nat_tests}
+use Rattle.std.proofs.Common.{◌≡◌, ℕ, zero, suc, ◌+◌, ◌-◌, ◌<◌, ◌≤◌, true, false, Bool, Option, Some, None, List, [], ◌∷◌, length, take, drop, get_or, rules, sym, ap, ◌∙◌, arith, min, length-drop}
+use Rattle.std.proofs.lemmas.Grind.{common_steps}
+use Rattle.std.specs.Prelude.{slice_range}
 use Rattle.std.specs.List.{sum_by, position}
 use Rattle.std.specs.Option.{option_map}
 use Rattle.std.proofs.lemmas.Grind.{take_at_read}
@@ -11,15 +9,13 @@ use Rattle.std.proofs.lemmas.List.{get_or-drop}
 use Rattle.std.proofs.lemmas.List.Sums.{sum_by_push}
 use Rattle.org_splice.specs.declared.Span.{Span}
 use Rattle.org_splice.specs.Lines.{lines_of}
-use Rattle.org_stamp.specs.Parts.{◌>>=◌}
-use Rattle.org_outline.specs.Tree.{Document, Placed, nodes, node_at, node_count, no_node}
+use Rattle.org_outline.specs.Tree.{Document, nodes, node_at, node_count}
 use Rattle.org_outline.specs.Numbers.{size_of}
 use Rattle.org_outline.proofs.Weights.{listed-weight}
 use Rattle.org_meta.specs.Clocks.{open_line, minutes_in}
 use Rattle.org_meta.specs.Clocks.{total as section_total}
-use Rattle.org_state.specs.declared.run.Running.{Running}
 use Rattle.org_state.specs.Edits.{section_start}
-use Rattle.org_state.specs.Clock.{runs_at, running_heading, span_from, running_at, running_in, clocked_minutes}
+use Rattle.org_state.specs.Clock.{runs_at, span_from, running_in, clocked_minutes}
 
 -- ---- the first that passes
 
@@ -37,31 +33,15 @@ position_is test (x ∷ xs) (suc i) d lt here before =
     position_later test x xs (before 0 (omega arith))
     ∙ ap (option_map suc) (position_is test xs i d (omega (arith, lt)) here (λ k less. before (suc k) (omega (arith, less))))
 
-pub position_none : {X : Type 0} (test : X → Bool) (xs : List X) (d : X) → ((k : ℕ) → k < length xs → test (get_or xs k d) ≡ false) → position test xs ≡ None
-position_none test [] d none = refl
-position_none test (x ∷ xs) d none =
-    position_later test x xs (none 0 (omega arith)) ∙ ap (option_map suc) (position_none test xs d (λ k less. none (suc k) (omega (arith, less))))
-
 -- ---- the running clock
-
--- where a section has no open clock line, none runs there
-pub runs_not : (d : Document) (i : ℕ) (section : List ℕ) (r : Option Span) → lines_of section ≡ (node_at d i).node.section → r ≡ open_line (lines_of section) → r ≡ None
-    → runs_at (node_at d i) ≡ false
-runs_not d i section r lines is none = ap is_some (sym (ap open_line lines) ∙ sym is ∙ none)
 
 pub running_found : (d : Document) (i : ℕ) (section : List ℕ) (r : Option Span) (span : Span) → i < node_count d → ((k : ℕ) → k < i → runs_at (node_at d k) ≡ false)
     → lines_of section ≡ (node_at d i).node.section → r ≡ open_line (lines_of section) → r ≡ Some span
     → Some (record { heading = i; line = span_from (section_start d i) span }) ≡ running_in d
-running_found d i section r span lt before lines is some =
-    let here : open_line (node_at d i).node.section ≡ Some span = sym (ap open_line lines) ∙ sym is ∙ some in
-    let first : running_heading d ≡ Some i = position_is runs_at (nodes d) i no_node lt (ap is_some here) before in
-    let R : Span → Running = λ span. record { heading = i; line = span_from (section_start d i) span } in
-    sym (ap (λ (o : Option ℕ). o >>= running_at d) first ∙ ap (option_map R) here)
+running_found d i section r span lt before lines is some = grind (arith, common_steps, position_is)
 
 pub running_none : (d : Document) (n : ℕ) → n ≡ node_count d → ((k : ℕ) → k < n → runs_at (node_at d k) ≡ false) → None ≡ running_in d
-running_none d n all none =
-    let nowhere : running_heading d ≡ None = position_none runs_at (nodes d) no_node (λ k less. none k (omega (arith, all, less))) in
-    sym (ap (λ (o : Option ℕ). o >>= running_at d) nowhere)
+running_none d n all none = grind (arith, common_steps)
 
 -- ---- the time clocked
 
@@ -76,17 +56,12 @@ sum_one f xs a b d low high =
     ap (λ n. sum_by f (take n ys)) count ∙ ap (sum_by f) (take_at_read ys (b - a) d long).1
     ∙ sum_by_push f (take (b - a) ys) (get_or ys (b - a) d) ∙ ap (λ x. sum_by f (take (b - a) ys) + f x) there
 
-abbrev minutes_at : Placed → ℕ
-minutes_at p = sum_by minutes_in p.node.section
-
 -- the minutes of the headings from one up to another
 abbrev pub minutes_up_to : Document → ℕ → ℕ → ℕ
 minutes_up_to d first i = min (sum_by (λ p. sum_by minutes_in p.node.section) (slice_range (nodes d) first i)) 18_446_744_073_709_551_615
 
 pub minutes_none : (d : Document) (first : ℕ) → 0 ≡ minutes_up_to d first first
-minutes_none d first =
-    let none : first - first ≡ 0 = omega arith in
-    sym (ap (λ n. min (sum_by minutes_at (take n (drop first (nodes d)))) 18_446_744_073_709_551_615) none)
+minutes_none d first = grind (arith, common_steps)
 
 two_sums : (a b cap : ℕ) → min (min a cap + min b cap) cap ≡ min (a + b) cap
 two_sums a b cap = omega arith
@@ -94,25 +69,8 @@ two_sums a b cap = omega arith
 pub minutes_more : (d : Document) (first i m more : ℕ) (section : List ℕ) → first ≤ i → i < node_count d → m ≡ minutes_up_to d first i
     → lines_of section ≡ (node_at d i).node.section → more ≡ section_total (lines_of section)
     → min (m + more) 18_446_744_073_709_551_615 ≡ minutes_up_to d first (i + 1)
-minutes_more d first i m more section low lt is lines here =
-    let cap : ℕ = 18_446_744_073_709_551_615 in
-    let own : more ≡ min (minutes_at (node_at d i)) cap = here ∙ ap (λ ls. min (sum_by minutes_in ls) cap) lines in
-    ap (λ n. min (n + more) cap) is ∙ ap (λ n. min (minutes_up_to d first i + n) cap) own
-    ∙ two_sums (sum_by minutes_at (slice_range (nodes d) first i)) (minutes_at (node_at d i)) cap
-    ∙ ap (λ n. min n cap) (sym (sum_one minutes_at (nodes d) first i no_node low lt))
+minutes_more d first i m more section low lt is lines here = grind (arith, common_steps, two_sums, sum_one)
 
 pub minutes_all : (d : Document) (i m : ℕ) → i < node_count d → m ≡ minutes_up_to d i (i + size_of d i) → m ≡ clocked_minutes d i
 minutes_all d i m lt is =
     is ∙ ap (λ n. min n 18_446_744_073_709_551_615) (sym (listed-weight (λ rest section. sum_by minutes_in section) i d lt))
-
--- what holds of all headings before one, and of that one
-pub up_to_next : (d : Document) (i : ℕ) → ((k : ℕ) → k < i → runs_at (node_at d k) ≡ false) → runs_at (node_at d i) ≡ false
-    → (k : ℕ) → k < i + 1 → runs_at (node_at d k) ≡ false
-up_to_next d i before here k less =
-    elim (le_or k i less) [
-      | inl lt ↦ before k lt
-      | inr same ↦ ap (λ n. runs_at (node_at d n)) same ∙ here
-    ]
-  where
-    le_or : (k i : ℕ) → k < i + 1 → (k < i) ⊎ (k ≡ i)
-    le_or k i less = elim (cases_Bool (ltb k i)) [ inl e ↦ inl (grind (arith, nat_tests)) | inr e ↦ inr (grind (arith, nat_tests)) ]

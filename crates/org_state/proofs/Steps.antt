@@ -1,5 +1,6 @@
 -- Edits of a heading's own lines, one after another, are edits of its text.
 use Rattle.std.proofs.Common.{◌≡◌, ℕ, ◌+◌, ◌-◌, ◌<◌, ◌≤◌, List, [], ◌∷◌, ◌++◌, length, map, refl, sym, ap, subst, ◌∙◌, arith, append_assoc, replicate, length-append}
+use Rattle.std.proofs.lemmas.Grind.{common_steps}
 use Rattle.std.specs.Prelude.{◌≢◌}
 use Rattle.std.proofs.lemmas.List.{length-replicate, append-nil}
 use Rattle.std.specs.List.{AllByRecursion}
@@ -28,20 +29,7 @@ prints t stays_terminated = (tree-is t).prints ∙ stays_terminated
 
 -- an edit of the first lines of a text leaves those behind them as they are
 pub gives_in_front : (e : Edit) (front new other : List (List ℕ)) → Rewrites e (print_lines front) new → Rewrites e (print_lines (front ++ other)) (new ++ other)
-gives_in_front e front new other g =
-    let f = print_lines front in
-    let o = print_lines other in
-    let whole : print_lines (front ++ other) ≡ f ++ o = print_lines-append front other in
-    let none : e.at ≡ length {A = ℕ} [] + e.at = omega arith in
-    record {
-      within = omega (arith, g.within, ap length whole, length-append f o);
-      gives =
-          ap (edited e.at e.removed e.bytes) whole
-          ∙ ap (λ n. edited n e.removed e.bytes (f ++ o)) none
-          ∙ edits_in_place [] f o e.at e.removed e.bytes g.within
-          ∙ ap (λ (t : List ℕ). t ++ o) g.gives
-          ∙ sym (print_lines-append new other);
-    }
+gives_in_front e front new other g = grind (arith, common_steps, print_lines-append, length-append, edits_in_place)
 
 -- ---- one edit
 
@@ -114,14 +102,6 @@ section_bounds t i s stays_terminated lt is =
     let own : length (print_lines (line ∷ n.section)) ≡ length line + (1 + length (print_lines n.section)) = length-append line (10 ∷ print_lines n.section) ∙ omega arith in
     (omega (arith, is.start, is.end, own), omega (arith, is.end, own, long, room i n.rest n.section d lt, ap length whole))
 
--- how long a section is
-pub section_long : (t : List ℕ) (i : ℕ) (s : Span) → IsSection t (node_at (tree t) i) s → s.end ≡ s.start + length (print_lines (node_at (tree t) i).node.section)
-section_long t i s is =
-    let n : Node = (node_at (tree t) i).node in
-    let line : List ℕ = heading_line n.level n.rest in
-    let own : length (print_lines (line ∷ n.section)) ≡ length line + (1 + length (print_lines n.section)) = length-append line (10 ∷ print_lines n.section) ∙ omega arith in
-    omega (arith, is.start, is.end, own)
-
 -- where the rest of the heading line stands before its section
 pub record RestBefore (t : List ℕ) (i : ℕ) (s : Span) (rest : List ℕ) : Type 0 where
   pub some : 1 ≤ s.start
@@ -129,11 +109,7 @@ pub record RestBefore (t : List ℕ) (i : ℕ) (s : Span) (rest : List ℕ) : Ty
   pub start : s.start - 1 - length rest ≡ rest_start (tree t) i
 
 pub rest_before : (t : List ℕ) (i : ℕ) (s : Span) (rest : List ℕ) → IsSection t (node_at (tree t) i) s → rest ≡ (node_at (tree t) i).node.rest → RestBefore t i s rest
-rest_before t i s rest is same =
-    let n : Node = (node_at (tree t) i).node in
-    let long : length (heading_line n.level n.rest) ≡ n.level + length n.rest = length-append (replicate n.level 42) n.rest ∙ omega (arith, length-replicate {A = ℕ} n.level 42) in
-    let rest_long : length rest ≡ length n.rest = ap length same in
-    record { some = omega (arith, is.start); room = omega (arith, is.start, long, rest_long); start = omega (arith, is.start, long, rest_long) }
+rest_before t i s rest is same = grind (arith, common_steps)
 
 pub section_is_lines : (t : List ℕ) (i : ℕ) → i < node_count (tree t) → AllByRecursion IsLine (node_at (tree t) i).node.section
 section_is_lines t i lt = IsPlain-lines (node_at (tree t) i).node.section (node-valid t i lt).heading.section

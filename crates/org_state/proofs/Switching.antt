@@ -1,5 +1,6 @@
 -- Clocks opened and closed, as edits of their texts.
-use Rattle.std.proofs.Common.{◌≡◌, ℕ, suc, ◌+◌, ◌-◌, ◌<◌, ◌≤◌, true, false, Option, Some, None, Result, Ok, Err, List, [], ◌∷◌, ◌++◌, length, take, drop, refl, sym, ap, subst, ◌∙◌, arith, inl, inr, append_assoc, length-append}
+use Rattle.std.proofs.Common.{rules, ◌≡◌, ℕ, suc, ◌+◌, ◌-◌, ◌<◌, ◌≤◌, true, false, Option, Some, None, Result, Ok, Err, List, [], ◌∷◌, ◌++◌, length, take, drop, refl, sym, ap, subst, ◌∙◌, arith, inl, inr, append_assoc, length-append}
+use Rattle.std.proofs.lemmas.Grind.{common_steps}
 use Rattle.std.specs.Prelude.{MatchResult}
 use Rattle.std.specs.List.{position, AllByRecursion}
 use Rattle.std.specs.Option.{option_map}
@@ -25,7 +26,7 @@ use Rattle.org_fault.specs.declared.fault.Fault.TheVariants.{OutOfMemory, Refuse
 use Rattle.org_meta.specs.Clocks.{is_open, open_line, line_span, IsOpenAt, HasOpenAt}
 use Rattle.org_meta.specs.Clocking.{opened, closed_line, Closes, ClosesNot}
 use Rattle.org_meta.specs.Edits.{Rewrites, RewritesParts}
-use Rattle.org_meta.specs.Sections.{split, joined, parts_of}
+use Rattle.org_meta.specs.Sections.{parts_of}
 use Rattle.org_state.specs.declared.run.Running.{Running}
 use Rattle.org_state.specs.Edits.{section_start, moved, EditsSection}
 use Rattle.org_state.specs.Clock.{runs_at, running_heading, span_from, running_at, running_in, with_section_at, opened_section, closed_first, AnswersClosing, ClosesSection}
@@ -49,15 +50,7 @@ section_made t i e new stays_terminated lt edits =
 pub opening_edits : (d : Document) (i : ℕ) (now : Moment) (section : List ℕ) (e e2 : Edit)
     → section ≡ print_lines (node_at d i).node.section → lines_of section ≡ (node_at d i).node.section
     → RewritesParts e section (opened now (parts_of section)) → e2 ≡ moved (section_start d i) e → EditsSection e2 d i (opened_section now d i)
-opening_edits d i now section e e2 bytes lines gives at =
-    let own : List (List ℕ) = (node_at d i).node.section in
-    record {
-      own = e;
-      is = at;
-      gives =
-          subst (λ (s : List ℕ). Rewrites e s (joined (opened now (split own)))) bytes
-          (subst (λ (ls : List (List ℕ)). Rewrites e section (joined (opened now (split ls)))) lines gives);
-    }
+opening_edits d i now section e e2 bytes lines gives at = grind (arith, common_steps)
 
 -- ---- the first open clock line
 
@@ -101,11 +94,7 @@ open_here l ls span runs e =
     }
 
 later_span : (l : List ℕ) (ls : List (List ℕ)) (k : ℕ) → ((line_span (l ∷ ls) (suc k)).start ≡ length l + 1 + (line_span ls k).start) × ((line_span (l ∷ ls) (suc k)).end ≡ length l + 1 + (line_span ls k).end)
-later_span l ls k =
-    let next : suc k + 1 ≡ suc (k + 1) = omega arith in (
-      length-append l (10 ∷ print_lines (take k ls)) ∙ omega arith,
-      ap (λ n. length (print_lines (take n (l ∷ ls)))) next ∙ length-append l (10 ∷ print_lines (take (k + 1) ls)) ∙ omega arith,
-    )
+later_span l ls k = search (rules, arith, length-append)
 
 open_later : (l : List ℕ) (ls : List (List ℕ)) (k : ℕ) (span : Span) → is_open l ≡ false → line_span (l ∷ ls) (suc k) ≡ span → FirstOpen ls (line_span ls k) → FirstOpen (l ∷ ls) span
 open_later l ls k span other same f =

@@ -1,6 +1,7 @@
 -- What a change of a state makes is valid.
-use Rattle.std.proofs.Common.{◌≡◌, ℕ, suc, ◌<◌, Bool, true, false, Option, Some, None, Ok, Err, List, [], ◌∷◌, ◌++◌, length, take, drop, refl, sym, ap, subst, ◌∙◌, arith}
-use Rattle.std.specs.Prelude.{◌≢◌, codes, if◌then◌else◌, IsTrue, Result, slice_index_or}
+use Rattle.std.proofs.Common.{rules, ◌≡◌, ℕ, suc, ◌<◌, Bool, true, false, Option, Some, None, Ok, Err, List, [], ◌∷◌, ◌++◌, length, take, drop, refl, sym, ap, subst, ◌∙◌, arith}
+use Rattle.std.proofs.lemmas.Grind.{common_steps}
+use Rattle.std.specs.Prelude.{◌≢◌, if◌then◌else◌, IsTrue, Result, slice_index_or}
 use Rattle.std.specs.List.{AllByRecursion, list_all, prefix_len}
 use Rattle.std.specs.Result.{result_map_both}
 use Rattle.std.specs.Str.{bytes_eq}
@@ -11,27 +12,24 @@ use Rattle.org_splice.proofs.Ends.{both}
 use Rattle.org_stamp.specs.Calendar.{Moment}
 use Rattle.org_outline.specs.declared.steps.Step.{Step}
 use Rattle.org_outline.specs.declared.paths.PathFault.{PathFault}
-use Rattle.org_outline.specs.Parts.{content_of, keyword_of}
 use Rattle.org_outline.specs.Paths.{find_path}
-use Rattle.org_outline.specs.States.{Keywords, all_distinct, are_states, is_state_byte, is_state_word}
+use Rattle.org_outline.specs.States.{Keywords, are_states, is_state_byte, is_state_word}
 use Rattle.org_headings.specs.Text.{begins_with_space}
 use Rattle.org_outline.specs.Tree.{Document, IsPlain, IsValid, node_at, node_count, print, tree}
-use Rattle.org_outline.specs.Moves.{IsNode}
 use Rattle.org_outline.proofs.Changes.{own_lines_valid}
 use Rattle.org_outline.proofs.Found.{found_in}
 use Rattle.org_outline.proofs.Sections.{valid_node}
-use Rattle.org_outline.proofs.Splitting.{keyword_front, state_word}
+use Rattle.org_outline.proofs.Splitting.{state_word}
 use Rattle.org_outline.proofs.Trees.{tree-is}
 use Rattle.org_outline.proofs.Valid.{tree-print}
 use Rattle.org_fault.specs.declared.refusal.Refusal.{Refusal}
-use Rattle.org_meta.specs.Moments.{moment_text}
 use Rattle.org_meta.specs.Planning.{PlanningLine, clear_closed, has_repeater, planning_of, repeated_entries, set_closed}
-use Rattle.org_meta.specs.Sections.{SectionParts, joined, property_line, split}
+use Rattle.org_meta.specs.Sections.{SectionParts, joined, split}
 use Rattle.org_splice.proofs.AllLines.{AllByRecursion-take, AllByRecursion-drop}
 use Rattle.org_meta.proofs.ClosedClocks.{moment_line}
 use Rattle.org_meta.proofs.Flat.{Flat, both_lines, empty_line, tested, with_first_byte}
 use Rattle.org_meta.proofs.Keeping.{All-drawer, AllParts, all_joined, all_split}
-use Rattle.org_meta.proofs.PlannedLines.{SectionLine, cleared_parts, closed_parts, front_line, note_is_line, property_is_line, repeated_is_line, tested_line}
+use Rattle.org_meta.proofs.PlannedLines.{SectionLine, cleared_parts, closed_parts, note_is_line, property_is_line, repeated_is_line, tested_line}
 use Rattle.org_fault.specs.declared.refusal.Refusal.TheVariants.{UnknownState}
 use Rattle.org_state.specs.Keyword.{is_state, keyword_in, with_keyword, with_word}
 use Rattle.org_state.specs.Todo.{Own, changed, first_active, heading_asked, heading_to_change, if_repeating, in_state, is_done, own_at, repeated_parts, repeating, todo, todo_at, turned, turned_done, with_lines, with_own_at}
@@ -58,10 +56,7 @@ first_word [] all = empty_line
 first_word (word ∷ words) all = word_line word (both (is_state_word word) (list_all is_state_word words) all).0
 
 first_active_line : (states : Keywords) → IsTrue (are_states states) → Flat (first_active states)
-first_active_line states are =
-    let distinct = both _ (all_distinct (states.active ++ states.done)) are in
-    let done = both _ (list_all is_state_word states.done) distinct.0 in
-    first_word states.active (both _ (list_all is_state_word states.active) done.0).1
+first_active_line states are = grind (arith, common_steps, both, first_word)
 
 -- ---- the heading line
 
@@ -72,9 +67,7 @@ last_bytes : (n : ℕ) (l : List ℕ) → Flat l → Flat (drop n l)
 last_bytes n l p = record { flat = AllByRecursion-drop (λ b. b ≢ 10) n l p.flat }
 
 keyword_line : (states : Keywords) (rest : List ℕ) → Flat rest → Flat (keyword_in states rest)
-keyword_line states rest p =
-    let content : List ℕ = content_of rest in
-    front_line (keyword_of states content) _ (subst Flat (keyword_front states content) (first_bytes _ (behind is_blank rest) (last_bytes _ rest p)))
+keyword_line states rest p = grind (arith, common_steps)
 
 with_word_line : (old new text : List ℕ) → Flat new → Flat text → Flat (with_word old new text)
 with_word_line old [] text is p = last_bytes _ (drop (length old) text) (last_bytes (length old) text p)
@@ -146,14 +139,7 @@ repeating_line (l ∷ ls) p all e = by_plan (planning_of l) refl e
 
 repeated_kept : (new old : List ℕ) (now : Moment) (p : PlanningLine) (parts : SectionParts) (text : List ℕ) → Flat new → Flat old → RepeatingLine p → repeated_entries now p.entries ≡ Ok text
     → AllParts IsPlain parts → AllParts IsPlain (repeated_parts new old now p parts text)
-repeated_kept new old now p parts text is was r made a =
-    let name : List ℕ = codes "LAST_REPEAT" in
-    record {
-      planning = (own_plain _ (repeated_is_line now r.line p text r.is r.some made (plain_flat r.line r.plain)), tt);
-      drawer = All-drawer IsPlain name (property_line name (moment_text now)) (own_plain _ (property_is_line name (moment_text now) (tested name refl) (moment_line now)))
-          (own_plain _ (tested_line 58 (codes "PROPERTIES:") refl refl)) (own_plain _ (tested_line 58 (codes "END:") refl refl)) parts.drawer a.drawer;
-      rest = (own_plain _ (note_is_line new old now is was), a.rest);
-    }
+repeated_kept new old now p parts text is was r made a = search (rules, arith, own_plain, repeated_is_line, plain_flat, All-drawer, property_is_line, tested, moment_line, tested_line, note_is_line)
 
 -- ---- own lines in another state
 
@@ -200,9 +186,7 @@ asked states state d i (Ok k) e = by_tests (is_state states state) (bytes_eq (ke
     by_tests false b known e = absurd cc
 
 own_valid : (i : ℕ) (d : Document) → i < node_count d → IsValid d → IsOwn (own_at d i)
-own_valid i d lt valid =
-    let own : IsNode (node_at d i).node = valid_node d i valid lt in
-    record { space = own.heading.space; rest = record { flat = own.heading.rest }; section = own.heading.section }
+own_valid i d lt valid = grind (arith, common_steps, valid_node)
 
 at_heading : (states : Keywords) (path : List Step) (state : List ℕ) (now : Moment) (d new : Document) (asked_is : Result (Option ℕ) Refusal) → IsTrue (are_states states)
     → heading_to_change states path state d ≡ asked_is → todo_at states state now d asked_is ≡ Ok (Some new) → IsValid d → IsValid new

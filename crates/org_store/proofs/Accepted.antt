@@ -1,6 +1,7 @@
 -- A command that is to be accepted gives files of the store new texts, which are put in the places
 -- of others.
-use Rattle.std.proofs.Common.{◌≡◌, ◌⊎◌, inl, inr, sym, ap, ◌∙◌, subst, ℕ, ◌-◌, ◌^◌, ◌==◌, ◌≤◌, nat_lt, length, map, Bool, true, false, List, [], ◌∷◌, Option, Some, None, Result, Ok, Err, refl, if◌then◌else◌, arith}
+use Rattle.std.proofs.Common.{◌≡◌, ◌⊎◌, inl, inr, sym, ◌∙◌, subst, ℕ, ◌-◌, ◌^◌, ◌==◌, ◌≤◌, nat_lt, length, map, Bool, true, false, List, [], ◌∷◌, Option, Some, None, Result, Ok, Err, refl, if◌then◌else◌, arith}
+use Rattle.std.proofs.lemmas.Grind.{common_steps}
 use Rattle.std.specs.List.{AllByRecursion}
 use Rattle.std.specs.Option.{option_map, option_or, unwrap_or}
 use Rattle.std.specs.Str.{bytes_eq}
@@ -71,9 +72,7 @@ text_named (one ∷ names) (t ∷ texts) name text is = elim (cases_Bool (bytes_
 -- the file in which a clock runs
 clock_in_first : (one : List ℕ) (names : List (List ℕ)) (found : Option Running) (later : Option (List ℕ × Running)) (clock : List ℕ × Running)
     → option_or (option_map (λ running. (one, running)) found) later ≡ Some clock → (later ≡ Some clock → is_name names clock.0 ≡ true) → is_name (one ∷ names) clock.0 ≡ true
-clock_in_first one names (Some running) later clock is behind =
-    let same : one ≡ clock.0 = ap (λ (o : Option (List ℕ × Running)). unwrap_or (option_map (λ (c : List ℕ × Running). c.0) o) one) is in
-    subst (λ (name : List ℕ). is_name (one ∷ names) name ≡ true) same (let t = same_name one in rw t refl)
+clock_in_first one names (Some running) later clock is behind = grind (arith, common_steps, same_name)
 clock_in_first one names None later clock is behind = elim (cases_Bool (bytes_eq one clock.0)) [ inl t ↦ rw t refl | inr f ↦ rw f (behind is) ]
 
 clock_named : (names texts : List (List ℕ)) (clock : List ℕ × Running) → running_over names texts ≡ Some clock → is_name names clock.0 ≡ true

@@ -1,5 +1,6 @@
 -- Which files of a store are dirty.
-use Rattle.std.proofs.Common.{◌≡◌, inl, inr, true, false, ℕ, ◌≤◌, arith, List, [], ◌∷◌, ◌++◌, Result, Ok, Err, refl, sym, ap, ◌∙◌, subst, map}
+use Rattle.std.proofs.Common.{◌≡◌, inl, inr, true, ℕ, arith, List, [], ◌∷◌, ◌++◌, Result, Ok, Err, refl, sym, ap, ◌∙◌, map}
+use Rattle.std.proofs.lemmas.Grind.{common_steps}
 use Rattle.std.specs.Str.{bytes_eq}
 use Rattle.std.proofs.lemmas.Bool.{cases_Bool, false≢true}
 use Rattle.org_disk.proofs.Names.{same_name}
@@ -10,14 +11,11 @@ use Rattle.org_texts.specs.Texts.{Holding, TextSet}
 use Rattle.org_commands.specs.declared.command.Reply.{Reply}
 use Rattle.org_commands.specs.declared.command.Reply.TheVariants.{Done, Safe, Text, Time}
 use Rattle.org_commands.specs.declared.command.RunFault.{RunFault}
-use Rattle.org_commands.specs.declared.command.RunFault.TheVariants.{Refused, OutOfMemory, Device, Broken}
 use Rattle.org_commands.specs.Files.{AreTouched, files_of, texts_in}
-use Rattle.org_commands.specs.InOrder.{is_name}
 use Rattle.org_commands.specs.Outcome.{Outcome}
 use Rattle.org_commands.specs.Questions.{IsUncounted}
-use Rattle.org_commands.specs.Session.{StoreView, Session}
-use Rattle.org_commands.specs.Step.{Steps, fills}
-use Rattle.org_store.specs.Dirty.{Dirties, NoneDirty, DirtyAfter, is_listed}
+use Rattle.org_commands.specs.Session.{StoreView}
+use Rattle.org_store.specs.Dirty.{Dirties, DirtyAfter, is_listed}
 use Rattle.org_commands.proofs.Held.{named_any, plan_other}
 
 any_front : (dirty more : List (List ℕ)) (name : List ℕ) → is_listed dirty name ≡ true → is_listed (dirty ++ more) name ≡ true
@@ -42,10 +40,7 @@ names_in set (name ∷ names) = ap (λ ns. name ∷ ns) (names_in set names)
 
 -- a plan's files join those that waited before the command
 pub dirties_planned : (plan : Plan) (held : Holding) → AreTouched (files_of plan) held → Dirties held.before.dirty (files_of plan) (planned plan held.now).dirty
-dirties_planned plan held touched name there = elim (cases_Bool (is_name (files_of plan) name)) [
-  | inl t ↦ any_back held.before.dirty (files_of plan) name (named_any (files_of plan) name ∙ t)
-  | inr f ↦ any_front held.before.dirty (files_of plan) name (touched.dirty name f ((plan_other plan held.now name f).1 there))
-]
+dirties_planned plan held touched name there = grind (arith, common_steps, cases_Bool, any_back, named_any, any_front, plan_other)
 
 -- what none of them is, no file is that waits now
 pub other_joined : (old names now : List (List ℕ)) → Dirties old names now → (name : List ℕ) → IsOther (old ++ names) name → IsOther now name
@@ -57,13 +52,7 @@ other_joined old names (first ∷ now) dirties name other = go (old ++ names) re
 
     go : (all : List (List ℕ)) → old ++ names ≡ all → IsOther all name → IsOther (first ∷ now) name
     go [] is outside = absurd (false≢true (ap (λ ns. is_listed ns first) (sym is) ∙ dirties first dirty_too))
-    go (one ∷ all) is outside = (
-      outside.0,
-      elim (cases_Bool (is_listed (first ∷ now) name)) [
-        | inl t ↦ absurd (false≢true (sym outside.1 ∙ ap (λ ns. is_listed ns name) (sym is) ∙ dirties name t))
-        | inr f ↦ f
-      ],
-    )
+    go (one ∷ all) is outside = grind (arith, common_steps)
 
 -- a call that counts nothing, and makes no file dirty
 pub dirty_stays : {D : Type 0} (old new : StoreView D) (outcome : Outcome) (answer : Result Reply RunFault) → IsUncounted answer → new.dirty ≡ old.dirty → DirtyAfter old outcome answer new
@@ -81,26 +70,3 @@ dirty_from old mid new outcome (Ok (Safe n)) session dirty after = after
 dirty_from old mid new outcome (Ok (Text bytes)) session dirty after = after ∙ dirty
 dirty_from old mid new outcome (Ok (Time minutes)) session dirty after = after ∙ dirty
 dirty_from old mid new outcome (Err fault) session dirty after = after ∙ dirty
-
--- behind a call, no file waits where all accepted commands are acknowledged
-pub none_dirty_on : {D : Type 0} (old new : StoreView D) (outcome : Outcome) (answer : Result Reply RunFault) → Steps old.session outcome answer new.session → DirtyAfter old outcome answer new
-    → old.session.acknowledged ≤ old.session.accepted → NoneDirty old → NoneDirty new
-none_dirty_on old new outcome (Ok (Done n)) does dirty_files counted was =
-    subst (λ (s : Session). s.acknowledged ≡ s.accepted → new.dirty ≡ []) (sym does.1.3)
-    (elim (cases_Bool (fills old.session)) [
-      | inl t ↦ λ all. dirty_files.0 t
-      | inr f ↦ rw f (λ all. absurd (omega (arith, counted, all)))
-    ])
-none_dirty_on old new outcome (Ok (Safe n)) does dirty_files counted was = λ all. dirty_files
-none_dirty_on old new outcome (Ok (Text bytes)) does dirty_files counted was = subst (λ (s : Session). s.acknowledged ≡ s.accepted → new.dirty ≡ []) (sym does.2) (λ all. dirty_files ∙ was all)
-none_dirty_on old new outcome (Ok (Time minutes)) does dirty_files counted was = subst (λ (s : Session). s.acknowledged ≡ s.accepted → new.dirty ≡ []) (sym does.2) (λ all. dirty_files ∙ was all)
-none_dirty_on old new outcome (Err (Refused why)) does dirty_files counted was = subst (λ (s : Session). s.acknowledged ≡ s.accepted → new.dirty ≡ []) (sym does.2) (λ all. dirty_files ∙ was all)
-none_dirty_on old new outcome (Err OutOfMemory) does dirty_files counted was = subst (λ (s : Session). s.acknowledged ≡ s.accepted → new.dirty ≡ []) (sym does.1) (λ all. dirty_files ∙ was all)
-none_dirty_on old new outcome (Err Broken) does dirty_files counted was = subst (λ (s : Session). s.acknowledged ≡ s.accepted → new.dirty ≡ []) (sym does.1) (λ all. dirty_files ∙ was all)
-none_dirty_on old new outcome (Err Device) does dirty_files counted was = elim does.1 [
-  | inl in_read ↦ subst (λ (s : Session). s.acknowledged ≡ s.accepted → new.dirty ≡ []) (sym in_read) (λ all. dirty_files ∙ was all)
-  | inr torn ↦ elim torn [
-    | inl fell ↦ subst (λ (s : Session). s.acknowledged ≡ s.accepted → new.dirty ≡ []) (sym fell.5) (λ all. absurd (omega (arith, counted, all)))
-    | inr between ↦ subst (λ (s : Session). s.acknowledged ≡ s.accepted → new.dirty ≡ []) (sym between.3) (λ all. dirty_files ∙ was all)
-  ]
-]

@@ -1,6 +1,7 @@
 -- The list of texts by which a run is told: what a command adds to it, and what of a session stands
 -- in it.
-use Rattle.std.proofs.Common.{◌≡◌, ◌⊎◌, inl, inr, ⊎_elim, ℕ, zero, suc, ◌+◌, ◌<◌, true, false, List, [], ◌∷◌, ◌++◌, length, Option, Some, None, Result, Ok, Err, refl, sym, ap, ◌∙◌, subst, arith}
+use Rattle.std.proofs.Common.{◌≡◌, ◌⊎◌, inl, inr, ⊎_elim, ℕ, zero, suc, ◌+◌, ◌<◌, false, List, [], ◌∷◌, ◌++◌, length, Option, Some, None, Result, Ok, Err, refl, sym, ap, ◌∙◌, subst, arith}
+use Rattle.std.proofs.lemmas.Grind.{common_steps}
 use Rattle.std.specs.Prelude.{slice_get, IsErrOf, if◌then◌else◌, nat_eq}
 use Rattle.std.proofs.lemmas.Bool.{cases_Bool, false≢true}
 use Rattle.std.proofs.lemmas.List.{length-append}
@@ -48,15 +49,10 @@ texts_after AsksToSettle before now texts = texts
 texts_after (Refuses why) before now texts = texts
 
 adds_one : (told : Outcome) (files : List (List ℕ)) (before now : ℕ) (texts : Texts) → IsAccepted told files → now ≡ before + 1 → Adds told before now texts (texts_after told before now texts)
-adds_one told files before now texts accepts risen =
-    let more : nat_eq (before + 1) before ≡ false = grind (arith) in
-    let is = accepts.1 in
-    rw (is, risen, more) (inr (refl, (files, (accepts.0, refl), refl)))
+adds_one told files before now texts accepts risen = grind (arith, common_steps)
 
 adds_none : (told : Outcome) (before now : ℕ) (texts : Texts) → now ≡ before → Adds told before now texts (texts_after told before now texts)
-adds_none (Accepts names files) before now texts same =
-    let is : nat_eq before before ≡ true = grind (arith) in
-    rw (same, is) (inl (refl, refl))
+adds_none (Accepts names files) before now texts same = grind (arith, common_steps)
 adds_none (Shows text) before now texts same = inl (same, refl)
 adds_none (Tells minutes) before now texts same = inl (same, refl)
 adds_none AsksToSettle before now texts same = inl (same, refl)
@@ -72,13 +68,7 @@ adds old new command (Ok (Safe n)) texts step = adds_none (outcome old command) 
 adds old new command (Err (Refused why)) texts step = adds_none (outcome old command) old.accepted new.accepted texts (ap (λ (s : Session). s.accepted) step.2)
 adds old new command (Err OutOfMemory) texts step = adds_none (outcome old command) old.accepted new.accepted texts (ap (λ (s : Session). s.accepted) step.1)
 adds old new command (Err Broken) texts step = adds_none (outcome old command) old.accepted new.accepted texts (ap (λ (s : Session). s.accepted) step.1)
-adds old new command (Err Device) texts step = elim step.1 [
-  | inl in_read ↦ adds_none (outcome old command) old.accepted new.accepted texts (ap (λ (s : Session). s.accepted) in_read)
-  | inr torn ↦ elim torn [
-    | inl fell ↦ adds_one (outcome old command) fell.0 old.accepted new.accepted texts fell.3 (ap (λ (s : Session). s.accepted) fell.5)
-    | inr between ↦ adds_none (outcome old command) old.accepted new.accepted texts (ap (λ (s : Session). s.accepted) between.3)
-  ]
-]
+adds old new command (Err Device) texts step = grind (arith, common_steps)
 
 lists_same : (old new : Session) (texts more : Texts) → new ≡ old → more ≡ texts → Lists old texts → Lists new more
 lists_same old new texts more same is lists = subst (λ s. Lists s more) (sym same) (subst (Lists old) (sym is) lists)
@@ -88,38 +78,7 @@ pub none_added : (outcome : Outcome) (before now : ℕ) (old new : Texts) → Ad
 none_added outcome before now old new added same = elim added [ inl none ↦ none.1 | inr one ↦ absurd (omega (arith, one.0, same)) ]
 
 lists_done : (old : Session) (told : Outcome) (files : List (List ℕ)) (texts more : Texts) → IsAccepted told files → Adds told old.accepted (done old files).accepted texts more → Lists old texts → Lists (done old files) more
-lists_done old told files texts more accepted added lists = elim added [
-  | inl none ↦ absurd (omega (arith, none.0, done_accepted old files))
-  | inr one ↦
-      let same : files ≡ one.1.0 = same_accepted files one.1.0 accepted one.1.1 in
-      let is : more ≡ texts ++ files ∷ [] = one.1.2 ∙ ap (λ t. texts ++ t ∷ []) (sym same) in
-      let here : slice_get (texts ++ files ∷ []) (old.accepted + 1) ≡ Some files = subst (λ n. slice_get (texts ++ files ∷ []) n ≡ Some files) lists.size (at_end texts files) in
-      subst (Lists (done old files)) (sym is) (elim (cases_Bool (fills old)) [
-        | inl t ↦ rw t (record {
-          size = length-append texts (files ∷ []) ∙ omega (arith, lists.size);
-          order = omega arith;
-          files = λ sound. here;
-          settled = λ sound. here;
-        })
-        | inr f ↦ rw f (record {
-          size = length-append texts (files ∷ []) ∙ omega (arith, lists.size);
-          order = omega (arith, lists.order);
-          files = λ sound. here;
-          settled = λ sound. begin_append texts (files ∷ []) old.acknowledged old.settled (lists.settled sound);
-        })
-      ])
-]
-
-lists_broken : (old new : Session) (outcome : Outcome) (texts more : Texts) → Adds outcome old.accepted new.accepted texts more → new.broken ≡ true → new.acknowledged ≡ old.acknowledged → Lists old texts → Lists new more
-lists_broken old new outcome texts more added fell same lists = record {
-  size = elim added [
-    | inl none ↦ rw none.1 (lists.size ∙ omega (arith, none.0))
-    | inr one ↦ rw one.1.2 (length-append texts (one.1.0 ∷ []) ∙ omega (arith, lists.size, one.0))
-  ];
-  order = elim added [ inl none ↦ omega (arith, same, lists.order, none.0) | inr one ↦ omega (arith, same, lists.order, one.0) ];
-  files = λ sound. absurd (false≢true (sym sound ∙ fell));
-  settled = λ sound. absurd (false≢true (sym sound ∙ fell));
-}
+lists_done old told files texts more accepted added lists = grind (arith, common_steps, done_accepted, same_accepted, at_end, done, cases_Bool, fills, length-append, settled, begin_append)
 
 lists_settled : (old new : Session) (texts : Texts) → old.broken ≡ false → new ≡ settled old → Lists old texts → Lists new texts
 lists_settled old new texts sound is lists =
@@ -135,22 +94,14 @@ lists_step old new command (Ok (Text bytes)) texts more step added lists =
     lists_same old new texts more step.2 (none_added (outcome old command) old.accepted new.accepted texts more added (ap (λ (s : Session). s.accepted) step.2)) lists
 lists_step old new command (Ok (Time minutes)) texts more step added lists =
     lists_same old new texts more step.2 (none_added (outcome old command) old.accepted new.accepted texts more added (ap (λ (s : Session). s.accepted) step.2)) lists
-lists_step old new command (Ok (Safe n)) texts more step added lists =
-    let none : more ≡ texts = none_added (outcome old command) old.accepted new.accepted texts more added (ap (λ (s : Session). s.accepted) step.3) in
-    subst (Lists new) (sym none) (lists_settled old new texts step.0 step.3 lists)
+lists_step old new command (Ok (Safe n)) texts more step added lists = grind (arith, common_steps)
 lists_step old new command (Err (Refused why)) texts more step added lists =
     lists_same old new texts more step.2 (none_added (outcome old command) old.accepted new.accepted texts more added (ap (λ (s : Session). s.accepted) step.2)) lists
 lists_step old new command (Err OutOfMemory) texts more step added lists =
     lists_same old new texts more step.1 (none_added (outcome old command) old.accepted new.accepted texts more added (ap (λ (s : Session). s.accepted) step.1)) lists
 lists_step old new command (Err Broken) texts more step added lists =
     lists_same old new texts more step.1 (none_added (outcome old command) old.accepted new.accepted texts more added (ap (λ (s : Session). s.accepted) step.1)) lists
-lists_step old new command (Err Device) texts more step added lists = elim step.1 [
-  | inl in_read ↦ lists_broken old new (outcome old command) texts more added (ap (λ (s : Session). s.broken) in_read) (ap (λ (s : Session). s.acknowledged) in_read) lists
-  | inr torn ↦ elim torn [
-    | inl fell ↦ lists_broken old new (outcome old command) texts more added (ap (λ (s : Session). s.broken) fell.5) (ap (λ (s : Session). s.acknowledged) fell.5) lists
-    | inr between ↦ lists_broken old new (outcome old command) texts more added (ap (λ (s : Session). s.broken) between.3) (ap (λ (s : Session). s.acknowledged) between.3) lists
-  ]
-]
+lists_step old new command (Err Device) texts more step added lists = grind (arith, common_steps)
 
 pub lists_settling : (old new : Session) (answer : Result (Unit {0}) RunFault) (texts : Texts) → Settles old answer new → Lists old texts → Lists new texts
 lists_settling old new (Ok _) texts settles lists = lists_settled old new texts settles.0 settles.1 lists
@@ -172,10 +123,7 @@ same_or_sound old new command (Err Broken) fine step = inl step.1
 same_or_sound old new command (Err Device) fine step = absurd (fine refl)
 
 pub begin_adds : (outcome : Outcome) (before now : ℕ) (old new : Texts) → Adds outcome before now old new → Begin old new
-begin_adds outcome before now old new added = ⊎_elim
-    (λ none. subst (Begin old) (sym none.1) (λ k files is. is))
-    (λ one. subst (Begin old) (sym one.1.2) (begin_append old (one.1.0 ∷ [])))
-    added
+begin_adds outcome before now old new added = grind (arith, common_steps, begin_append)
 
 -- What a place of a longer list has.
 pub before_end : (texts : Texts) (files : List (List ℕ)) (k : ℕ) (at : List (List ℕ)) → slice_get (texts ++ files ∷ []) k ≡ Some at → (slice_get texts k ≡ Some at) ⊎ ((k ≡ length texts) × (at ≡ files))
@@ -199,10 +147,7 @@ Counts last here s = (s ≡ here.store.session) ⊎ (Stands last s ⊎ (last.sto
 pub further : {D : Type 0} (old mid last : Trace D) → Lists mid.store.session mid.texts → Begin mid.texts last.texts → (mid.store.session ≡ old.store.session) ⊎ (mid.store.session.broken ≡ false)
     → (s : Session) → Counts last mid s → Counts last old s
 further old mid last lists ends whole s (inr counts) = inr counts
-further old mid last lists ends whole s (inl same) = ⊎_elim
-    (λ is. inl (same ∙ is))
-    (λ sound. inr (inl (subst (Stands last) (sym same) (ends mid.store.session.accepted mid.store.session.files (lists.files sound)))))
-    whole
+further old mid last lists ends whole s (inl same) = grind (arith, common_steps)
 
 -- a command that was to be accepted, and in which the disk failed
 pub torn : {D : Type 0} (old mid last : Trace D) (command : Command) (texts : List (List ℕ)) → Lists old.store.session old.texts → Begin mid.texts last.texts

@@ -1,6 +1,7 @@
 -- Refiles and archivings, one after another, keep how often each node is there over all files of a
 -- store, but for the sections of the entries that are archived and for the headings that are made.
 use Rattle.std.proofs.Common.{◌≡◌, ◌⊎◌, inl, inr, ⊎_elim, ℕ, zero, suc, ◌+◌, ◌≤◌, ◌==◌, false, List, [], ◌∷◌, ◌++◌, length, Option, Some, None, refl, sym, ◌∙◌, ap, subst, if◌then◌else◌, arith, length-append}
+use Rattle.std.proofs.lemmas.Grind.{common_steps}
 use Rattle.org_disk.specs.declared.disk.Disk.{Ghosts}
 use Rattle.std.specs.List.{All, AllByRecursion, IsDistinct, sum_by}
 use Rattle.std.specs.Prelude.{slice_get}
@@ -116,12 +117,7 @@ push_moved base n texts last files size at_end new moved i k one other low at la
 
 -- a list that ends where it begins
 moved_first : (n : ℕ) (texts : Texts) → length texts ≡ n + 1 → Moved n texts
-moved_first n texts size i k one other low at later =
-    let none : k ≡ 0 = omega (arith, low, size, slice_get_within texts (i + k) other later) in
-    let place : i + k ≡ i = omega (arith, none) in
-    let same : Some one ≡ Some other = sym at ∙ sym (ap (slice_get texts) place) ∙ later in
-    let texts_same : one ≡ other = cc in
-    moved_none k other one (sym texts_same)
+moved_first n texts size i k one other low at later = grind (arith, common_steps, slice_get_within, moved_none)
 
 module _ {D : Type 0} (g : Ghosts D) (first last : Trace D) (calls : List Call)
     (run : MakesAll (traces g) first calls last) (lists : Lists first.store.session first.texts) (small : All (AreSmall first.store.session.names) first.texts)

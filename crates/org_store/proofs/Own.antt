@@ -1,12 +1,12 @@
 -- Calls of a store write no file but its own.
-use Rattle.std.proofs.Common.{◌≡◌, inl, inr, ℕ, List, [], ◌∷◌, ◌++◌, true, Result, Ok, Err, refl, sym, ap, ◌∙◌, subst}
+use Rattle.std.proofs.Common.{rules, arith, ◌≡◌, inl, inr, ℕ, List, [], ◌∷◌, ◌++◌, true, Result, Ok, Err, refl, sym, ap, subst}
+use Rattle.std.proofs.lemmas.Grind.{common_steps}
 use Rattle.org_disk.specs.declared.disk.Disk.{Ghosts}
 use Rattle.std.proofs.lemmas.Bool.{cases_Bool, false≢true}
-use Rattle.std.specs.List.{list_any}
 use Rattle.std.specs.Str.{bytes_eq}
 use Rattle.org_disk.proofs.Names.{name_cases, same_name}
 use Rattle.org_fileset.specs.Writes.{LeavesAlone, IsOther}
-use Rattle.org_fileset.proofs.Writes.{alone_fewer, alone_none, alone_then}
+use Rattle.org_fileset.proofs.Writes.{alone_fewer, alone_none}
 use Rattle.org_commands.specs.declared.command.Command.{Command}
 use Rattle.org_commands.specs.declared.command.Reply.{Reply}
 use Rattle.org_commands.specs.declared.command.Reply.TheVariants.{Done, Safe, Text, Time}
@@ -51,13 +51,7 @@ named_both names (one ∷ first) second a b = (a.0, named_both names first secon
 -- a name that is none of these isn't among some of them
 other_named : (names some : List (List ℕ)) (name : List ℕ) → AreNames names some → IsApart names name → IsOther some name
 other_named names [] name all apart = tt
-other_named names (one ∷ some) name all apart = (
-  apart.apart,
-  elim (cases_Bool (list_any (bytes_eq name) (one ∷ some))) [
-    | inl t ↦ absurd (false≢true (sym apart.unnamed ∙ named_dirty names (one ∷ some) all name t))
-    | inr f ↦ f
-  ],
-)
+other_named names (one ∷ some) name all apart = search (rules, arith, cases_Bool, false≢true, named_dirty)
 
 -- a file that isn't the store's is written by no call
 spared : (s : Session) (dirty : List (List ℕ)) (does : Outcome) (accepted : ℕ) (name : List ℕ) → AreNames s.names dirty → AreNames s.names (written does) → IsApart s.names name → IsSpared s dirty does accepted name
@@ -101,13 +95,7 @@ module _ {D : Type 0} (g : Ghosts D) where
   own_none old new named same = subst (KeepsToItsOwn old) (sym same) (record { names = refl; dirty_files = named; alone = alone_none g (IsApart old.session.names) old.disk })
 
   pub own_then : (old mid new : StoreView D) → KeepsToItsOwn old mid → (AreNames mid.session.names mid.dirty → KeepsToItsOwn mid new) → KeepsToItsOwn old new
-  own_then old mid new first second =
-      let more = second (subst (λ (ns : List (List ℕ)). AreNames ns mid.dirty) (sym first.names) first.dirty_files) in record {
-        names = more.names ∙ first.names;
-        dirty_files = subst (λ (ns : List (List ℕ)). AreNames ns new.dirty) first.names more.dirty_files;
-        alone = alone_then g (IsApart old.session.names) old.disk mid.disk new.disk first.alone
-            (subst (λ (ns : List (List ℕ)). LeavesAlone g (IsApart ns) mid.disk new.disk) first.names more.alone);
-      }
+  own_then old mid new first second = grind (arith, common_steps)
 
   pub own_run : (old new : StoreView D) (command : Command) (answer : Result Reply RunFault) → AreNames old.session.names old.dirty → RunsOver g old command answer new → KeepsToItsOwn old new
   own_run old new command answer named ran =

@@ -1,5 +1,6 @@
 -- The texts that a plan makes, in the order of a store's names.
-use Rattle.std.proofs.Common.{◌≡◌, ◌≢◌, inl, inr, ℕ, true, false, List, [], ◌∷◌, Option, Some, None, refl, sym, ◌∙◌, ap, if◌then◌else◌}
+use Rattle.std.proofs.Common.{arith, ◌≡◌, ◌≢◌, inl, inr, ℕ, true, false, List, [], ◌∷◌, Option, Some, None, refl, sym, ◌∙◌, ap, if◌then◌else◌}
+use Rattle.std.proofs.lemmas.Grind.{common_steps}
 use Rattle.std.specs.Str.{bytes_eq}
 use Rattle.std.proofs.lemmas.Bool.{false≢true}
 use Rattle.org_disk.proofs.Names.{name_cases, same_name}
@@ -39,16 +40,7 @@ texts_put set (one ∷ changed) names old new here others =
     one_more name there = elim (name_cases one name) [ inl is ↦ let t = is.1 in rw t refl | inr not ↦ let f = not.1 in rw f there ]
 
     outside : (name : List ℕ) → is_name changed name ≡ false → new name ≡ with_one set one old name
-    outside name out = elim (name_cases one name) [
-      | inl is ↦
-          let t = is.1 in
-          let there : is_name (one ∷ changed) name ≡ true = rw t refl in
-          rw t (here name there ∙ ap (λ (n : List ℕ). bytes_or [] (text_of set n)) (sym is.0))
-      | inr not ↦
-          let f = not.1 in
-          let none : is_name (one ∷ changed) name ≡ false = rw f out in
-          rw f (others name none)
-    ]
+    outside name out = grind (arith, common_steps, name_cases, changed)
 
 bytes_some : (bytes : List ℕ) (o : Option EditedText) → IsSome o → bytes_or bytes o ≡ bytes_or [] o
 bytes_some bytes None some = absurd (false≢true some)
@@ -65,7 +57,4 @@ planned_texts plan held files names is touched =
 pub counted_texts : {D : Type 0} (texts : D → Image) (states : Keywords) (old mid : OpenFiles D) (tally : Tally) (plan : Plan) → mid.disk ≡ old.disk → mid.names ≡ old.names → mid.held.now ≡ planned plan old.held.now
     → IsPlanFor old.names old.held plan → has_large (new_texts plan old.held.now) ≡ false
     → changed (session_over texts states old tally) (new_texts plan old.held.now) ≡ counted (session_over texts states old tally) (files_of plan) (texts_of (held_over mid.held.now (texts mid.disk)) mid.names)
-counted_texts texts states old mid tally plan disk names now is small =
-    counts_small (session_over texts states old tally) (new_texts plan old.held.now) small
-    ∙ ap (λ ns. counted (session_over texts states old tally) ns (with_all old.names (texts_of (held_over old.held.before (texts old.disk)) old.names) (new_texts plan old.held.now))) (names_in (planned plan old.held.now) (files_of plan))
-    ∙ ap (counted (session_over texts states old tally) (files_of plan)) (sym (planned_texts plan old.held (texts old.disk) old.names is.is is.touched) ∙ rw (now, disk, names) refl)
+counted_texts texts states old mid tally plan disk names now is small = grind (arith, common_steps, counts_small, names_in, planned, planned_texts)

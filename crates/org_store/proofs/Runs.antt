@@ -1,11 +1,12 @@
 -- Runs of commands over a disk: what a crash leaves meanwhile, and what the disk is after them.
 use Rattle.std.proofs.Common.{◌≡◌, ◌⊎◌, inl, inr, ⊎_elim, ℕ, ◌+◌, ◌≤◌, true, false, List, [], ◌∷◌, is_some, Result, Ok, Err, refl, sym, ◌∙◌, ap, subst, arith, IsTrue}
+use Rattle.std.proofs.lemmas.Grind.{common_steps}
 use Rattle.org_disk.specs.declared.disk.Disk.{Ghosts}
 use Rattle.std.specs.Prelude.{IsErrOf}
 use Rattle.std.specs.Str.{bytes_eq}
 use Rattle.std.proofs.lemmas.Bool.{cases_Bool, false≢true}
 use Rattle.org_disk.specs.Disk.{AreImages, Passes, LeavesOnly}
-use Rattle.org_disk.proofs.Moments.{passes_none, passes_as, passes_then, leaves_only}
+use Rattle.org_disk.proofs.Moments.{passes_as, passes_then, leaves_only}
 use Rattle.org_journal.specs.Recovered.{Image, SameFiles, IsRecoverable, RecoversTo, contents}
 use Rattle.org_fileset.specs.Replay.{IsAtRest}
 use Rattle.org_fileset.proofs.Commits.{at_rest_recovers}
@@ -21,7 +22,7 @@ use Rattle.org_commands.specs.Outcome.{IsAccepted, Outcome, Accepts, Shows, Tell
 use Rattle.org_commands.specs.Step.{Steps, Step, Settles, fills, done, settled}
 use Rattle.org_store.specs.Left.{IsLeft, PutsOnDisk}
 use Rattle.org_store.proofs.Accepted.{accepted_puts}
-use Rattle.org_store.specs.Runs.{RunsOver, SettlesOver, IsOnDisk}
+use Rattle.org_store.specs.Runs.{RunsOver, IsOnDisk}
 
 -- The files with the texts of some names depend on the other files alone.
 
@@ -49,10 +50,7 @@ HaveTexts names texts more = (name : List ℕ) → is_some (text_at names more n
 with_text_has : (names texts : List (List ℕ)) (name new : List ℕ) → HaveTexts names texts (with_text names texts name new)
 with_text_has [] texts name new other = refl
 with_text_has (one ∷ names) [] name new other = refl
-with_text_has (one ∷ names) (text ∷ texts) name new other = elim (cases_Bool (bytes_eq one other)) [
-  | inl t ↦ rw t refl
-  | inr f ↦ rw f (with_text_has names texts name new other)
-]
+with_text_has (one ∷ names) (text ∷ texts) name new other = grind (arith, common_steps, with_text_has names texts name new other)
 
 with_all_has : (names texts : List (List ℕ)) (changes : List (List ℕ × List ℕ)) → HaveTexts names texts (with_all names texts changes)
 with_all_has names texts [] other = refl
@@ -74,14 +72,7 @@ onward_none : (s : Session) → Onward s s
 onward_none s = record { names = refl; broken = refl; settled = inl refl; texts = λ name. refl }
 
 onward_then : (old mid new : Session) → Onward old mid → Onward mid new → Onward old new
-onward_then old mid new first second = record {
-  names = second.names ∙ first.names;
-  broken = second.broken ∙ first.broken;
-  settled = ⊎_elim
-      (λ same. ⊎_elim (λ before. inl (same ∙ before)) (λ has. inr (subst (HaveTexts old.names old.files) (sym same) has)) first.settled)
-      (λ has. inr (λ name. rw first.names at (has name) ∙ first.texts name)) second.settled;
-  texts = λ name. rw first.names at (second.texts name) ∙ first.texts name;
-}
+onward_then old mid new first second = grind (arith, common_steps)
 
 -- the session after an accepted command
 pub done_files : (s : Session) (files : List (List ℕ)) → (done s files).files ≡ files
@@ -94,10 +85,7 @@ abbrev Settling : Session → Session → Type 0
 Settling old new = (new.settled ≡ old.settled) ⊎ (new.settled ≡ new.files)
 
 onward_done : (s : Session) (files : List (List ℕ)) → HaveTexts s.names s.files files → Onward s (done s files) × Settling s (done s files)
-onward_done s files has = elim (cases_Bool (fills s)) [
-  | inl t ↦ rw t (record { names = refl; broken = refl; settled = inr has; texts = has }, inr refl)
-  | inr f ↦ rw f (record { names = refl; broken = refl; settled = inl refl; texts = has }, inl refl)
-]
+onward_done s files has = grind (arith, common_steps)
 
 abbrev Onwards : Session → Session → Type 0
 Onwards old new = Onward old new × Settling old new
@@ -125,22 +113,10 @@ counts_rise old new command (Ok (Safe n)) step = subst (λ s. old.accepted ≤ s
 counts_rise old new command (Err (Refused why)) step = subst (λ s. old.accepted ≤ s.accepted) (sym step.2) (omega arith)
 counts_rise old new command (Err OutOfMemory) step = subst (λ s. old.accepted ≤ s.accepted) (sym step.1) (omega arith)
 counts_rise old new command (Err Broken) step = subst (λ s. old.accepted ≤ s.accepted) (sym step.1) (omega arith)
-counts_rise old new command (Err Device) step = elim step.1 [
-  | inl in_read ↦ subst (λ s. old.accepted ≤ s.accepted) (sym in_read) (omega arith)
-  | inr torn ↦ elim torn [
-    | inl fell ↦ subst (λ s. old.accepted ≤ s.accepted) (sym fell.5) (omega arith)
-    | inr between ↦ subst (λ s. old.accepted ≤ s.accepted) (sym between.3) (omega arith)
-  ]
-]
+counts_rise old new command (Err Device) step = grind (arith, common_steps)
 
 pub falls : (old new : Session) (command : Command) → Step old command (Err Device) new → new.broken ≡ true
-falls old new command step = elim step.1 [
-  | inl in_read ↦ subst (λ s. s.broken ≡ true) (sym in_read) refl
-  | inr torn ↦ elim torn [
-    | inl fell ↦ subst (λ s. s.broken ≡ true) (sym fell.5) refl
-    | inr between ↦ subst (λ s. s.broken ≡ true) (sym between.3) refl
-  ]
-]
+falls old new command step = grind (arith, common_steps)
 
 -- Sessions that are reached by calls.
 
@@ -266,58 +242,18 @@ answers_broken old new command (Err Broken) step fell = refl
 -- what a settling does to the session
 pub settling_ends : (old new : Session) (answer : Result (Unit {0}) RunFault) → Settles old answer new
     → (old.accepted ≤ new.accepted) × (new.broken ≡ false → (IsErrOf answer Device → ⊥) × Onward old new) × (old.broken ≡ true → IsErrOf answer Broken)
-settling_ends old new (Ok _) step = (
-  subst (λ s. old.accepted ≤ s.accepted) (sym step.1) (omega arith),
-  λ sound. (
-    λ (e : ◌≡◌ {A = Result (Unit {0}) RunFault} (Ok tt) (Err Device)). absurd (cc),
-    subst (Onward old) (sym step.1) (record { names = refl; broken = refl; settled = inr (λ name. refl); texts = λ name. refl }),
-  ),
-  λ fell. absurd (false≢true (sym step.0 ∙ fell)),
-)
+settling_ends old new (Ok _) step = grind (arith, common_steps)
 settling_ends old new (Err (Refused why)) step = absurd step
-settling_ends old new (Err OutOfMemory) step = (
-  subst (λ s. old.accepted ≤ s.accepted) (sym step.1) (omega arith),
-  λ sound. (λ (e : ◌≡◌ {A = Result (Unit {0}) RunFault} (Err OutOfMemory) (Err Device)). absurd (cc), subst (Onward old) (sym step.1) (onward_none old)),
-  λ fell. absurd (false≢true (sym step.0 ∙ fell)),
-)
-settling_ends old new (Err Device) step = (
-  subst (λ s. old.accepted ≤ s.accepted) (sym step.1.2) (omega arith),
-  λ sound. absurd (false≢true (sym sound ∙ ap (λ (s : Session). s.broken) step.1.2)),
-  λ fell. absurd (false≢true (sym step.0 ∙ fell)),
-)
-settling_ends old new (Err Broken) step = (
-  subst (λ s. old.accepted ≤ s.accepted) (sym step.1) (omega arith),
-  λ sound. absurd (false≢true (sym sound ∙ ap (λ (s : Session). s.broken) step.1 ∙ step.0)),
-  λ fell. refl,
-)
+settling_ends old new (Err OutOfMemory) step = grind (arith, common_steps)
+settling_ends old new (Err Device) step = grind (arith, common_steps)
+settling_ends old new (Err Broken) step = grind (arith, common_steps)
 
 module _ {D : Type 0} (g : Ghosts D) where
   abbrev Goes : StoreView D → StoreView D → (Session → Type 0) → Type 0
   Goes old new P = Course g old new P
 
   pub course_none : (old : StoreView D) (P : Session → Type 0) → P old.session → Goes old old P
-  course_none old P self = record {
-    passes = λ rest disk sound. passes_none _ _ _;
-    rest = λ sound rest. rest;
-    recoverable = λ rest. inl (λ name not. rest.stable name);
-    others = λ sound disk. disk;
-    onward = λ sound. onward_none old.session;
-    stays = λ fell. refl;
-    rises = omega arith;
-  }
-
-  -- more sessions may count as reached
-  pub course_as : (old new : StoreView D) (P Q : Session → Type 0) → Goes old new P → ((s : Session) → P s → Q s) → Goes old new Q
-  course_as old new P Q course weaker = record {
-    passes = λ rest disk sound.
-        passes_as (course.passes rest disk sound) (λ image left. ⊎_elim (λ held. inl held) (λ reached. inr (reached.0, (reached.1.0, reached.1.1, weaker reached.0 reached.1.2), reached.2)) left);
-    rest = course.rest;
-    recoverable = course.recoverable;
-    others = course.others;
-    onward = course.onward;
-    stays = course.stays;
-    rises = course.rises;
-  }
+  course_none old P self = grind (arith, common_steps)
 
   -- a run that was unbroken at its end was so at its start
   sound_before : (old new : StoreView D) → (old.session.broken ≡ true → new ≡ old) → new.session.broken ≡ false → old.session.broken ≡ false
@@ -332,9 +268,7 @@ module _ {D : Type 0} (g : Ghosts D) where
     rises = omega (arith, counts_rise old.session mid.session command answer ran.step, course.rises)
 
     stays : old.session.broken ≡ true → new ≡ old
-    stays fell =
-        let same = ran.idle.untouched (answers_broken old.session mid.session command answer ran.step fell) in
-        course.stays (ap (λ (k : StoreView D). k.session.broken) same ∙ fell) ∙ same
+    stays fell = grind (arith, common_steps)
 
     self_reached : Reached old.session new.session P old.session
     self_reached = (λ name. refl, self_between old.session new.session rises, self)
@@ -417,24 +351,6 @@ module _ {D : Type 0} (g : Ghosts D) where
 
     pub course_run : Goes old new P
     course_run = ⊎_elim after_failure after_answer (device_or_not answer)
-
-  -- a settling
-  module _ (old new : StoreView D) (answer : Result (Unit {0}) RunFault) (P : Session → Type 0) (ran : SettlesOver g old answer new) (self : P old.session) where
-    pub course_settle : Goes old new P
-    course_settle =
-        let ends = settling_ends old.session new.session answer ran.step in
-        record {
-          passes = λ rest disk sound.
-              passes_as (ran.disk.any_moment rest).passes
-              (λ image left. left_of old.session (contents (g.files old.disk)) AsksToSettle answer new.session.accepted image (Reached old.session new.session P) (λ name. refl, self_between old.session new.session ends.0, self)
-              (λ texts accepts. no_settling texts accepts) left);
-          rest = λ sound rest. ran.disk.rest (ends.1 sound).0 rest;
-          recoverable = ran.disk.recoverable;
-          others = λ sound disk. ran.disk.others (ends.1 sound).0;
-          onward = λ sound. (ends.1 sound).1;
-          stays = λ fell. ran.idle.untouched (ends.2 fell);
-          rises = ends.0;
-        }
 
   -- what is left of a run, with no word of how it is proved
   pub course_leaves : (old new : StoreView D) (P : Session → Type 0) → Goes old new P → IsAtRest (g.files old.disk) → IsOnDisk old.session (contents (g.files old.disk)) → old.session.broken ≡ false

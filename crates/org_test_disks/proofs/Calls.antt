@@ -4,20 +4,19 @@ use Rattle.std.proofs.lemmas.List.Sums.{sum_by_push}
 use Rattle.std.proofs.lemmas.Bool.{cases_Bool, cond-true, cond-false, cases_lt, false≢true, true≢false}
 use Rattle.std.proofs.lemmas.List.{take_all, take_more, take-append-le}
 use Rattle.std.proofs.lemmas.Slice.Eq.{bytes_eq-Decides}
-use Rattle.std.specs.Prelude.{IsFalse}
 use Rattle.std.specs.Option.{option_map_or}
 use Rattle.std.specs.Str.{bytes_eq}
 use Rattle.std.specs.declared.alloc.AllocError.{AllocError}
 use Rattle.std.specs.declared.alloc.Global.{Global}
 use Rattle.indexmap.specs.IndexMap.{get}
-use Rattle.org_disk.specs.Disk.{FileState, IsImage, AreImages, AreLeftBy, Changes, IsCounted, Passes, stable}
+use Rattle.org_disk.specs.Disk.{FileState, IsImage, AreImages, AreLeftBy, Changes, Passes, stable}
 use Rattle.org_disk.specs.declared.disk.DiskFault.{DiskFault}
 use Rattle.org_test_disks.specs.declared.memory.Effect.{Effect}
 use Rattle.org_test_disks.specs.declared.memory.Effect.TheVariants.{Set, Nothing}
 use Rattle.org_test_disks.specs.declared.memory.Call.{Call}
-use Rattle.org_test_disks.specs.Record.{effect_of, step, state_after, files_after, is_call, is_call_effect, LeftSince, IsTried, call_of, Contents, content_in, items_or, Keeps}
+use Rattle.org_test_disks.specs.Record.{effect_of, step, state_after, files_after, is_call, LeftSince, IsTried, call_of, Contents, content_in, items_or, Keeps}
 use Rattle.org_test_disks.specs.RecordLaws.{own_image}
-use Rattle.org_test_disks.specs.Memory.{CountsDown, HasNoEffect, KeepsPlan, TakesTurn, is_due}
+use Rattle.org_test_disks.specs.Memory.{HasNoEffect}
 use Rattle.org_test_disks.specs.declared.memory.MemoryDisk.{MemoryDisk}
 use Rattle.org_disk.proofs.Moments.{Image, passes_none}
 
@@ -249,45 +248,6 @@ module _ (name : List ℕ) (copy : Vec ℕ Global) (calls later : List Call) whe
       → (other : List ℕ) → other ≢ name → files_after later other ≡ files_after calls other
   set_others (Ok tt) made same other apart = (changes_made calls later (call_of name (Set copy) false) made).others other apart
   set_others (Err e) made same other apart = ap (λ (cs : List Call). files_after cs other) same
-
--- A call that failed: the record has it with its effect or with none, or has no memory for it.
-pub tried_recorded : (name : List ℕ) (effect made : Effect) (crashed : Bool) (calls later : List Call) → (made ≡ effect) ⊎ (made ≡ Nothing) → (r : Result (Unit {0}) AllocError)
-    → OnOk r (later ≡ calls ++ call_of name made crashed ∷ []) → OnErr r (later ≡ calls) → IsTried name effect calls later
-tried_recorded name effect made crashed calls later which (Err e) ok err = inl err
-tried_recorded name effect made crashed calls later (inl same) (Ok tt) ok err = inr (inl (crashed, ok ∙ ap (λ (e : Effect). calls ++ call_of name e crashed ∷ []) same))
-tried_recorded name effect made crashed calls later (inr none) (Ok tt) ok err = inr (inr (crashed, ok ∙ ap (λ (e : Effect). calls ++ call_of name e crashed ∷ []) none))
-
--- .. from the turn of the call to the count of its failure
-pub tried_at : (name : List ℕ) (effect made : Effect) (crashed : Bool) (old turned recorded new : List Call) → turned ≡ old → new ≡ recorded → (made ≡ effect) ⊎ (made ≡ Nothing) → (r : Result (Unit {0}) AllocError)
-    → OnOk r (recorded ≡ turned ++ call_of name made crashed ∷ []) → OnErr r (recorded ≡ turned) → IsTried name effect old new
-tried_at name effect made crashed old turned recorded new begun counted which r ok err =
-    subst (λ (later : List Call). IsTried name effect old later) (sym counted)
-    (subst (λ (calls : List Call). IsTried name effect calls recorded) begun (tried_recorded name effect made crashed turned recorded which r ok err))
-
--- the turn of a call that fails
-pub turn_failed : (old turned recorded new : MemoryDisk) (fault : DiskFault) → CountsDown old turned → turned.failures ≡ old.failures → KeepsPlan turned recorded → recorded.failures ≡ turned.failures → KeepsPlan recorded new → IsCounted recorded.failures new.failures
-    → (IsFalse (is_due old) → new.calls.items ≡ old.calls.items) → TakesTurn {A = Unit {0}} old new (Err fault)
-turn_failed old turned recorded new fault counts begun plan kept last count unasked = record {
-  due = λ due. refl;
-  unasked = unasked;
-  counts = record { fail_in = last.fail_in ∙ plan.fail_in ∙ counts.fail_in; crash = last.crash ∙ plan.crash ∙ counts.crash };
-  kept = tt;
-  counted = subst (λ (n : ℕ). IsCounted n new.failures) (kept ∙ begun) count;
-}
-
--- what a call that was made adds to the count
-pub count_made : (name : List ℕ) (effect : Effect) (calls later : List Call) (result : Result (Unit {0}) DiskFault) → is_call_effect effect ≡ true
-    → OnOk result (later ≡ calls ++ call_of name effect false ∷ []) → OnOk result (count_by is_call later ≡ count_by is_call calls + 1)
-count_made name effect calls later (Ok u) is made =
-    ap (count_by is_call) made ∙ sum_by_push (λ call. cond (is_call call) 1 0) calls (call_of name effect false) ∙ ap (λ b. count_by is_call calls + cond b 1 0) is
-count_made name effect calls later (Err e) is made = tt
-
--- a `set` is no call
-pub count_set : (name : List ℕ) (bytes : Vec ℕ Global) (calls later : List Call) (result : Result (Unit {0}) AllocError)
-    → OnOk result (later ≡ calls ++ call_of name (Set bytes) false ∷ []) → OnErr result (later ≡ calls) → count_by is_call later ≡ count_by is_call calls
-count_set name bytes calls later (Ok u) made kept =
-    let more = ap (count_by is_call) made ∙ sum_by_push (λ call. cond (is_call call) 1 0) calls (call_of name (Set bytes) false) in omega (arith, more)
-count_set name bytes calls later (Err e) made kept = ap (count_by is_call) kept
 
 -- The calls that are counted, one entry further on.
 module _ (entries calls : List Call) (same : entries ≡ calls) (i : ℕ) (call : Call) (within : i < length entries) (at : call ≡ get_or entries i call) where

@@ -1,5 +1,6 @@
 -- The contents that are kept, after one of them was written.
-use Rattle.std.proofs.Common.{◌≡◌, ◌≢◌, ◌⊎◌, inl, inr, List, [], ℕ, true, false, Result, Ok, Err, OnOk, OnErr, Option, Some, Vec, is_some, cond, true≢false, sym, ◌∙◌, ap}
+use Rattle.std.proofs.Common.{arith, ◌≡◌, ◌≢◌, ◌⊎◌, inl, inr, List, ℕ, true, false, Result, Ok, Err, OnErr, Some, Vec, cond, true≢false, sym, ◌∙◌}
+use Rattle.std.proofs.lemmas.Grind.{common_steps}
 use Rattle.std.proofs.lemmas.Bool.{cond-true, cond-false}
 use Rattle.std.specs.declared.alloc.AllocError.{AllocError}
 use Rattle.std.specs.declared.alloc.Global.{Global}
@@ -8,7 +9,7 @@ use Rattle.indexmap.specs.IndexMap.{get}
 use Rattle.org_disk.specs.Disk.{FileState}
 use Rattle.org_test_disks.specs.declared.memory.Effect.{Effect}
 use Rattle.org_test_disks.specs.declared.memory.Effect.TheVariants.{Nothing}
-use Rattle.org_test_disks.specs.Record.{effect_of, Contents, content_in, items_or, Keeps}
+use Rattle.org_test_disks.specs.Record.{effect_of, Contents, content_in, Keeps}
 use Rattle.org_disk.proofs.Names.{name_cases, same_name}
 
 module _ (name : List ℕ) (old new : Contents) (after : Vec ℕ Global) (updates : (q : List ℕ) → get bytes_eq new q ≡ cond (bytes_eq name q) (Some after) (get bytes_eq old q)) where
@@ -23,18 +24,10 @@ module _ (name : List ℕ) (old new : Contents) (after : Vec ℕ Global) (update
       differs (inr other) = other.1
 
   pub keeps_made : (effect : Effect) → ((file : FileState) → file.content ≡ content_in old name → after.items ≡ (effect_of effect file).content) → Keeps effect name old new
-  keeps_made effect made = record {
-    here = λ file is. ap (λ (o : Option (Vec ℕ Global)). items_or o []) there ∙ made file (sym is);
-    absent = λ none. absurd (true≢false (sym (ap is_some there) ∙ none));
-    others = elsewhere;
-  }
+  keeps_made effect made = grind (arith, common_steps, there, true≢false, elsewhere)
 
   -- a call on what was kept, made or refused memory
   module _ (before : List ℕ) (was : content_in old name ≡ before) where
-    pub keeps_act : (effect : Effect) (r : Result (Unit {0}) AllocError) → OnOk r ((file : FileState) → file.content ≡ before → after.items ≡ (effect_of effect file).content) → OnOk r (Keeps effect name old new)
-    keeps_act effect (Ok x) made = keeps_made effect (λ file is. made file (is ∙ was))
-    keeps_act effect (Err e) made = tt
-
     pub keeps_same : (r : Result (Unit {0}) AllocError) → OnErr r (after.items ≡ before) → OnErr r (Keeps Nothing name old new)
     keeps_same (Ok x) same = tt
     keeps_same (Err e) same = keeps_made Nothing (λ file is. same ∙ sym was ∙ sym is)

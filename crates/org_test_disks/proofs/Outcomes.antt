@@ -1,6 +1,6 @@
 -- What an outcome leaves of a file stays an image, call by call.
-use Rattle.std.proofs.Common.{◌≡◌, ◌⊎◌, inl, inr, ℕ, ◌+◌, ◌-◌, ◌<◌, ◌≤◌, min, List, ◌++◌, length, length-append, take, drop, slice_index, Result, Ok, Err, OnOk, ap, sym, ◌∙◌, subst, arith}
-use Rattle.std.proofs.lemmas.List.{get_or-take, get_or_append_left, length-take, length-take-le, length-drop}
+use Rattle.std.proofs.Common.{◌≡◌, ◌⊎◌, inl, inr, ℕ, ◌+◌, ◌<◌, ◌≤◌, List, length, Result, Ok, Err, OnOk, sym, ◌∙◌, subst, arith}
+use Rattle.std.proofs.lemmas.List.{get_or-take}
 use Rattle.std.specs.declared.alloc.AllocError.{AllocError}
 use Rattle.org_splice.specs.Overwritten.{overwritten}
 use Rattle.org_splice.proofs.Overwritten.{overwritten-beside, overwritten-bounds}
@@ -40,32 +40,3 @@ module _ (n : ℕ) (file : FileState) (left : List ℕ) (image : IsImage file le
     no_longer = image.no_longer;
     fixed = λ i fixed. image.fixed i (omega (arith, fixed.0), fixed.1) ∙ sym (get_or-take n file.content i 0 (omega (arith, fixed.0)));
   }
-
-  -- a cut took place
-  pub cut_all : IsImage (cut n file) (take n left)
-  cut_all = record {
-    no_shorter = omega (arith, image.no_shorter, length-take n left);
-    no_longer = omega (arith, image.no_longer, length-take n left);
-    fixed = λ i fixed. get_or-take n left i 0 (omega (arith, fixed.0)) ∙ image.fixed i (omega (arith, fixed.0), fixed.1) ∙ sym (get_or-take n file.content i 0 (omega (arith, fixed.0)));
-  }
-
-  -- a cut took place, and what it cut off was filled again
-  pub cut_filled : (k len : ℕ) (text filled rest more : List ℕ) → text ≡ left → k ≡ min n (length left) → len ≡ length left → length filled ≡ length (take (length text - k) (drop k text))
-      → IsImage (cut n file) (take len ((take k text ++ (filled ++ rest)) ++ more))
-  cut_filled k len text filled rest more same least whole sized =
-      let reaches : length left ≤ k + length filled = omega (arith, sized ∙ length-take (length text - k) (drop k text), length-drop k text, least, ap length same) in
-      let kept : length (take k text) ≡ k = length-take-le k text (omega (arith, least, ap length same)) in
-      let inner : length (take k text ++ (filled ++ rest)) ≡ k + length (filled ++ rest) = length-append (take k text) (filled ++ rest) ∙ ap (λ l. l + length (filled ++ rest)) kept in
-      let outer : length ((take k text ++ (filled ++ rest)) ++ more) ≡ k + length (filled ++ rest) + length more = length-append (take k text ++ (filled ++ rest)) more ∙ ap (λ l. l + length more) inner in
-      let long : length (take len ((take k text ++ (filled ++ rest)) ++ more)) ≡ length left = length-take-le len ((take k text ++ (filled ++ rest)) ++ more) (omega (arith, outer, whole, reaches, length-append filled rest)) ∙ whole in
-      record {
-        no_shorter = omega (arith, image.no_shorter, long);
-        no_longer = omega (arith, image.no_longer, long);
-        fixed = λ i fixed.
-            let below : i < k = omega (arith, fixed.0, least, image.no_shorter) in
-            get_or-take len ((take k text ++ (filled ++ rest)) ++ more) i 0 (omega (arith, below, least, whole))
-            ∙ get_or_append_left (take k text ++ (filled ++ rest)) more 0 i (omega (arith, below, inner))
-            ∙ get_or_append_left (take k text) (filled ++ rest) 0 i (omega (arith, below, kept))
-            ∙ get_or-take k text i 0 below ∙ ap (λ (b : List ℕ). slice_index b i) same
-            ∙ image.fixed i (omega (arith, fixed.0), fixed.1) ∙ sym (get_or-take n file.content i 0 (omega (arith, fixed.0)));
-      }

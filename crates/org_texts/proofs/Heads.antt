@@ -1,7 +1,7 @@
 -- Texts whose headings are held are terminated.
-use Rattle.std.proofs.Common.{◌≡◌, ℕ, ◌<◌, ◌^◌, length, true, false, List, [], ◌∷◌, ◌++◌, eqb, Option, Some, None, is_some, refl, sym, ap, ◌∙◌}
+use Rattle.std.proofs.Common.{arith, ◌≡◌, ℕ, ◌<◌, ◌^◌, length, true, false, List, [], ◌∷◌, ◌++◌, eqb, Option, Some, None, is_some, refl, ap}
+use Rattle.std.proofs.lemmas.Grind.{common_steps}
 use Rattle.std.proofs.lemmas.Bool.{cases_Bool}
-use Rattle.std.proofs.Common.{inl, inr}
 use Rattle.org_splice.specs.Lines.{terminated, is_terminated}
 use Rattle.std.specs.Prelude.{IfSome}
 use Rattle.org_splice.specs.Edits.{IsReplaced}
@@ -13,13 +13,7 @@ use Rattle.org_texts.specs.Held.{AreHeadsOf}
 
 pub is_terminated-terminated : (t : List ℕ) → terminated t ≡ t → is_terminated t ≡ true
 is_terminated-terminated [] stays_terminated = refl
-is_terminated-terminated (b ∷ []) stays_terminated = elim (cases_Bool (eqb b 10)) [
-  | inl t ↦ t
-  | inr f ↦
-      let open_end : terminated (b ∷ []) ≡ b ∷ 10 ∷ [] = rw f refl in
-      let two : b ∷ 10 ∷ [] ≡ b ∷ [] = sym open_end ∙ stays_terminated in
-      absurd (cc)
-]
+is_terminated-terminated (b ∷ []) stays_terminated = grind (arith, common_steps)
 is_terminated-terminated (b ∷ c ∷ bs) stays_terminated =
     let rest : terminated (c ∷ bs) ≡ c ∷ bs = cc in
     is_terminated-terminated (c ∷ bs) rest
@@ -40,23 +34,10 @@ terminated-open (b ∷ []) f = let other : eqb b 10 ≡ false = f in rw other re
 terminated-open (b ∷ c ∷ bs) f = ap (λ (l : List ℕ). b ∷ l) (terminated-open (c ∷ bs) f)
 
 pub terminated_text-bytes : (text : EditedText) → (terminated_text text).bytes ≡ terminated text.bytes
-terminated_text-bytes text = elim (cases_Bool (is_terminated text.bytes)) [
-  | inl t ↦ rw t (sym (terminated-is_terminated text.bytes t))
-  | inr f ↦ rw f (spliced-end text.bytes (10 ∷ []) ∙ sym (terminated-open text.bytes f))
-]
+terminated_text-bytes text = grind (arith, common_steps, cases_Bool, terminated-is_terminated, spliced-end, terminated-open)
 
 -- headings that are held can follow where a part of their text was replaced
 pub follows : (heads : Option (List Heading)) (before after : List ℕ) (at removed added : ℕ) → AreHeadsOf before heads → length before < 2 ^ 64
     → IsReplaced at removed added before after → terminated after ≡ after → IfSome heads (λ hs. IsEdit hs after at removed added)
 follows None before after at removed added are small is stays = tt
-follows (Some hs) before after at removed added are small is stays = record {
-  before = before;
-  headings_are = are.1;
-  before_terminated = are.0;
-  after_terminated = stays;
-  before_small = small;
-  removed_in = is.removed_in;
-  added_in = is.added_in;
-  front = is.front;
-  back = is.back;
-}
+follows (Some hs) before after at removed added are small is stays = grind (arith, common_steps)

@@ -1,5 +1,6 @@
 -- Look-ups among held texts, of which one is changed, or one more is held.
 use Rattle.std.proofs.Common.{◌≡◌, inl, inr, ℕ, zero, suc, ◌<◌, true, false, nat_lt, List, [], ◌∷◌, ◌++◌, length, get_or, Option, Some, None, refl, sym, ◌∙◌, ap, subst, arith}
+use Rattle.std.proofs.lemmas.Grind.{common_steps}
 use Rattle.std.specs.Prelude.{IsSomeAnd, slice_get}
 use Rattle.std.specs.List.{IsDistinct, list_any, position, position_or_len}
 use Rattle.std.specs.Map.{keys_of, lookup, values_of}
@@ -22,10 +23,7 @@ use Rattle.org_texts.specs.Texts.{TextSet, bytes_or, terminated_in, held_over, s
 use Rattle.org_texts.proofs.Heads.{terminated_text-bytes}
 
 pub not_equal : (a b : List ℕ) → (a ≡ b → ⊥) → bytes_eq a b ≡ false
-not_equal a b apart = elim (cases_Bool (bytes_eq a b)) [
-  | inl t ↦ absurd (apart ((bytes_eq-Decides a b).0 t))
-  | inr f ↦ f
-]
+not_equal a b apart = grind (arith, common_steps, cases_Bool, bytes_eq-Decides)
 
 -- a name that stands at a place of distinct ones stands nowhere before
 pub first_place : (names : List (List ℕ)) (i : ℕ) (name : List ℕ) → IsDistinct bytes_eq names → slice_get names i ≡ Some name → position (bytes_eq name) names ≡ Some i
@@ -54,10 +52,7 @@ is_there [] i name at = absurd (cc)
 is_there (one ∷ names) zero name at =
     let same : name ≡ one = cc in
     rw ((bytes_eq-Decides name one).1 same) refl
-is_there (one ∷ names) (suc i) name at = elim (cases_Bool (bytes_eq name one)) [
-  | inl t ↦ rw t refl
-  | inr f ↦ let later = is_there names i name at in rw f later
-]
+is_there (one ∷ names) (suc i) name at = grind (arith, common_steps, is_there names i name at)
 
 pub not_there : {X : Type 0} (o : Option X) → is_some o ≡ false → o ≡ None
 not_there None is = refl
@@ -66,10 +61,7 @@ not_there (Some x) is = absurd (cc)
 -- the value of the changed name, and that of another
 pub change_this : {X : Type 0} (name : List ℕ) (f : X → X) (es : List (List ℕ × X)) → lookup (bytes_eq name) (with_change name f es) ≡ option_map f (lookup (bytes_eq name) es)
 change_this name f [] = refl
-change_this name f (e ∷ es) = elim (cases_Bool (bytes_eq name e.0)) [
-  | inl t ↦ rw t (rw t refl)
-  | inr n ↦ let rest = change_this name f es in rw n (rw n rest)
-]
+change_this name f (e ∷ es) = grind (arith, common_steps, change_this name f es)
 
 pub change_other : {X : Type 0} (name other : List ℕ) (f : X → X) (es : List (List ℕ × X)) → (name ≡ other → ⊥) → lookup (bytes_eq other) (with_change name f es) ≡ lookup (bytes_eq other) es
 change_other name other f [] apart = refl
@@ -87,10 +79,7 @@ change_other name other f (e ∷ es) apart = elim (cases_Bool (bytes_eq name e.0
 
 pub change_names : {X : Type 0} (name : List ℕ) (f : X → X) (es : List (List ℕ × X)) → keys_of (with_change name f es) ≡ keys_of es
 change_names name f [] = refl
-change_names name f (e ∷ es) = elim (cases_Bool (bytes_eq name e.0)) [
-  | inl t ↦ rw t refl
-  | inr n ↦ rw n (ap (λ (l : List (List ℕ)). e.0 ∷ l) (change_names name f es))
-]
+change_names name f (e ∷ es) = grind (arith, common_steps, change_names name f es)
 
 -- a value of which something holds
 pub the_value : {X : Type 0} (P : X → Type 0) (o : Option X) → IsSomeAnd o P → (x : X) × (o ≡ Some x) × P x

@@ -1,5 +1,6 @@
 -- The texts of names, and names that are held.
-use Rattle.std.proofs.Common.{◌≡◌, inl, inr, ℕ, zero, suc, ◌≤◌, Bool, true, false, List, [], ◌∷◌, ◌++◌, length, Option, Some, None, refl, sym, ◌∙◌, ap, subst, arith, map, take, length-append}
+use Rattle.std.proofs.Common.{◌≡◌, inl, inr, ℕ, zero, suc, ◌≤◌, Bool, true, false, List, [], ◌∷◌, ◌++◌, length, Option, Some, None, refl, sym, ◌∙◌, ap, subst, arith, map}
+use Rattle.std.proofs.lemmas.Grind.{common_steps}
 use Rattle.std.specs.Prelude.{slice_get, IsSomeAnd}
 use Rattle.std.specs.List.{list_any}
 use Rattle.std.specs.Map.{keys_of, lookup, values_of}
@@ -53,9 +54,7 @@ changed_at p change name es place old new is at made =
 -- the same texts, and the same names of dirty ones
 pub same_set : {texts other : List (List ℕ × EditedText)} {dirty names : List (List ℕ)} → texts ≡ other → dirty ≡ names
     → ◌≡◌ {A = TextSet} (record { texts = texts; dirty = dirty }) (record { texts = other; dirty = names })
-same_set {texts} {other} {dirty} {names} same kept =
-    let set : List (List ℕ × EditedText) → List (List ℕ) → TextSet = λ ts ns. record { texts = ts; dirty = ns } in
-    ap (λ (ts : List (List ℕ × EditedText)). set ts dirty) same ∙ ap (set other) kept
+same_set {texts} {other} {dirty} {names} same kept = grind (arith, common_steps)
 
 pub some_of : {X : Type 0} (P : X → Type 0) (o : Option X) → IsSomeAnd o P → IsSome o
 some_of P None is = absurd is
@@ -89,25 +88,8 @@ pub among_more : (all more names : List (List ℕ)) → AreAmong all names → A
 among_more all more [] among = tt
 among_more all more (name ∷ names) among = (any_more (bytes_eq name) all more among.0, among_more all more names among.1)
 
-among_push : (all names : List (List ℕ)) (name : List ℕ) → AreAmong all names → list_any (bytes_eq name) all ≡ true → AreAmong all (names ++ name ∷ [])
-among_push all [] name among is = (is, tt)
-among_push all (one ∷ names) name among is = (among.0, among_push all names name among.1 is)
-
 pub among_name : (all names : List (List ℕ)) (name : List ℕ) → AreAmong all names → list_any (bytes_eq name) all ≡ true → AreAmong all (with_name name names)
-among_name all names name among is = elim (cases_Bool (list_any (bytes_eq name) names)) [
-  | inl t ↦ rw t among
-  | inr f ↦ rw f (among_push all names name among is)
-]
-
--- the first of the names
-pub among_take : (all names : List (List ℕ)) (n : ℕ) → AreAmong all names → AreAmong all (take n names)
-among_take all names zero among = tt
-among_take all [] (suc n) among = tt
-among_take all (name ∷ names) (suc n) among = (among.0, among_take all names n among.1)
-
--- the same names
-pub among_same : (all old names before : List (List ℕ)) → all ≡ old → names ≡ before → AreAmong old before → AreAmong all names
-among_same all old names before same kept among = subst (λ (ns : List (List ℕ)). AreAmong all ns) (sym kept) (subst (λ (a : List (List ℕ)). AreAmong a before) (sym same) among)
+among_name all names name among is = grind (arith, common_steps)
 
 pub among_at : (all names : List (List ℕ)) (i : ℕ) (name : List ℕ) → AreAmong all names → slice_get names i ≡ Some name → list_any (bytes_eq name) all ≡ true
 among_at all [] i name among at = absurd (cc)
@@ -115,10 +97,7 @@ among_at all (one ∷ names) zero name among at = let same : one ≡ name = cc i
 among_at all (one ∷ names) (suc i) name among at = among_at all names i name among.1 at
 
 pub longer : (name : List ℕ) (names : List (List ℕ)) → length names ≤ length (with_name name names)
-longer name names = elim (cases_Bool (list_any (bytes_eq name) names)) [
-  | inl t ↦ rw t (omega arith)
-  | inr f ↦ rw f (omega (arith, length-append names (name ∷ [])))
-]
+longer name names = grind (arith, common_steps)
 
 pub on_disk_again : (es : List (List ℕ × HeldText)) → map (λ (e : List ℕ × EditedText). (e.0, settled e.1.bytes)) (map now_of es) ≡ map on_disk es
 on_disk_again [] = refl

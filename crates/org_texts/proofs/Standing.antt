@@ -1,5 +1,6 @@
 -- Held texts stay made of their files.
-use Rattle.std.proofs.Common.{◌≡◌, inl, inr, ℕ, ◌+◌, ◌≤◌, true, false, List, [], ◌∷◌, ◌++◌, length, Option, Some, None, refl, sym, ◌∙◌, ap, subst, arith}
+use Rattle.std.proofs.Common.{◌≡◌, inl, inr, ℕ, ◌+◌, ◌≤◌, true, false, List, [], ◌∷◌, ◌++◌, length, Option, Some, None, refl, sym, ◌∙◌, subst, arith}
+use Rattle.std.proofs.lemmas.Grind.{common_steps}
 use Rattle.std.specs.Prelude.{IsSomeAnd}
 use Rattle.std.specs.List.{list_any}
 use Rattle.std.specs.Map.{keys_of, lookup}
@@ -23,7 +24,7 @@ use Rattle.org_texts.specs.declared.plan.Plan.{Plan}
 use Rattle.org_texts.specs.Plan.{CanEdit, EditsLines, IsOfLines, IsPlan, LieIn, with_edits}
 use Rattle.org_texts.specs.Texts.{TextSet, terminated_in, settled_set, text_of, with_change, with_name, with_text}
 use Rattle.org_texts.proofs.Looking.{change_names, change_other, change_this, text_of-settled}
-use Rattle.org_texts.proofs.Names.{among_more, among_name, any_more, some_of}
+use Rattle.org_texts.proofs.Names.{among_more, among_name, some_of}
 
 -- a name that was marked waits, and those that waited still do
 pub marked : (name : List ℕ) (names : List (List ℕ)) → list_any (bytes_eq name) (with_name name names) ≡ true
@@ -40,15 +41,7 @@ marked name names = elim (cases_Bool (list_any (bytes_eq name) names)) [
     ]
 
 pub not_marked : (name other : List ℕ) (names : List (List ℕ)) → list_any (bytes_eq other) (with_name name names) ≡ false → list_any (bytes_eq other) names ≡ false
-not_marked name other names none = elim (cases_Bool (list_any (bytes_eq other) names)) [
-  | inl t ↦
-      let still : list_any (bytes_eq other) (with_name name names) ≡ true = elim (cases_Bool (list_any (bytes_eq name) names)) [
-        | inl there ↦ rw there t
-        | inr not ↦ rw not (any_more (bytes_eq other) names (name ∷ []) t)
-      ] in
-      absurd (cc)
-  | inr f ↦ f
-]
+not_marked name other names none = grind (arith, common_steps)
 
 -- edits of lines lie in their text
 pub lie_in : (es : List Edit) (old new : List ℕ) → AreEdits es old new → LieIn es old
@@ -133,28 +126,14 @@ StandOver-held own files set none stand = record {
 
     go : (es : List (List ℕ × EditedText)) (name : List ℕ) (text : EditedText) → (lookup (bytes_eq name) es ≡ Some text → IsTextOf (files name) (is_dirty set name) text)
         → lookup (bytes_eq name) (es ++ (own, settled (files own)) ∷ []) ≡ Some text → IsTextOf (files name) (is_dirty set name) text
-    go [] name text was at = elim (cases_Bool (bytes_eq name own)) [
-      | inl t ↦
-          let same : name ≡ own = (bytes_eq-Decides name own).0 t in
-          let here : Some (settled (files own)) ≡ Some text = rw t at at in
-          let is : settled (files own) ≡ text = cc in
-          subst (λ (n : List ℕ). IsTextOf (files n) (is_dirty set n) text) (sym same) (subst (IsTextOf (files own) (is_dirty set own)) is new)
-      | inr f ↦ let no : None ≡ Some text = rw f at at in absurd (cc)
-    ]
+    go [] name text was at = grind (arith, common_steps, cases_Bool, bytes_eq-Decides, settled)
     go (e ∷ es) name text was at = elim (cases_Bool (bytes_eq name e.0)) [
       | inl t ↦ was (rw t (rw t at at))
       | inr f ↦ go es name text (λ old. was (rw f old)) (rw f at at)
     ]
 
 pub StandOver-settled : (files : List ℕ → List ℕ) (set : TextSet) → ((name : List ℕ) (text : EditedText) → text_of set name ≡ Some text → files name ≡ text.bytes) → StandOver files (settled_set set)
-StandOver-settled files set written = record {
-  each = λ name text at.
-      let old = the_old (λ (t : EditedText). settled t.bytes) (text_of set name) text (sym (text_of-settled set name) ∙ at) in
-      let is : files name ≡ old.0.bytes = written name old.0 old.1 in
-      let new : IsTextOf (files name) false (settled (files name)) = record { edit = record { same = λ i below outside. refl }; ranges = record { apart = tt; few = omega arith }; same = λ none. refl } in
-      subst (IsTextOf (files name) false) (ap settled is ∙ sym old.2) new;
-  held = tt;
-}
+StandOver-settled files set written = grind (arith, common_steps, the_old, settled, text_of-settled)
 
 -- a text is terminated
 terminated_one : (file : List ℕ) (text : EditedText) → AreChanged (length text.bytes) text.changed → IsEditOf file text → IsEditOf file (terminated_text text) × AreChanged (length (terminated_text text).bytes) (terminated_text text).changed

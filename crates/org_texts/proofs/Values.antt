@@ -1,5 +1,6 @@
 -- Values by name, of which one is changed.
-use Rattle.std.proofs.Common.{◌≡◌, ◌≢◌, inl, inr, ℕ, zero, suc, ◌+◌, ◌<◌, ◌≤◌, true, false, List, [], ◌∷◌, ◌++◌, length, get_or, eqb, Some, refl, sym, ◌∙◌, ap, subst, arith, map, eq-eqb}
+use Rattle.std.proofs.Common.{◌≡◌, ◌≢◌, ℕ, zero, suc, ◌+◌, ◌<◌, ◌≤◌, true, false, List, [], ◌∷◌, ◌++◌, length, get_or, Some, refl, sym, ◌∙◌, ap, arith, map, eq-eqb}
+use Rattle.std.proofs.lemmas.Grind.{common_steps}
 use Rattle.std.specs.Prelude.{slice_get}
 use Rattle.std.specs.Map.{keys_of, values_of}
 use Rattle.std.specs.Str.{bytes_eq}
@@ -35,9 +36,7 @@ module _ {X : Type 0} where
   pub map_kept : {Y : Type 0} (p : X → Y) (es : List (List ℕ × X)) (i : ℕ) (old w : X) → slice_get (values_of es) i ≡ Some old → p w ≡ p old
       → map (valued p) (set_value_at es i w) ≡ map (valued p) es
   map_kept p [] i old w at is = refl
-  map_kept {Y = Y} p (e ∷ es) zero old w at is =
-      let same : e.1 ≡ old = cc in
-      ap (λ (y : Y). let pair : List ℕ × Y = (e.0, y) in pair ∷ map (valued p) es) (is ∙ ap p (sym same))
+  map_kept {Y = Y} p (e ∷ es) zero old w at is = grind (arith, common_steps)
   map_kept {Y = Y} p (e ∷ es) (suc i) old w at is = ap (λ (l : List (List ℕ × Y)). valued p e ∷ l) (map_kept p es i old w at is)
 
   -- the value of a name, at the name's place
@@ -45,9 +44,7 @@ module _ {X : Type 0} where
       → ((j : ℕ) → j < i → bytes_eq name (get_or (keys_of es) j d) ≡ false) → slice_get (values_of es) i ≡ Some old → p w ≡ f (p old)
       → map (valued p) (set_value_at es i w) ≡ with_change name f (map (valued p) es)
   map_changed p f name d [] i old w within here before at is = absurd (omega (arith, within))
-  map_changed {Y = Y} p f name d (e ∷ es) zero old w within here before at is =
-      let same : e.1 ≡ old = cc in
-      rw here (ap (λ (y : Y). let pair : List ℕ × Y = (e.0, y) in pair ∷ map (valued p) es) (is ∙ ap (λ (x : X). f (p x)) (sym same)))
+  map_changed {Y = Y} p f name d (e ∷ es) zero old w within here before at is = grind (arith, common_steps)
   map_changed {Y = Y} p f name d (e ∷ es) (suc i) old w within here before at is =
       let first : bytes_eq name e.0 ≡ false = before 0 (omega arith) in
       let rest = map_changed p f name d es i old w (omega (arith, within)) here (λ j less. before (suc j) (omega (arith, less))) at is in
@@ -67,24 +64,10 @@ pub record Copied {X Y : Type 0} (to from : X → Y) (es old : List (List ℕ ×
   pub names : keys_of es ≡ keys_of old
 
 module _ {X Y : Type 0} {to from : X → Y} where
-  pub copied_none : (es : List (List ℕ × X)) → Copied to from es es 0
-  copied_none es = record { so_far = λ k e below at. absurd (omega (arith, below)); from_same = refl; names = refl }
-
   -- .. the next one is copied
   pub copied_more : {es old : List (List ℕ × X)} {n : ℕ} {was now : X} → Copied to from es old n → slice_get (values_of es) n ≡ Some was → from now ≡ from was → to now ≡ from was
       → Copied to from (set_value_at es n now) old (n + 1)
-  copied_more {es} {old} {n} {was} {now} so_far at same copy = record {
-    so_far = λ k e below is. elim (cases_Bool (eqb k n)) [
-      | inl t ↦
-          let here : slice_get (set_value_at es n now) n ≡ Some e = ap (slice_get (set_value_at es n now)) (sym (eqb-true k n t)) ∙ is in
-          subst (λ (x : X). to x ≡ from x) (sym (this_value es n now e here)) (copy ∙ sym same)
-      | inr f ↦
-          let apart : k ≢ n = λ one. let both : true ≡ false = sym (eq-eqb k n one) ∙ f in absurd (cc) in
-          so_far.so_far k e (omega (arith, below, apart)) (sym (other_value es n k now apart) ∙ is)
-    ];
-    from_same = map_kept from es n was now at same ∙ so_far.from_same;
-    names = names_kept es n now ∙ so_far.names;
-  }
+  copied_more {es} {old} {n} {was} {now} so_far at same copy = grind (arith, common_steps, cases_Bool, eqb-true, this_value, eq-eqb, other_value, map_kept, names_kept)
 
   -- .. all are copied
   pub copied_all : {es old : List (List ℕ × X)} {n : ℕ} → Copied to from es old n → length old ≤ n → map (valued to) es ≡ map (valued from) old

@@ -11,7 +11,7 @@ use Rattle.org_capture.specs.Dates.{is_dated}
 use Rattle.org_capture.specs.declared.dates.DateKind.{DateKind}
 use Rattle.org_capture.proofs.DateTrees.{dated_level}
 use Rattle.org_capture.proofs.NoDigit.{not_dated}
-use Rattle.org_capture.proofs.Walk.{walk_start, walk_hit, walk_over, walk_on, walk_end}
+use Rattle.org_capture.proofs.Walk.{walk_start, walk_hit, walk_over, walk_on}
 use Rattle.org_capture.proofs.dates.first_dated.Goals as goal
 
 -- nodes of a level that don't begin with a digit fail
@@ -53,10 +53,3 @@ loop-index-preserved c =
     walk_on d up test c.span_below-first.result.1 c.loop-index.index c.next_with_digit-index-in-loop-index.result c.loop-index.invariant (omega (arith, c.next_with_digit-index-in-loop-index.ensures.from))
     c.next_with_digit-index-in-loop-index.ensures.within (sym tested ∙ c.if-is_dated.false)
     (plain_fail states d (level_below up d) _ _ _ c.args.kind c.args.key.now c.args.wanted c.level_below-level.ensures.value c.next_with_digit-index-in-loop-index.ensures.passed)
-
-pub returns-clause-value : goal.returns-clause-value
-returns-clause-value c =
-    let d : Document = tree c.args.outline.now.text in
-    let up : Option ℕ = c.args.parent.now in
-    let test : ℕ → Bool = λ i. is_dated c.args.outline.now.states (level_below up d) c.args.kind c.args.key.now c.args.wanted (node_at d i).node in
-    walk_end d up test c.span_below-first.result.1 c.loop-index.index c.loop-index.invariant c.loop-index-test.false

@@ -1,14 +1,9 @@
 use Rattle.std.proofs.Common.{sym, subst}
 use Rattle.org_commands.specs.declared.kind.Question.{Question}
-use Rattle.org_commands.specs.declared.kind.Question.TheVariants.{Time, Show}
+use Rattle.org_commands.specs.declared.kind.Question.TheVariants.{Show}
 use Rattle.org_commands.specs.Kinds.{asking}
 use Rattle.org_commands.specs.Questions.{AnswersQuestion}
 use Rattle.org_commands.proofs.commands.answer.Goals as goal
-
-pub returns-in-Time : goal.returns-in-Time
-returns-in-Time g c =
-    let answers : AnswersQuestion g.D.Disk c.args.states.now c.args.files.now (asking (Time c.in-Time.file c.in-Time.path)) c.time.result c.time.new.files = c.time.ensures in
-    subst (λ (question : Question). AnswersQuestion g.D.Disk c.args.states.now c.args.files.now (asking question) c.time.result c.time.new.files) (sym c.in-Time.is) answers
 
 pub returns-in-Show : goal.returns-in-Show
 returns-in-Show g c =

@@ -114,24 +114,3 @@ returns-in-Edit g c =
           subst (λ (change : Change). PlansOrStays s (outcome s (changing change)) c.map-in-Edit.result c.plan_edit.new.files.held new) (sym c.in-Edit.is) told;
       disk = some_reads c.plan_edit.result c.map-in-Edit.result c.map-in-Edit.ensures.cases planned.disk;
     }
-
-pub plan_edit-requires : goal.plan_edit-requires
-plan_edit-requires g c = record { between = c.requires.between }
-
-pub plan_archive-requires : goal.plan_archive-requires
-plan_archive-requires g c = record { between = c.requires.between }
-
-pub plan_capture-requires : goal.plan_capture-requires
-plan_capture-requires g c = record { between = c.requires.between }
-
-pub plan_clock_in-requires : goal.plan_clock_in-requires
-plan_clock_in-requires g c = record { between = c.requires.between }
-
-pub plan_clock_out-requires : goal.plan_clock_out-requires
-plan_clock_out-requires g c = record { between = c.requires.between }
-
-pub plan_refile-requires : goal.plan_refile-requires
-plan_refile-requires g c = record { between = c.requires.between }
-
-pub plan_todo-requires : goal.plan_todo-requires
-plan_todo-requires g c = record { between = c.requires.between }

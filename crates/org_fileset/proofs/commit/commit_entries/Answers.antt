@@ -1,7 +1,6 @@
-use Rattle.std.proofs.Common.{List, ℕ, Ok, sym, subst}
+use Rattle.std.proofs.Common.{Ok}
 use Rattle.org_disk.proofs.Accounting.{accounts_then, accounts_ok}
 use Rattle.org_journal.proofs.Accounted.{accounts_failed}
-use Rattle.org_journal.specs.Gate.{HasClosedGate}
 use Rattle.org_fileset.proofs.OpenGate.{on_ok_never}
 use Rattle.org_fileset.proofs.Commits.{WritesRecord, open_writes, opened_writes, still_can}
 use Rattle.org_fileset.proofs.Tried.{applicable_tried, gate_tried, writes_tried, commits_failed, commits_unwritten, commits_written, commits_err, commits_tried}
@@ -34,12 +33,6 @@ returns-in_err-try_all g c = record {
       c.from_residual.result c.from_residual.ensures.0;
   accounts = accounts_failed c.from_residual.ensures.0 c.in_err-try_all.ensures.accounts;
 }
-
-pub arm-requires : goal.arm-requires
-arm-requires g c tried =
-    let P : List ℕ → Type 0 = λ n. HasClosedGate (g.D.Disk.files c.try_all.new.disk n) in
-    subst P (sym c.requires.journal)
-    (gate_tried g.D.Disk c.args.entries.now c.args.disk.now c.try_all.new.disk (c.in_ok-try_all.ensures.tries tried).ok (c.requires.gate (c.try_all.ensures.accounts.was_honest tried)))
 
 pub returns-in_err-arm : goal.returns-in_err-arm
 returns-in_err-arm g c = record {

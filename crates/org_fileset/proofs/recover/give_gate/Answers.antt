@@ -1,7 +1,5 @@
 use Rattle.std.proofs.Common.{◌≡◌, ◌≤◌, ◌<◌, ℕ, List, length, Ok, sym, subst, arith}
-use Rattle.org_disk.proofs.Accounting.{accounts_then, accounts_call, accounts_call_ok}
 use Rattle.org_journal.specs.Gate.{front_size}
-use Rattle.org_journal.proofs.Accounted.{accounts_failed, accounts_fine_test}
 use Rattle.org_fileset.proofs.OpenGate.{on_ok_never}
 use Rattle.org_fileset.proofs.Reopening.{gate_stays, gate_given}
 use Rattle.org_fileset.proofs.recover.give_gate.Goals as goal
@@ -34,12 +32,3 @@ returns-clause-reopens g c ended =
     let long = subst (λ (n : List ℕ). front_size ≤ length (d.files old n).content) c.requires.journal (omega (arith, asked, c.if-branch-lt-FRONT.false)) in
     gate_stays d old (λ image left. g.met.D.Disk.only_now old image honest left) (λ name. g.met.D.Disk.content_is_image old name honest) c.length.new.self (Ok tt)
     (c.requires.stable honest) (c.requires.closed honest) (c.length.ensures.looks ended) long
-
-pub returns-in_err-length-clause-accounts : goal.returns-in_err-length-clause-accounts
-returns-in_err-length-clause-accounts g c = accounts_failed c.from_residual.ensures.0 (accounts_call _ c.in_err-length.ensures.accounts)
-
-pub returns-then-branch-lt-FRONT-clause-accounts : goal.returns-then-branch-lt-FRONT-clause-accounts
-returns-then-branch-lt-FRONT-clause-accounts g c = accounts_then (accounts_call_ok c.in_ok-length.ensures.accounts) c.prepare.ensures.accounts
-
-pub returns-clause-accounts : goal.returns-clause-accounts
-returns-clause-accounts g c = accounts_fine_test (accounts_call_ok c.in_ok-length.ensures.accounts)

@@ -1,12 +1,9 @@
 use Rattle.std.proofs.Common.{Result, subst}
 use Rattle.org_disk.specs.Names.{journal_name}
-use Rattle.org_disk.proofs.Accounting.{accounts_then, accounts_call, accounts_call_ok}
-use Rattle.org_journal.proofs.Accounted.{accounts_told}
 use Rattle.org_journal.specs.declared.fault.FindFault.{FindFault}
 use Rattle.org_journal.specs.declared.finding.Found.{Found}
 use Rattle.org_journal.specs.Finding.{Finds}
 use Rattle.org_journal.specs.Recovered.{contents}
-use Rattle.org_fileset.proofs.Sizes.{found_device}
 use Rattle.org_fileset.proofs.Reopening.{found_in, bad_in, found_by, looked_sync, looked_on}
 use Rattle.org_fileset.proofs.recover.look.Goals as goal
 
@@ -34,20 +31,8 @@ returns-clause-found g c =
     found_by c.find.result (contents (files c.sync.new.self)) c.find.ensures.found
     (λ ended. found_in c.args.journal.now (files c.args.disk.now) (files c.sync.new.self) (files c.find.new.disk) c.requires (c.in_ok-sync.ensures.effect (was ended)) (c.find.ensures.looks ended).same)
 
-pub returns-in_err-sync-clause-bad : goal.returns-in_err-sync-clause-bad
-returns-in_err-sync-clause-bad g c bad = absurd (found_device c.from_residual.ensures.1 bad)
-
 pub returns-clause-bad : goal.returns-clause-bad
 returns-clause-bad g c bad ended =
     let files = g.D.Disk.files in
     bad_in c.args.journal.now (files c.args.disk.now) (files c.sync.new.self) (files c.find.new.disk) c.requires (c.in_ok-sync.ensures.effect (c.find.ensures.accounts.was_honest ended))
     (c.find.ensures.looks ended).same (subst (λ (r : Result Found FindFault). Finds (contents (files c.sync.new.self)) r) bad (c.find.ensures.found ended))
-
-pub returns-in_err-sync-clause-accounts : goal.returns-in_err-sync-clause-accounts
-returns-in_err-sync-clause-accounts g c = accounts_told c.from_residual.ensures.1 (accounts_call _ c.in_err-sync.ensures.accounts)
-
-pub returns-clause-accounts : goal.returns-clause-accounts
-returns-clause-accounts g c = accounts_then (accounts_call_ok c.in_ok-sync.ensures.accounts) c.find.ensures.accounts
-
-pub returns-clause-writable : goal.returns-clause-writable
-returns-clause-writable g c = c.find.ensures.writable

@@ -1,4 +1,3 @@
-use Rattle.std.proofs.Common.{arith}
 use Rattle.org_headings.specs.Headings.{moved, CanMove}
 use Rattle.org_headings.proofs.Edits.{moving}
 use Rattle.org_headings.proofs.heads.move_by.Goals as goal
@@ -6,6 +5,3 @@ use Rattle.org_headings.proofs.heads.move_by.Goals as goal
 pub loop-heading-preserved : goal.loop-heading-preserved
 loop-heading-preserved c =
     moving (moved c.args.removed c.args.added) (λ h. CanMove c.args.removed c.args.added h) _ _ _ _ c.loop-heading.invariant c.loop-heading-test.true
-
-pub bounds-headings-heading-index : goal.bounds-headings-heading-index
-bounds-headings-heading-index c = omega arith

@@ -3,7 +3,7 @@ use Rattle.std.specs.Prelude.{OnOk, OnErr, Result, Ok, Err}
 use Rattle.std.specs.Result.{is_err}
 use Rattle.std.proofs.lemmas.List.{take_at}
 use Rattle.std.specs.declared.alloc.AllocError.{AllocError}
-use Rattle.org_headings.proofs.HeadsFrom.{onto_none, onto_more, scanned_heading, scanned_other, scanned_all, run_room}
+use Rattle.org_headings.proofs.HeadsFrom.{onto_more, scanned_heading, scanned_other, scanned_all, run_room}
 use Rattle.org_headings.proofs.heads.scan.Goals as goal
 use Rattle.org_headings.proofs.heads.scan.Goals.{else-is_line_start-via-then-is_line_start+else-has_space, else-is_line_start-via-else-is_line_start}
 
@@ -15,9 +15,6 @@ ok_is (Err _) failed so is none = absurd cc
 err_is : {P : Type 0} (r : Result (Unit {0}) AllocError) (failed : Bool) → OnErr r P → failed ≡ is_err r → failed ≡ true → P
 err_is (Ok _) failed so is failing = absurd cc
 err_is (Err _) failed so is failing = so
-
-pub loop-skipped-init : goal.loop-skipped-init
-loop-skipped-init c = onto_none _ _ _
 
 pub overflow_add-from : goal.overflow_add-from
 overflow_add-from c =
@@ -53,9 +50,6 @@ pub returns-clause-ok : goal.returns-clause-ok
 returns-clause-ok c =
     let i = c.loop-skipped.invariant in
     i.behind ∙ ap (λ hs. c.args.headings.now.items ++ hs) (scanned_all _ _ _ _ _ i.scanned (record { first = c.memchr.ensures }) c.in_default.is)
-
-pub slice_bounds-memchr-count : goal.slice_bounds-memchr-count
-slice_bounds-memchr-count c = omega arith
 
 pub returns-then-is_err-clause-err : goal.returns-then-is_err-clause-err
 returns-then-is_err-clause-err c =

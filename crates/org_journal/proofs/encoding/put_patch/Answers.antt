@@ -1,7 +1,6 @@
 use Rattle.std.proofs.Common.{◌≡◌, ap, ◌∙◌, ◌++◌, List, ℕ, length, Result, Ok, Err, OnOk, is_ok, cond}
 use Rattle.byteorder.specs.Endian.{big_bytes}
 use Rattle.org_journal.proofs.Journal.{appended3}
-use Rattle.org_splice.proofs.Failing.{not_ok}
 use Rattle.org_journal.proofs.encoding.put_patch.Goals as goal
 
 written : {E : Type 0} (r : Result (Unit {0}) E) (old new bytes all : List ℕ) → (new ≡ old ++ bytes → new ≡ all) → new ≡ cond (is_ok r) (old ++ bytes) old → OnOk r (new ≡ all)
@@ -17,9 +16,3 @@ returns c =
     appended3 c.args.out.now.items c.put_u64.new.out.items before after (big_bytes 8 c.args.patch.now.from) (big_bytes 8 (length bytes)) bytes
     c.in_ok-put_u64.ensures (c.in_ok-put_u64-2.ensures ∙ ap (λ (n : ℕ). c.put_u64.new.out.items ++ big_bytes 8 n) c.len.ensures) (is ∙ ap (λ (x : List ℕ). before ++ x) c.as_slice.ensures))
     c.extend_from_slice.ensures.items
-
-pub returns-in_err-put_u64 : goal.returns-in_err-put_u64
-returns-in_err-put_u64 c = not_ok _ _ c.from_residual.ensures.0
-
-pub returns-in_err-put_u64-2 : goal.returns-in_err-put_u64-2
-returns-in_err-put_u64-2 c = not_ok _ _ c.from_residual-in_err-put_u64-2.ensures.0

@@ -1,8 +1,7 @@
-use Rattle.std.proofs.Common.{refl}
-use Rattle.org_disk.proofs.Accounting.{accounts_call, accounts_call_ok, accounts_then}
-use Rattle.org_disk.proofs.Moments.{passes_as, passes_then}
+use Rattle.org_disk.proofs.Accounting.{accounts_call}
+use Rattle.org_disk.proofs.Moments.{passes_as}
 use Rattle.org_journal.proofs.Accounted.{accounts_failed}
-use Rattle.org_journal.proofs.Gates.{behind_sync, behind_write, puts, puts_failed}
+use Rattle.org_journal.proofs.Gates.{behind_write, puts, puts_failed}
 use Rattle.org_journal.proofs.gate.arm.Goals as goal
 
 pub returns-in_err-write_at : goal.returns-in_err-write_at
@@ -13,22 +12,4 @@ returns-in_err-write_at g c = record {
   puts = λ ended.
       puts_failed c.args.journal.now _ (g.D.Disk.files c.args.disk.now) (g.D.Disk.files c.write_at.new.self) c.from_residual.result c.from_residual.ensures.0 (c.write_at.ensures.effect ended).others;
   accounts = accounts_failed c.from_residual.ensures.0 (accounts_call _ c.in_err-write_at.ensures.accounts);
-}
-
-pub returns : goal.returns
-returns g c = record {
-  any_moment = λ ended.
-      let at_sync = c.sync.ensures.accounts.was_honest ended in
-      let closed = c.requires (c.write_at.ensures.accounts.was_honest at_sync) in
-      let written = c.in_ok-write_at.ensures.effect at_sync in
-      let behind = passes_as (c.write_at.ensures.time at_sync)
-      (behind_write c.args.journal.now c.args.body.now (g.D.Disk.files c.args.disk.now) closed) in
-      passes_then behind (c.sync.ensures.time ended)
-      (behind_sync c.args.journal.now c.args.body.now (g.D.Disk.files c.args.disk.now) closed
-      (g.D.Disk.files c.write_at.new.self) written.ok written.others);
-  puts = λ ended.
-      let written = c.in_ok-write_at.ensures.effect (c.sync.ensures.accounts.was_honest ended) in
-      puts c.args.journal.now 1 c.args.body.now _ (g.D.Disk.files c.args.disk.now) (g.D.Disk.files c.write_at.new.self) (g.D.Disk.files c.sync.new.self) c.sync.result
-      refl written.ok written.others (c.sync.ensures.effect ended);
-  accounts = accounts_then (accounts_call_ok c.in_ok-write_at.ensures.accounts) (accounts_call _ c.sync.ensures.accounts);
 }

@@ -2,11 +2,8 @@ use Rattle.std.proofs.Common.{refl, rules}
 use Rattle.std.proofs.lemmas.Iterator.Consumers.{YieldsList-end, YieldsList-at}
 use Rattle.std.proofs.lemmas.Iterator.Splits.{YieldsList-from_slice_split}
 use Rattle.org_move.specs.Inherited.{is_colon}
-use Rattle.org_move.proofs.Joins.{tags_start, tags_more, tags_end}
+use Rattle.org_move.proofs.Joins.{tags_more, tags_end}
 use Rattle.org_move.proofs.inherited.push_tags.Goals as goal
-
-pub loop-tag-init : goal.loop-tag-init
-loop-tag-init c = tags_start _
 
 pub loop-tag-preserved : goal.loop-tag-preserved
 loop-tag-preserved c = tags_more c.args.found.now.items c.loop-tag.found.items _ c.loop-tag.yielded c.in-Some.tag c.loop-tag.invariant c.in_ok-push_tag.ensures

@@ -1,4 +1,4 @@
-use Rattle.org_move.proofs.Above.{climb_end, climb_next, climb_start}
+use Rattle.org_move.proofs.Above.{climb_next, climb_start}
 use Rattle.org_move.proofs.inherited.titles_and_tags.Goals as goal
 
 pub loop-next-init : goal.loop-next-init
@@ -12,9 +12,3 @@ loop-next-preserved c = record {
   titles = climb_next _ _ _ _ _ _ _ _ _ c.loop-next.invariant.titles c.in-Some.is c.parts-parts.ensures.title c.in_ok-push.ensures.items c.parent-next-in-Some.ensures.value c.parent-next-in-Some.ensures.within;
   tags = climb_next _ _ _ _ _ _ _ _ _ c.loop-next.invariant.tags c.in-Some.is c.parts-parts.ensures.tags c.in_ok-push-2.ensures.items c.parent-next-in-Some.ensures.value c.parent-next-in-Some.ensures.within;
 }
-
-pub returns-clause-titles : goal.returns-clause-titles
-returns-clause-titles c = climb_end _ _ _ _ _ _ c.loop-next.invariant.titles c.in_default.is c.reverse.ensures.items
-
-pub returns-clause-tags : goal.returns-clause-tags
-returns-clause-tags c = climb_end _ _ _ _ _ _ c.loop-next.invariant.tags c.in_default.is c.reverse-2.ensures.items

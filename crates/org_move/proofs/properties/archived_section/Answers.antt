@@ -37,6 +37,3 @@ returns-clause-lines c =
     IfOk-weaker c.with_properties.result (λ (new : Vec ℕ Global). parts_of new.items ≡ put_each (given c.properties.result) (parts_of section)) _
     (λ new is. section_made c.args.outline.now.states c.args.file.now c.args.now c.args.outline.now.text c.text.result.now c.args.node span section new.items _ c.text.ensures.value c.requires.node c.section-span.ensures refl listed is)
     c.with_properties.ensures.parts
-
-pub returns-clause-terminated : goal.returns-clause-terminated
-returns-clause-terminated c = c.with_properties.ensures.terminated

@@ -12,12 +12,6 @@ use Rattle.org_move.proofs.subtree.archived_subtree.Goals as goal
 section_is : (states : Keywords) (now : Moment) (d : Document) (i : ℕ) {made section name file : List ℕ} → made ≡ section → lines_of section ≡ archived_section states name now d i → name ≡ file → lines_of made ≡ archived_section states file now d i
 section_is states now d i same is named = ap lines_of same ∙ is ∙ ap (λ name. archived_section states name now d i) named
 
-pub archived_section-requires-clause-file : goal.archived_section-requires-clause-file
-archived_section-requires-clause-file c = rw (c.as_bytes-file.ensures.value, c.as_str.ensures.value) c.as_str.ensures.valid
-
-pub with_section-requires-clause-terminated : goal.with_section-requires-clause-terminated
-with_section-requires-clause-terminated c = rw c.deref.ensures.value c.in_ok-section.ensures.terminated
-
 pub returns-clause-printed : goal.returns-clause-printed
 returns-clause-printed c =
     let states = c.args.outline.now.states in

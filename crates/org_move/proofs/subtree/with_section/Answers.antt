@@ -15,9 +15,6 @@ returns-clause-value c =
     c.subtree-subtree.ensures c.section-old.ensures c.requires.terminated refl refl is)
     c.between.ensures
 
-pub returns-clause-terminated : goal.returns-clause-terminated
-returns-clause-terminated c = IfOk-weaker c.between.result _ _ (λ made is. c.text-text.ensures.terminated) c.between.ensures
-
 pub slice_bounds-back-start : goal.slice_bounds-back-start
 slice_bounds-back-start c = section_ends c.args.outline.now.text c.args.node _ _ c.subtree-subtree.ensures c.section-old.ensures
 

@@ -1,10 +1,7 @@
 use Rattle.org_outline.specs.Tree.{tree}
-use Rattle.org_move.proofs.Targets.{walk_start, walk_found, walk_other, test_is}
+use Rattle.org_move.proofs.Targets.{walk_found, walk_other, test_is}
 use Rattle.org_move.proofs.target.target_heading.Goals as goal
 use Rattle.org_move.proofs.target.target_heading.Goals.{then-is_at+else-is_some, else-is_at}
-
-pub loop-index-init : goal.loop-index-init
-loop-index-init c = walk_start _ _ _
 
 pub loop-index-preserved : goal.loop-index-preserved
 loop-index-preserved c =

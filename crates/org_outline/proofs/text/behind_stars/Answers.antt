@@ -1,4 +1,3 @@
-use Rattle.std.proofs.Common.{inl, inr, sym, ◌∙◌}
 use Rattle.org_outline.proofs.Rests.{rest_found, rest_none, line_found, line_whole}
 use Rattle.org_outline.proofs.text.behind_stars.Goals as goal
 
@@ -8,16 +7,8 @@ returns-in-Some-clause-rest c = rest_found c.args.text.now _ _ _ _ _ _ c.split_a
 pub returns-in-Some-clause-line : goal.returns-in-Some-clause-line
 returns-in-Some-clause-line c = (line_found _ _ _ _ (record { first = c.memchr.ensures }) c.in-Some.is c.split_at-in-Some.ensures.front).0
 
-pub returns-in-Some-clause-front : goal.returns-in-Some-clause-front
-returns-in-Some-clause-front c =
-    let found = line_found _ _ _ _ (record { first = c.memchr.ensures }) c.in-Some.is c.split_at-in-Some.ensures.front in
-    inr (found.1.0, sym c.split_at.ensures.back ∙ found.1.1)
-
 pub returns-in-None-clause-rest : goal.returns-in-None-clause-rest
 returns-in-None-clause-rest c = λ rest more p split. absurd (rest_none c.args.text.now _ _ _ _ c.split_at.ensures.back (record { first = c.memchr.ensures }) c.in-None.is rest more p split)
 
 pub returns-in-None-clause-line : goal.returns-in-None-clause-line
 returns-in-None-clause-line c = line_whole _ _ (record { first = c.memchr.ensures }) c.in-None.is
-
-pub returns-in-None-clause-front : goal.returns-in-None-clause-front
-returns-in-None-clause-front c = inl (sym c.split_at.ensures.back)

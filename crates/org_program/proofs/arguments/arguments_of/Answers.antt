@@ -1,15 +1,7 @@
-use Rattle.std.proofs.Common.{◌≡◌, ◌∙◌, inl, inr, ap, ℕ, List, map, Bor}
+use Rattle.std.proofs.Common.{◌≡◌, ◌∙◌, ap, ℕ, List, map, Bor}
 use Rattle.org_program.specs.Words.{folder_in, new_in, only_in, todo_in, done_in}
-use Rattle.org_program.proofs.Causing.{passed_told}
 use Rattle.org_program.proofs.Words.{first_given, all_given, read_or}
 use Rattle.org_program.proofs.arguments.arguments_of.Goals as goal
-
-pub returns-in_err-group-clause-fault : goal.returns-in_err-group-clause-fault
-returns-in_err-group-clause-fault c =
-    passed_told _ _ c.from_residual.result c.from_residual.ensures.1 (elim c.in_err-group.ensures.fault [
-      | inl memory ↦ inl memory
-      | inr not ↦ inr (λ words rows taken. not words rows taken.1)
-    ])
 
 pub returns-clause-said : goal.returns-clause-said
 returns-clause-said c words rows none =

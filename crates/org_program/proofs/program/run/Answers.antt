@@ -6,9 +6,6 @@ use Rattle.org_program.proofs.Words.{group_is_given}
 use Rattle.org_program.specs.Runs.{IsSetUp, LocksFirst}
 use Rattle.org_program.proofs.program.run.Goals as goal
 
-pub serve_synced-disk-requires-clause-names : goal.serve_synced-disk-requires-clause-names
-serve_synced-disk-requires-clause-names g c = c.in-Ok.ensures.sets_up.0.openable
-
 pub serve_synced-disk-requires-clause-group : goal.serve_synced-disk-requires-clause-group
 serve_synced-disk-requires-clause-group g c =
     let said = c.in-Ok.ensures.words in

@@ -8,7 +8,7 @@ use Rattle.org_outline.specs.States.{Keywords, are_states}
 use Rattle.org_program.specs.Causes.{MayShare, NameAStore}
 use Rattle.org_program.specs.Runs.{ListsNames}
 use Rattle.org_program.specs.Lists.{names_in, states_in, states_of}
-use Rattle.org_program.proofs.Causing.{passed_told, of_names, of_states, of_lock, of_listing}
+use Rattle.org_program.proofs.Causing.{passed_told}
 use Rattle.org_program.proofs.Files.{shared}
 use Rattle.org_program.proofs.program.setup.Given.{Over}
 use Rattle.org_program.proofs.program.setup.Goals as goal
@@ -21,29 +21,6 @@ states g c = c.in_ok-states.ensures.states ∙ ap₂ states_of c.deref.ensures c
 -- .. and with the names they are a store's
 good : (g : Over) (c : In_ok-states g) → NameAStore c.args.arguments.now
 good g c = (c.in_ok-names.ensures.good, subst (λ (s : Keywords). IsTrue (are_states s)) (states g c) c.in_ok-states.ensures.accepted)
-
-pub returns-in_err-names-clause-cause : goal.returns-in_err-names-clause-cause
-returns-in_err-names-clause-cause g c =
-    passed_told _ _ c.from_residual.result c.from_residual.ensures.1 (of_names c.args.arguments.now _ c.in_err-names.ensures.cause)
-
-pub returns-in_err-states-clause-cause : goal.returns-in_err-states-clause-cause
-returns-in_err-states-clause-cause g c =
-    passed_told _ _ c.from_residual-in_err-states.result c.from_residual-in_err-states.ensures.1
-    (of_states c.args.arguments.now _ _ c.in_ok-names.ensures.good (ap₂ states_of c.deref.ensures c.deref-2.ensures) c.in_err-states.ensures.cause)
-
-pub returns-in_err-lock-clause-cause : goal.returns-in_err-lock-clause-cause
-returns-in_err-lock-clause-cause g c =
-    passed_told _ _ c.from_residual-in_err-lock.result c.from_residual-in_err-lock.ensures.1
-    (of_lock c.args.arguments.now _ (good g (goal.at.returns-in_err-lock-clause-cause g c).In_ok-states))
-
-pub returns-in_err-listed_names-clause-cause : goal.returns-in_err-listed_names-clause-cause
-returns-in_err-listed_names-clause-cause g c =
-    passed_told _ _ c.from_residual-in_err-listed_names.result c.from_residual-in_err-listed_names.ensures.1
-    (of_listing c.args.arguments.now _ (good g (goal.at.returns-in_err-listed_names-clause-cause g c).In_ok-states))
-
-pub returns-in_err-append-clause-cause : goal.returns-in_err-append-clause-cause
-returns-in_err-append-clause-cause g c =
-    passed_told _ _ c.from_residual-in_err-append.result c.from_residual-in_err-append.ensures.1 tt
 
 pub check_files-requires : goal.check_files-requires
 check_files-requires g c =

@@ -1,9 +1,6 @@
-use Rattle.std.proofs.Common.{◌≡◌, ◌∙◌, ◌∷◌, List, ap, inr, string_bytes, subst}
+use Rattle.std.proofs.Common.{inr}
 use Rattle.std.proofs.lemmas.Result.{err_from_is_err_and}
-use Rattle.org_folder.specs.Calls.{Event}
-use Rattle.org_folder.specs.Calls.Event.{Filled}
 use Rattle.org_folder.proofs.Looked.{looks_on, one_look}
-use Rattle.org_program.specs.Runs.{IsSetUp}
 use Rattle.org_program.proofs.program.start.Goals as goal
 
 pub returns-in_err-setup-clause-looks : goal.returns-in_err-setup-clause-looks
@@ -20,9 +17,3 @@ returns-in_err-setup-clause-fault g c =
 
 pub returns-clause-looks : goal.returns-clause-looks
 returns-clause-looks g c = looks_on _ _ _ (one_look _ _ _ tt c.in_ok-fill_streams.ensures.ok) c.setup.ensures.looks
-
-pub returns-clause-sets_up : goal.returns-clause-sets_up
-returns-clause-sets_up g c =
-    let old = g.S.System.history c.args.system.now in
-    let filled : g.S.System.history c.fill_streams.new.self ≡ Filled (string_bytes c.in_ok-arguments.arguments.folder) ∷ old = c.in_ok-fill_streams.ensures.ok ∙ ap (λ path. Filled path ∷ old) c.deref.ensures in
-    (subst (λ (calls : List Event). IsSetUp c.in_ok-arguments.arguments c.in_ok-setup.setup calls (g.S.System.history c.setup.new.system)) filled c.in_ok-setup.ensures.sets_up.0, c.in_ok-setup.ensures.sets_up.1)

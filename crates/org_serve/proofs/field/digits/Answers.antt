@@ -30,9 +30,6 @@ more n b = 10 * n + (b - 48)
 abbrev if_all : Bool → Bool → Bool → ℕ → Option ℕ
 if_all some few digits n = if some && few && digits then Some n else None
 
-empty_none : (few digits : Bool) (n : ℕ) → None ≡ if_all false few digits n
-empty_none few digits n = refl
-
 long_none : (some digits : Bool) (n : ℕ) → None ≡ if_all some false digits n
 long_none true digits n = refl
 long_none false digits n = refl

@@ -1,22 +1,10 @@
-use Rattle.std.proofs.Common.{rules, ◌≤◌, Ok, IsErr, length, refl, sym, subst, ◌∙◌, arith}
+use Rattle.std.proofs.Common.{rules, ◌≤◌, Ok, IsErr, length, sym, subst, ◌∙◌, arith}
 use Rattle.std.specs.List.{Contains}
-use Rattle.org_disk.specs.Disk.{AreImages}
-use Rattle.org_disk.proofs.Accounting.{accounts_none, accounts_then, accounts_call_ok}
-use Rattle.org_disk.proofs.Moments.{passes_none, passes_then, leaves_only}
-use Rattle.org_fileset.proofs.Elements.{no_member}
+use Rattle.org_disk.proofs.Accounting.{accounts_then, accounts_call_ok}
+use Rattle.org_disk.proofs.Moments.{passes_then, leaves_only}
 use Rattle.org_fileset.proofs.Recovering.{sync_left, sync_after}
 use Rattle.org_serve.proofs.Syncs.{all_synced, same_contents, stable_more, not_done, all_images}
 use Rattle.org_serve.proofs.syncing.sync_each.Goals as goal
-
-pub loop-name-init : goal.loop-name-init
-loop-name-init g c = record {
-  accounts = accounts_none g.D.Disk c.args.disk.now;
-  same = λ honest. refl;
-  stable = λ honest name there. absurd (no_member name there);
-  images = λ honest name bytes image. image;
-  others = λ honest name none. refl;
-  time = λ honest. passes_none (g.D.Disk.instant c.args.disk.now) (g.D.Disk.left_since c.args.disk.now) (AreImages (g.D.Disk.files c.args.disk.now));
-}
 
 pub loop-name-preserved : goal.loop-name-preserved
 loop-name-preserved g c =

@@ -113,15 +113,6 @@ returns-in-Err-clause-runs g c = record {
   accounts = search rules;
 }
 
-pub returns-in-Ok-clause-unserved : goal.returns-in-Ok-clause-unserved
-returns-in-Ok-clause-unserved g c = tt
-
-pub returns-in-Err-clause-unserved : goal.returns-in-Err-clause-unserved
-returns-in-Err-clause-unserved g c = (refl, refl)
-
-pub returns-in-Err-open-clause-unserved : goal.returns-in-Err-open-clause-unserved
-returns-in-Err-open-clause-unserved g c = (refl, refl)
-
 pub returns-in-Ok-clause-promises : goal.returns-in-Ok-clause-promises
 returns-in-Ok-clause-promises g c = promises _ _ _ _ _ _ _ (returns-in-Ok-clause-runs g c)
 

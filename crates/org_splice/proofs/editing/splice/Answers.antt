@@ -1,7 +1,8 @@
-use Rattle.std.proofs.Common.{◌≡◌, ◌∙◌, ◌+◌, ◌-◌, ◌≤◌, ◌^◌, List, length, sym, ap, subst, arith}
+use Rattle.std.proofs.Common.{◌≡◌, ◌∙◌, ◌+◌, ◌-◌, List, length, sym, ap, subst, arith}
+use Rattle.std.proofs.lemmas.Grind.{common_steps}
 use Rattle.org_splice.specs.declared.Span.{Span}
 use Rattle.org_splice.specs.Edits.{edited}
-use Rattle.org_splice.specs.Ranges.{AreChanged, changed_by}
+use Rattle.org_splice.specs.Ranges.{changed_by}
 use Rattle.org_splice.specs.Texts.{EditedText, IsEditOf, spliced}
 use Rattle.org_splice.specs.Versions.{text_of_parts}
 use Rattle.org_splice.proofs.Edited.{IsEditOf-spliced}
@@ -10,9 +11,7 @@ use Rattle.org_splice.proofs.Windows.{AreChanged-made, AreChanged-wider, changed
 use Rattle.org_splice.proofs.editing.splice.Goals as goal
 
 pub changed_by-requires-clause-changed : goal.changed_by-requires-clause-changed
-changed_by-requires-clause-changed c =
-    let small : length c.args.text.now.items ≤ 2 ^ 64 - 1 = omega (arith, c.args.text.now.ok.0, c.len.type_inv, c.len.ensures) in
-    subst (AreChanged (2 ^ 64 - 1)) (sym c.deref.ensures.value) (AreChanged-wider (length c.args.text.now.items) (2 ^ 64 - 1) c.args.changed.now.items small c.requires.changed)
+changed_by-requires-clause-changed c = grind (arith, common_steps, AreChanged-wider)
 
 pub put-requires-clause-new : goal.put-requires-clause-new
 put-requires-clause-new c =

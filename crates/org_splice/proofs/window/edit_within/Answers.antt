@@ -1,4 +1,5 @@
 use Rattle.std.proofs.Common.{◌≡◌, ◌∙◌, ◌+◌, ◌-◌, ◌≤◌, ◌^◌, ℕ, List, length, refl, sym, ap, subst, arith}
+use Rattle.std.proofs.lemmas.Grind.{common_steps}
 use Rattle.org_splice.specs.Edits.{edited}
 use Rattle.org_splice.specs.Ranges.{AreChanged, changed_by}
 use Rattle.org_splice.proofs.Edited.{length-spliced}
@@ -29,11 +30,7 @@ size_of c = length c.args.text.now - (c.args.part.end - c.args.part.start) + len
 
 ranges_are : (c : goal.After-drop-room) → c.replace-2.new.dest.items ≡ changed_by c.args.edit.now.at c.args.edit.now.removed (length c.args.edit.now.bytes) (size_of c) c.args.changed.now.items
 unfolding size_of
-ranges_are c =
-    let long : c.len-2.result ≡ length c.replace.new.text.items = omega (arith, c.len-2.ensures, c.replace.new.text.ok.0) in
-    let is : c.replace-2.new.dest.items ≡ c.in_ok-new_changed.new_changed.items = ap (λ v. v.items) c.replace-2.ensures.after in
-    let with = c.in_ok-new_changed.ensures ∙ ap (λ (n : ℕ). changed_by c.args.edit.now.at c.args.edit.now.removed c.len-added.result (length c.args.text.now - (c.args.part.end - c.args.part.start) + n) c.deref.result.now) long in
-    changed_with c.args.edit.now.at c.args.edit.now.removed c.len-added.result (size_of c) c.args.edit.now.bytes c.args.changed.now.items c.deref.result.now c.in_ok-new_changed.new_changed.items c.replace-2.new.dest.items is with c.len-added.ensures c.deref.ensures.value
+ranges_are c = grind (arith, common_steps, changed_by, changed_with)
 
 pub returns-clause-made : goal.returns-clause-made
 unfolding size_of

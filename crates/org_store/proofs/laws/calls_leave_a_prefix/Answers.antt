@@ -1,10 +1,6 @@
-use Rattle.std.proofs.Common.{refl, arith}
 use Rattle.org_store.proofs.Calls.{call_listed, calls_leave, calls_list}
 use Rattle.org_store.proofs.Listed.{calls_small, prefix_opens}
 use Rattle.org_store.proofs.laws.calls_leave_a_prefix.Goals as goal
-
-pub returns-clause-opened : goal.returns-clause-opened
-returns-clause-opened g c = λ states names texts. record { size = refl; order = omega arith; files = λ sound. refl; settled = λ sound. refl }
 
 pub returns-clause-goes_on : goal.returns-clause-goes_on
 returns-clause-goes_on g c = λ old new call made. call_listed g.D.Disk old new call made

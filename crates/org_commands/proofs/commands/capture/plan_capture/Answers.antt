@@ -34,11 +34,6 @@ returns-in_err-entry g c = record {
       only_reads_none c.requires.between.unbroken (other_fault c.from_residual-in_err-entry.result (fault_of why) Broken given (planned_own why).0) (other_fault c.from_residual-in_err-entry.result (fault_of why) Device given (planned_own why).1);
 }
 
-pub plan_entry-requires-clause-entry : goal.plan_entry-requires-clause-entry
-plan_entry-requires-clause-entry g c =
-    let made = c.in_ok-entry.ensures in
-    (made.0, made.2)
-
 pub returns : goal.returns
 returns g c = record {
   plan = c.plan_entry.ensures.plan;

@@ -3,8 +3,6 @@ use Rattle.org_texts.specs.Texts.{TextSet}
 use Rattle.org_commands.specs.Headings.{HasHeading}
 use Rattle.org_commands.specs.Session.{StoreView}
 use Rattle.org_commands.proofs.Clocks.{heading_before}
-use Rattle.org_commands.proofs.Faults.{no_value}
-use Rattle.org_commands.proofs.Handing.{handed_on}
 use Rattle.org_commands.proofs.LookingUp.{look_up_fails, look_up_finds, look_up_unread}
 use Rattle.org_commands.proofs.MadeReady.{one_is_ready, one_ready, sees_one}
 use Rattle.org_commands.proofs.Plans.{one_name}
@@ -14,9 +12,6 @@ use Rattle.org_commands.proofs.commands.clock.look_up_in.Goals as goal
 pub returns-in_err-ready-clause-finds : goal.returns-in_err-ready-clause-finds
 returns-in_err-ready-clause-finds g c tally honest = look_up_unread g.D.Disk c.args.states.now c.args.files.now c.ready.new.self tally _ c.from_residual.result c.from_residual.ensures.1 c.in_err-ready.was (c.ready.ensures.files.reads c.args.states.now tally honest)
 
-pub returns-in_err-ready-clause-heading : goal.returns-in_err-ready-clause-heading
-returns-in_err-ready-clause-heading g c = no_value _ c.from_residual.result _ (handed_on c.from_residual.result _ c.from_residual.ensures.1)
-
 pub held-requires : goal.held-requires
 held-requires g c = one_is_ready c.args.command.now.file c.requires.between c.in_ok-ready.ensures.ready
 
@@ -25,9 +20,6 @@ returns-in_err-node-clause-finds g c tally honest =
     let k = c.args.command.now in
     let sees = sees_one k.file c.requires.between g.D.Disk c.args.states.now c.ready.new.self c.requires.file c.in_ok-ready.ensures.ready c.ready.ensures.files.disk.names c.in_ok-ready.ensures.files.reads c.held.ensures.text in
     look_up_fails sees k.path tally honest c.from_residual-in_err-node.result c.from_residual-in_err-node.ensures.1 (sym c.heading_at.ensures.value ∙ c.in_err-node.was)
-
-pub returns-in_err-node-clause-heading : goal.returns-in_err-node-clause-heading
-returns-in_err-node-clause-heading g c = no_value _ c.from_residual-in_err-node.result _ (handed_on c.from_residual-in_err-node.result _ c.from_residual-in_err-node.ensures.1)
 
 pub returns-clause-finds : goal.returns-clause-finds
 returns-clause-finds g c tally honest =

@@ -26,9 +26,6 @@ returns-in_default g c = record {
   disk = only_reads_fine (λ no. cc) (λ no. cc) c.in_ok-clock.ensures.files.disk;
 }
 
-pub stop_running-requires-clause-file : goal.stop_running-requires-clause-file
-stop_running-requires-clause-file g c = (c.in_ok-clock.ensures.found c.in-Some.clock c.in-Some.is).1
-
 pub stop_running-requires-clause-runs : goal.stop_running-requires-clause-runs
 stop_running-requires-clause-runs g c = (c.in_ok-clock.ensures.found c.in-Some.clock c.in-Some.is).0
 

@@ -18,9 +18,6 @@ pub returns-in_err-load : goal.returns-in_err-load
 returns-in_err-load g c states =
     plans_no_read g.D.Disk states _ c.requires.between.unbroken c.load.new.self c.from_residual-in_err-load.result c.from_residual-in_err-load.ensures.1 c.in_err-load.ensures.files
 
-pub text-text-requires : goal.text-text-requires
-text-text-requires g c = c.in_ok-load.ensures.held
-
 pub returns-in_err-edit : goal.returns-in_err-edit
 returns-in_err-edit g c states =
     let k = c.args.command.now in

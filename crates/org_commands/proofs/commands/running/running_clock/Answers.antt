@@ -11,7 +11,7 @@ use Rattle.org_commands.specs.InOrder.{is_name, texts_of}
 use Rattle.org_commands.specs.Session.{Session, session_over}
 use Rattle.org_commands.proofs.Reading.{reads_files_fault, reads_files_memory, reads_files_ok, reads_files_then}
 use Rattle.org_commands.proofs.Running.{named_at, runs_here, runs_later, runs_over}
-use Rattle.org_commands.proofs.Faults.{no_value, whole_behind}
+use Rattle.org_commands.proofs.Faults.{whole_behind}
 use Rattle.org_commands.proofs.Handing.{handed_on}
 use Rattle.org_commands.proofs.commands.running.running_clock.Goals as goal
 
@@ -108,33 +108,3 @@ loop-index-preserved-then-is_clockless g c =
           let same : texts_of now old.names ≡ texts_of files old.names = ap (λ (ns : List (List ℕ)). texts_of now ns) (sym sofar.files.disk.names) ∙ ap (λ (s : Session). s.files) read in
           sym (runs_later files now old.names index file within at same (runs_over new.held.before (texts new.disk) file None runs)) ∙ sofar.passed h;
     }
-
-pub running_in_file-requires-clause-between : goal.running_in_file-requires-clause-between
-running_in_file-requires-clause-between g c = record { unbroken = c.loop-index.invariant.unbroken; unedited = c.loop-index.invariant.unedited }
-
-pub returns-clause-unedited : goal.returns-clause-unedited
-returns-clause-unedited g c = c.loop-index.invariant.unedited
-
-pub returns-clause-files : goal.returns-clause-files
-returns-clause-files g c = reads_files_ok c.loop-index.invariant.files
-
-pub returns-in-Some-clause-unedited : goal.returns-in-Some-clause-unedited
-returns-in-Some-clause-unedited g c = c.in_ok-running.ensures.unedited
-
-pub returns-in_err-file-clause-unedited : goal.returns-in_err-file-clause-unedited
-returns-in_err-file-clause-unedited g c = no_value _ c.from_residual.result _ (handed_on c.from_residual.result _ c.from_residual.ensures.1)
-
-pub returns-in_err-file-clause-clock : goal.returns-in_err-file-clause-clock
-returns-in_err-file-clause-clock g c tally honest = no_value _ c.from_residual.result _ (handed_on c.from_residual.result _ c.from_residual.ensures.1)
-
-pub returns-in_err-file-clause-found : goal.returns-in_err-file-clause-found
-returns-in_err-file-clause-found g c = no_value _ c.from_residual.result _ (handed_on c.from_residual.result _ c.from_residual.ensures.1)
-
-pub returns-in_err-running-clause-unedited : goal.returns-in_err-running-clause-unedited
-returns-in_err-running-clause-unedited g c = no_value _ c.from_residual-in_err-running.result _ (handed_on c.from_residual-in_err-running.result _ c.from_residual-in_err-running.ensures.1)
-
-pub returns-in_err-running-clause-clock : goal.returns-in_err-running-clause-clock
-returns-in_err-running-clause-clock g c tally honest = no_value _ c.from_residual-in_err-running.result _ (handed_on c.from_residual-in_err-running.result _ c.from_residual-in_err-running.ensures.1)
-
-pub returns-in_err-running-clause-found : goal.returns-in_err-running-clause-found
-returns-in_err-running-clause-found g c = no_value _ c.from_residual-in_err-running.result _ (handed_on c.from_residual-in_err-running.result _ c.from_residual-in_err-running.ensures.1)

@@ -45,16 +45,6 @@ note-requires-clause-now g c =
     let clocks = subst (IsSearched has_clock c.search-found.result.1) c.outline_of.ensures.0 c.search-found.ensures.searched in
     known_ready held c.undo.new.self.held.now file seen (record { clocks = c.search-found.result.1; archive_lines = c.searched-before.result.archive_lines }) ready c.held.ensures.text c.undo.ensures.now (record { clocks = clocks; archive_lines = was.archive_lines })
 
-pub search-found-requires : goal.search-found-requires
-search-found-requires g c =
-    let held = c.ready.new.self.held in
-    let file = c.args.file.now in
-    let seen = c.held.result.now.text in
-    let ready : AreReady (file ∷ []) held = c.in_ok-ready.ensures.ready [] (none_ready c.args.files.now.held c.requires.between.unedited) in
-    let ended = ends_ready (file ∷ []) held file ready (one_name file) seen c.held.ensures.text in
-    let was = subst (AreSearched c.searched-before.result) ended (c.searched-before.ensures seen c.held.ensures.text) in
-    subst (IsSearched has_clock c.searched-before.result.clocks) (sym c.outline_of.ensures.0) was.clocks
-
 pub returns-clause-runs : goal.returns-clause-runs
 returns-clause-runs g c =
     let held = c.ready.new.self.held in

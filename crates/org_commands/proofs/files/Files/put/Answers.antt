@@ -1,15 +1,10 @@
-use Rattle.std.proofs.Common.{◌≡◌, ◌∙◌, false, true, Result, Ok, Err, refl, sym, ap, subst}
+use Rattle.std.proofs.Common.{◌≡◌, ◌∙◌, false, Ok, sym, ap, subst}
 use Rattle.std.specs.Option.{ForSome, IsSome}
 use Rattle.org_journal.specs.Recovered.{contents}
-use Rattle.std.specs.Prelude.{IsTrue}
-use Rattle.org_texts.specs.Plan.{IsOfLines, IsPlan}
+use Rattle.org_texts.specs.Plan.{IsPlan}
 use Rattle.org_texts.specs.Texts.{Holding, TextSet, text_of}
-use Rattle.org_commands.specs.declared.command.RunFault.{RunFault}
-use Rattle.org_commands.specs.declared.command.RunFault.TheVariants.{Refused, OutOfMemory}
-use Rattle.org_fault.specs.declared.refusal.Refusal.TheVariants.{TooLarge}
 use Rattle.org_commands.specs.Files.{AreSmallToWrite, AreTouched, OpenFiles, PutsPlan, files_of, has_large, new_texts, texts_in}
 use Rattle.org_commands.proofs.Held.{first_held, second_held, small_put, sound_put, sound_undone}
-use Rattle.org_commands.proofs.Handing.{handed_on}
 use Rattle.org_commands.proofs.Noted.{noted_not_put, noted_put, noted_undone}
 use Rattle.org_commands.proofs.files.Files.put.Goals as goal
 
@@ -49,17 +44,6 @@ returns-clause-puts g c =
     let same : inside.texts ≡ c.args.self.now.held = ap (λ (f : OpenFiles g.row.D.Denot). f.held) c.self.view_is in
     subst (λ (h : Holding). PutsPlan plan h (Ok tt) c.apply.new.self) same (small, now, subst AreSmallToWrite (sym now) (small_put plan inside.texts touched c.self.invariant.0.small small))
 
-pub returns-then-is_large-clause-puts : goal.returns-then-is_large-clause-puts
-returns-then-is_large-clause-puts g c =
-    let inside = c.self.inside in
-    let plan = c.args.plan.now in
-    let now = c.in_ok-apply.ensures.now in
-    let test : c.is_large.result ≡ has_large (texts_in c.apply.new.self.now (files_of plan)) = c.is_large.ensures in
-    let large : has_large (new_texts plan inside.texts.now) ≡ true =
-    subst (λ (set : TextSet). has_large (texts_in set (files_of plan)) ≡ true) now (sym test ∙ c.if-is_large.true) in
-    let same : inside.texts ≡ c.args.self.now.held = ap (λ (f : OpenFiles g.row.D.Denot). f.held) c.self.view_is in
-    subst (λ (h : Holding). PutsPlan plan h (Err (Refused TooLarge)) c.undo.new.self) same (large, c.undo.ensures.now ∙ c.in_ok-apply.ensures.before)
-
 pub invariant_of-self-then-is_large : goal.invariant_of-self-then-is_large
 invariant_of-self-then-is_large g c =
     let inside = c.self.inside in
@@ -75,38 +59,6 @@ invariant_of-self-then-is_large g c =
       noted_undone inside.set.names c.lower_plan.new.self c.apply.new.self c.undo.new.self c.undo.ensures.now c.undo.ensures.before
           (noted_put plan inside.set.names c.names.result.now inside.notes c.lower_plan.new.self inside.texts c.apply.new.self named now before c.lower_plan.ensures.stays c.lower_plan.ensures.follows c.self.invariant.1),
     )
-
-pub apply-requires : goal.apply-requires
-apply-requires g c = let is : IsPlan c.args.plan.now c.self.inside.texts.now = rw (← c.self.view_is) at c.requires.is in is
-
-pub returns-clause-memory : goal.returns-clause-memory
-returns-clause-memory g c = rw (← c.self.view_is) (record { disk = refl; names = refl; broken = refl })
-
-pub returns-then-is_large-clause-memory : goal.returns-then-is_large-clause-memory
-returns-then-is_large-clause-memory g c = rw (← c.self.view_is) (record { disk = refl; names = refl; broken = refl })
-
-pub returns-in_err-apply-clause-memory : goal.returns-in_err-apply-clause-memory
-returns-in_err-apply-clause-memory g c = rw (← c.self.view_is) (record { disk = refl; names = refl; broken = refl })
-
-pub returns-clause-before : goal.returns-clause-before
-returns-clause-before g c = rw (← c.self.view_is) c.in_ok-apply.ensures.before
-
-pub returns-then-is_large-clause-before : goal.returns-then-is_large-clause-before
-returns-then-is_large-clause-before g c = rw (← c.self.view_is) (c.undo.ensures.before ∙ c.in_ok-apply.ensures.before)
-
-pub returns-in_err-apply-clause-before : goal.returns-in_err-apply-clause-before
-returns-in_err-apply-clause-before g c = rw (← c.self.view_is) c.apply.ensures.before
-
-pub returns-in_err-apply-clause-puts : goal.returns-in_err-apply-clause-puts
-returns-in_err-apply-clause-puts g c =
-    let given : c.from_residual.result ≡ Err OutOfMemory = handed_on c.from_residual.result _ c.from_residual.ensures.1 in
-    rw (← c.self.view_is) (subst (λ (r : Result (Unit {0}) RunFault). PutsPlan c.args.plan.now c.self.inside.texts r c.apply.new.self) (sym given) c.in_err-apply.ensures.err)
-
-pub lower_plan-requires-clause-plan : goal.lower_plan-requires-clause-plan
-lower_plan-requires-clause-plan g c = let is : IsPlan c.args.plan.now c.self.inside.texts.now = rw (← c.self.view_is) at c.requires.is in is
-
-pub lower_plan-requires-clause-lines : goal.lower_plan-requires-clause-lines
-lower_plan-requires-clause-lines g c = let lines : IsTrue c.args.plan.now.of_lines → IsOfLines c.args.plan.now c.self.inside.texts.now = rw (← c.self.view_is) at c.requires.lines in lines
 
 pub invariant_of-self : goal.invariant_of-self
 invariant_of-self g c =

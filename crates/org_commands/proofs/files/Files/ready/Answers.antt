@@ -1,9 +1,6 @@
 use Rattle.org_commands.proofs.Handing.{handed_on}
-use Rattle.org_commands.proofs.Reading.{reads_files_fault, reads_files_memory, reads_files_undone}
+use Rattle.org_commands.proofs.Reading.{reads_files_memory, reads_files_undone}
 use Rattle.org_commands.proofs.files.Files.ready.Goals as goal
-
-pub returns-in_err-load-clause-files : goal.returns-in_err-load-clause-files
-returns-in_err-load-clause-files g c = reads_files_fault (handed_on c.from_residual.result _ c.from_residual.ensures.1) c.in_err-load.ensures.files
 
 pub returns-in_err-make_ready-clause-files : goal.returns-in_err-make_ready-clause-files
 returns-in_err-make_ready-clause-files g c =

@@ -1,12 +1,9 @@
 use Rattle.std.proofs.Common.{◌≡◌, ℕ, ◌+◌, ◌<◌, ◌≤◌, List, length, get_or, slice_get, Some, None, false, sym, ◌∙◌, ap, subst, arith}
 use Rattle.std.proofs.lemmas.Option.{get_or_from_slice_get, slice_get-get_or}
 use Rattle.std.specs.Str.{bytes_eq}
-use Rattle.org_commands.proofs.Noted.{LowersBelow, lowers_all, lowers_none, lowers_other, lowers_past, lowers_this, none_lowered}
+use Rattle.org_commands.proofs.Noted.{LowersBelow, lowers_all, lowers_other, lowers_past, lowers_this, none_lowered}
 use Rattle.org_commands.proofs.notes.Notes.forget.Goals as goal
 use Rattle.org_commands.proofs.notes.Notes.forget.Goals.{then-index-len+then-eq, else-index-len, else-index-len-via-then-index-len+else-eq, else-index-len-via-else-index-len}
-
-pub loop-index-init : goal.loop-index-init
-loop-index-init c size edits = lowers_none c.args.names.now c.args.file.now size edits c.self.inside.notes.items
 
 pub loop-index-preserved : goal.loop-index-preserved
 loop-index-preserved c size edits =

@@ -1,4 +1,4 @@
-use Rattle.std.proofs.Common.{◌≡◌, ℕ, List, [], Option, Some, Ok, Err, length, true≢false, refl, sym, ◌∙◌, ap, subst, arith}
+use Rattle.std.proofs.Common.{◌≡◌, ℕ, List, [], Option, Some, Ok, Err, length, refl, sym, ◌∙◌, ap, subst, arith}
 use Rattle.std.specs.Map.{keys_of}
 use Rattle.std.proofs.lemmas.List.{nil_from_length}
 use Rattle.org_splice.specs.Texts.{EditedText}
@@ -56,12 +56,6 @@ returns-then-len-eq0-clause-commits g c = record {
   set = rw (← c.self.view_is) (keeps_whole _ _ refl c.if-self.false c.if-self.false (Ok (tt {0})) (λ e. cc e) (λ e. cc e));
   accounts = accounts_answered (accounts_none _ _);
 }
-
-pub returns-then-self-clause-nothing : goal.returns-then-self-clause-nothing
-returns-then-self-clause-nothing g c = rw (← c.self.view_is) (λ none. (refl, λ whole. absurd (true≢false (sym c.if-self.true ∙ whole))))
-
-pub returns-then-len-eq0-clause-nothing : goal.returns-then-len-eq0-clause-nothing
-returns-then-len-eq0-clause-nothing g c none = (refl, λ whole. refl)
 
 pub returns-in_err-entries_of : goal.returns-in_err-entries_of
 returns-in_err-entries_of g c = record {
@@ -140,20 +134,3 @@ commit_entries-requires-clause-body g c =
     (some g (goal.at.commit_entries-requires-clause-body g c).Else-len-eq0) c.self.invariant.each c.self.invariant.few named c.requires.small in
     subst (λ (l : List Entry). BeginsWith c.deref.result.now l) (sym record_is)
     (written_begins c.deref.result.now entries formed (c.deref.ensures.value ∙ c.in_ok-body.ensures.bytes ∙ ap (λ (l : List Entry). journal_bytes Two l) c.new-record.ensures))
-
-pub commit_entries-requires-clause-journal : goal.commit_entries-requires-clause-journal
-commit_entries-requires-clause-journal g c = c.self.invariant.journal_is
-
-pub commit_entries-requires-clause-gate : goal.commit_entries-requires-clause-gate
-commit_entries-requires-clause-gate g c =
-    c.self.invariant.gate c.if-self.false
-
-pub invariant_of-self : goal.invariant_of-self
-invariant_of-self g c =
-    let s = c.self.invariant in
-    record { journal_is = s.journal_is; each = s.each; few = s.few; gate = λ fine honest. (c.in-Ok.ensures.commits honest).closed.gate }
-
-pub invariant_of-self-in-Err : goal.invariant_of-self-in-Err
-invariant_of-self-in-Err g c =
-    let s = c.self.invariant in
-    record { journal_is = s.journal_is; each = s.each; few = s.few; gate = λ fine. absurd (true≢false fine) }

@@ -15,15 +15,6 @@ use Rattle.org_fileset.proofs.Starting.{since_start}
 use Rattle.org_fileset.proofs.Recovering.{as_before}
 use Rattle.org_fileset.proofs.set.FileSet.open.Goals as goal
 
-pub returns-in-Err-clause-opened : goal.returns-in-Err-clause-opened
-returns-in-Err-clause-opened g c = tt
-
-pub returns-in-Err-make_ready-clause-opened : goal.returns-in-Err-make_ready-clause-opened
-returns-in-Err-make_ready-clause-opened g c = tt
-
-pub returns-in-Ok-make_ready-clause-opened : goal.returns-in-Ok-make_ready-clause-opened
-returns-in-Ok-make_ready-clause-opened g c = (refl, record { few = c.in-Ok.ensures.names.0; sorted = c.in-Ok.ensures.names.1; sizes = rw (← c.deref.ensures.value) c.in-Ok-make_ready.ensures.answer })
-
 -- too many names, or no memory for theirs: the disk is as it was
 pub returns-in-Err-clause-opens : goal.returns-in-Err-clause-opens
 returns-in-Err-clause-opens g c =
@@ -62,12 +53,3 @@ returns-in-Ok-make_ready-clause-opens g c = record {
   refused = tt;
   accounts = accounts_fine ok_apart c.in-Ok-make_ready.ensures.accounts;
 }
-
-pub invariant_of-result : goal.invariant_of-result
-invariant_of-result g c =
-    record {
-      journal_is = c.in-Ok.ensures.journal;
-      each = c.in-Ok.ensures.names.2.each;
-      few = c.in-Ok.ensures.names.2.few;
-      gate = λ unbroken honest. (c.in-Ok-make_ready.ensures.reopens honest).done.gate;
-    }

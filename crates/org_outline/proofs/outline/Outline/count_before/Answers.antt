@@ -1,4 +1,4 @@
-use Rattle.org_outline.proofs.Counts.{headings_rise, count_of_nodes, count_within}
+use Rattle.org_outline.proofs.Counts.{headings_rise, count_of_nodes}
 use Rattle.org_outline.proofs.outline.Outline.count_before.Goals as goal
 
 pub starts_before-requires : goal.starts_before-requires
@@ -6,6 +6,3 @@ starts_before-requires c = headings_rise c.args.self.now.text _ c.headings.ensur
 
 pub returns-clause-count : goal.returns-clause-count
 returns-clause-count c = count_of_nodes c.args.self.now.text _ _ _ c.headings.ensures.value c.starts_before.ensures.count
-
-pub returns-clause-within : goal.returns-clause-within
-returns-clause-within c = count_within c.args.self.now.text _ _ c.headings.ensures.value c.starts_before.ensures.within

@@ -1,4 +1,4 @@
-use Rattle.std.proofs.Common.{◌≡◌, ◌∙◌, ◌<◌, ℕ, List, sym, ap, subst, refl, arith}
+use Rattle.std.proofs.Common.{◌∙◌, ◌<◌, ℕ, List, sym, ap, subst, refl, arith}
 use Rattle.org_outline.specs.Outline.{node_headings}
 use Rattle.org_outline.specs.Paths.{find_headed, the_one, titled_nodes, to_some}
 use Rattle.org_outline.specs.Tree.{node_count, nodes_of, tree}

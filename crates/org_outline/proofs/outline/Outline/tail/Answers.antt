@@ -2,11 +2,7 @@ use Rattle.std.proofs.Common.{◌+◌, ◌≤◌, [], length, get_or, arith}
 use Rattle.org_headings.specs.Beginnings.{beginnings_of}
 use Rattle.org_headings.specs.declared.heads.Heading.{Heading}
 use Rattle.org_outline.proofs.Rests.{rest_room, tail_at}
-use Rattle.org_outline.proofs.Nodes.{node_in}
 use Rattle.org_outline.proofs.outline.Outline.tail.Goals as goal
-
-pub bounds-headings-node-inside : goal.bounds-headings-node-inside
-bounds-headings-node-inside c = node_in c.args.self.now.text _ _ _ c.node.view_is c.headings-headings.ensures.value c.requires
 
 pub overflow_add-heading : goal.overflow_add-heading
 overflow_add-heading c =

@@ -19,12 +19,6 @@ returns-in-Nowhere-clause-edited c =
     } in
     stays_known c.args.self front back c.args.size e (knowing c.args.self Nowhere front back c.in-Nowhere.is (fewer_none front back)) stands
 
-pub returns-in-Nowhere-clause-unedited : goal.returns-in-Nowhere-clause-unedited
-returns-in-Nowhere-clause-unedited c =
-    let e = c.args.edit.now in
-    let fewer = knowing c.args.self Nowhere e.at c.saturating_sub-tail.result c.in-Nowhere.is (fewer_none e.at c.saturating_sub-tail.result) in
-    fewer.still
-
 pub returns-in-Ends-clause-edited : goal.returns-in-Ends-clause-edited
 returns-in-Ends-clause-edited c =
     let e = c.args.edit.now in

@@ -5,14 +5,8 @@ use Rattle.jiff_core.specs.Date.{epoch_day}
 use Rattle.jiff_core.proofs.SignedLemmas.{signed_arith}
 use Rattle.org_stamp.specs.Calendar.{IsDay, day_number, months_after}
 use Rattle.org_stamp.proofs.Later.{to_year_in, to_year_past, same_day, same_pos}
-use Rattle.org_stamp.proofs.Added.{IsDateOf, by_months, months_added, no_months, months_past, months_found}
+use Rattle.org_stamp.proofs.Added.{IsDateOf, by_months, months_added, no_months, months_found}
 use Rattle.org_stamp.proofs.calendar.Day.plus_months.Goals as goal
-
-pub returns-in_default-clause-value : goal.returns-in_default-clause-value
-returns-in_default-clause-value c =
-    let self : IsDay c.args.self = search rules in
-    sym (to_year_past (months_after c.args.self c.args.months) (months_past c.args.self c.args.months self
-    (λ few. false≢true (c.in_default.ensures.succeeds.1 (omega (arith, ints, few, c.requires))))))
 
 pub of-requires : goal.of-requires
 of-requires c =

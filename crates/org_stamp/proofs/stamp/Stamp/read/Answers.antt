@@ -28,6 +28,3 @@ returns-clause-length c = found_within c.args.text.now c.scan.result c.scan.ensu
 
 pub returns-clause-only : goal.returns-clause-only
 returns-clause-only c = λ n s within h. c.scan.ensures ∙ front_read c.args.text.now n s within h
-
-pub returns-clause-exact : goal.returns-clause-exact
-returns-clause-exact c = c.scan.ensures

@@ -22,6 +22,3 @@ returns-in-None c =
     let none : repeating (split (node_at (tree c.args.self.now.own.outline.now.text) c.args.self.now.own.node).node.section).planning ≡ None =
     nothing_repeats _ _ _ _ (section_is_lines c.args.self.now.own.outline.now.text c.args.self.now.own.node c.args.self.now.own.within) line c.in_ok-planning.ensures.ok c.in-None.is in
     subst (λ (o : Option PlanningLine). AnswersOwn (TurnsDone c.args.self.now.own.outline.now.states c.args.self.now.state.now c.args.self.now.moment (own_at (tree c.args.self.now.own.outline.now.text) c.args.self.now.own.node) o) c.args.self.now.own.outline.now.text c.args.self.now.own.node c.close.result) (sym none) c.close.ensures
-
-pub returns-in-Some : goal.returns-in-Some
-returns-in-Some c = c.repeat.ensures

@@ -8,9 +8,7 @@ use Rattle.org_commands.specs.declared.command.Reply.{Reply}
 use Rattle.org_commands.specs.InOrder.{texts_of}
 use Rattle.org_commands.specs.Kinds.{asking, changing, command_of}
 use Rattle.org_commands.specs.Outcome.{outcome}
-use Rattle.org_commands.specs.Session.{view_over}
 use Rattle.org_commands.specs.Step.{Step}
-use Rattle.org_store.specs.Executing.{Executes}
 use Rattle.org_store.specs.Left.{IsLeft, IsLeftAlone}
 use Rattle.org_store.specs.Runs.{RunsOver}
 use Rattle.org_store.proofs.Calls.{reply_of, settling_runs}

@@ -46,9 +46,6 @@ returns-then-self-clause-did g c = λ honest.
       idle = record { untouched = λ broken. refl; nothing = λ asks none. refl; unneeded = λ asks none. refl };
     }
 
-pub returns-then-self-clause-counts : goal.returns-then-self-clause-counts
-returns-then-self-clause-counts g c = rw (← c.self.view_is) (record { accepted = refl; acknowledged = c.if-self.true; group = refl })
-
 pub returns-clause-did : goal.returns-clause-did
 returns-clause-did g c =
     let own = c.self.inside in

@@ -1,14 +1,12 @@
-use Rattle.std.proofs.Common.{◌≡◌, ◌++◌, ◌∷◌, [], ◌∙◌, ◌+◌, List, ℕ, take, slice_get, Some, IfSome, Vec, count_by, refl, ap, sym, subst, arith}
-use Rattle.std.proofs.lemmas.Bool.{false≢true}
+use Rattle.std.proofs.Common.{◌≡◌, ◌++◌, ◌∷◌, [], ◌∙◌, ◌+◌, List, ℕ, take, slice_get, Some, IfSome, Vec, ap, sym, subst, arith}
 use Rattle.std.proofs.lemmas.List.{take_more}
 use Rattle.std.proofs.lemmas.Option.{slice_get_within, get_or_from_slice_get}
 use Rattle.std.specs.declared.alloc.Global.{Global}
 use Rattle.std.specs.Option.{option_map}
 use Rattle.std.specs.Str.{bytes_eq}
 use Rattle.indexmap.specs.IndexMap.{get}
-use Rattle.org_disk.specs.Disk.{FileState, stable}
+use Rattle.org_disk.specs.Disk.{stable}
 use Rattle.org_test_disks.specs.Memory.{IsLeft, memory_files}
-use Rattle.org_test_disks.specs.Record.{is_call}
 use Rattle.org_test_disks.proofs.ImageSoFar.{one_more, all_left}
 use Rattle.org_test_disks.proofs.memory.MemoryDisk.image.Goals as goal
 
@@ -36,26 +34,3 @@ returns-clause-left c name =
 pub returns-clause-whole : goal.returns-clause-whole
 returns-clause-whole c whole name =
     (all_left c.args.self.now c.loop-i.i (memory_files c.loop-i.image) c.loop-i.invariant.0 (omega (arith, c.loop-i-test.false, c.len-i-end.ensures.len)) name).whole whole
-
-pub loop-i-init : goal.loop-i-init
-loop-i-init c =
-    let files = c.new-image.ensures.files in (
-      record {
-        stable = λ name. subst (λ (f : FileState). f ≡ stable f.content) (sym (files name)) refl;
-        held = λ name some. absurd (false≢true some);
-        absent = λ name none. ap (λ (f : FileState). f.content) (files name);
-      },
-      c.new-image.ensures.failures,
-      c.new-image.ensures.fail_in,
-      c.new-image.ensures.crash,
-      ap (count_by is_call) c.new-image.ensures.calls,
-    )
-
-pub returns-clause-stable : goal.returns-clause-stable
-returns-clause-stable c name = c.loop-i.invariant.0.stable name
-
-pub returns-clause-fresh : goal.returns-clause-fresh
-returns-clause-fresh c = (c.loop-i.invariant.1, c.loop-i.invariant.2, c.loop-i.invariant.3)
-
-pub returns-clause-uncounted : goal.returns-clause-uncounted
-returns-clause-uncounted c = c.loop-i.invariant.4

@@ -1,7 +1,6 @@
-use Rattle.std.proofs.Common.{List, ℕ, ap, refl}
+use Rattle.std.proofs.Common.{List, ℕ, ap}
 use Rattle.org_disk.specs.Disk.{FileState}
-use Rattle.org_test_disks.specs.declared.memory.Effect.TheVariants.{Nothing}
-use Rattle.org_test_disks.proofs.Calls.{count_made, files_read, passes_read}
+use Rattle.org_test_disks.proofs.Calls.{files_read, passes_read}
 use Rattle.org_test_disks.proofs.memory.MemoryDisk.look.Goals as goal
 
 pub returns-clause-looks : goal.returns-clause-looks
@@ -13,6 +12,3 @@ returns-clause-looks c = record {
 pub returns-clause-content : goal.returns-clause-content
 returns-clause-content c = ap (λ (files : List ℕ → FileState). (files c.args.name.now).content)
     (files_read c.args.name.now c.args.self.now.calls.items c.call.new.self.calls.items c.call.result c.call.ensures.ok c.call.ensures.err)
-
-pub returns-clause-recorded : goal.returns-clause-recorded
-returns-clause-recorded c = count_made c.args.name.now Nothing c.args.self.now.calls.items c.call.new.self.calls.items c.call.result refl c.call.ensures.ok

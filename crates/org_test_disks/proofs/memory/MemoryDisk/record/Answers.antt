@@ -1,14 +1,9 @@
-use Rattle.std.proofs.Common.{◌≡◌, ◌++◌, ◌∷◌, [], List, Result, Ok, Err, OnErr, refl, sym, ap, ◌∙◌, arith}
+use Rattle.std.proofs.Common.{◌≡◌, ◌++◌, ◌∷◌, [], List, sym, ap, ◌∙◌, arith}
 use Rattle.std.proofs.lemmas.Bool.{cond-true}
-use Rattle.std.specs.declared.alloc.AllocError.{AllocError}
 use Rattle.org_test_disks.specs.Record.{call_of, files_after}
 use Rattle.org_test_disks.specs.declared.memory.Call.{Call}
 use Rattle.org_test_disks.proofs.Calls.{tied_made, absent_made, tied_kept, absent_kept}
 use Rattle.org_test_disks.proofs.memory.MemoryDisk.record.Goals as goal
-
-unchanged : {calls later : List Call} (r : Result (Unit {0}) AllocError) → later ≡ calls → OnErr r (later ≡ calls)
-unchanged (Ok tt) same = tt
-unchanged (Err e) same = same
 
 pub invariant_of-self-2 : goal.invariant_of-self-2
 invariant_of-self-2 c =
@@ -34,29 +29,3 @@ invariant_of-self-in-Break-branch-3 c =
       absent = λ name none. ap (λ (cs : List Call). (files_after cs name).least) same
           ∙ absent_kept calls c.args.name.now c.args.self.now.contents c.keep.new.contents keeps c.args.self.now.tied c.args.self.now.absent name none;
     }
-
-pub returns-clause-ok : goal.returns-clause-ok
-returns-clause-ok c =
-    let copy : Call = call_of c.in_ok-clone.field-0 c.args.effect c.args.crashed in
-    c.push.ensures.items ∙ cond-true _ (c.reserve.new.self.items ++ copy ∷ []) c.reserve.new.self.items (c.push.ensures.succeeds (omega (arith, c.in_ok-reserve.ensures.ok)))
-    ∙ (λ j. c.reserve.ensures.items j ++ call_of (c.in_ok-clone.ensures.cases j) c.args.effect c.args.crashed ∷ [])
-
-pub returns-clause-plan : goal.returns-clause-plan
-returns-clause-plan c = record { fail_in = refl; crash = refl }
-
-pub invariant_of-self : goal.invariant_of-self
-invariant_of-self c =
-    let same = c.reserve.ensures.items in
-    record {
-      tied = λ name. c.args.self.now.tied name ∙ ap (λ (cs : List Call). (files_after cs name).content) (sym same);
-      absent = λ name none. ap (λ (cs : List Call). (files_after cs name).least) same ∙ c.args.self.now.absent name none;
-    }
-
-pub returns-in_err-clone-clause-err : goal.returns-in_err-clone-clause-err
-returns-in_err-clone-clause-err c = unchanged c.from_residual.result refl
-
-pub returns-in_err-reserve-clause-err : goal.returns-in_err-reserve-clause-err
-returns-in_err-reserve-clause-err c = unchanged c.from_residual-in_err-reserve.result c.reserve.ensures.items
-
-pub returns-in_err-keep-clause-err : goal.returns-in_err-keep-clause-err
-returns-in_err-keep-clause-err c = unchanged c.from_residual-in_err-keep.result c.reserve.ensures.items

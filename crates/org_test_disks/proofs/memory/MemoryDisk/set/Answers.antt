@@ -1,5 +1,5 @@
 use Rattle.std.proofs.Common.{◌≡◌, rules}
-use Rattle.org_test_disks.proofs.Calls.{count_set, set_here, set_others}
+use Rattle.org_test_disks.proofs.Calls.{set_here, set_others}
 use Rattle.org_test_disks.proofs.memory.MemoryDisk.set.Goals as goal
 
 pub returns-clause-ok : goal.returns-clause-ok
@@ -9,6 +9,3 @@ returns-clause-ok c =
 
 pub returns-clause-others : goal.returns-clause-others
 returns-clause-others c = set_others c.args.name.now c.in_ok-bytes.bytes c.args.self.now.calls.items c.record.new.self.calls.items c.record.result c.record.ensures.ok c.record.ensures.err
-
-pub returns-clause-uncounted : goal.returns-clause-uncounted
-returns-clause-uncounted c = count_set c.args.name.now c.in_ok-bytes.bytes c.args.self.now.calls.items c.record.new.self.calls.items c.record.result c.record.ensures.ok c.record.ensures.err

@@ -1,6 +1,5 @@
-use Rattle.std.proofs.Common.{refl}
 use Rattle.org_test_disks.specs.declared.memory.Effect.TheVariants.{Cut}
-use Rattle.org_test_disks.proofs.Calls.{count_made, changes_call, passes_call, no_effect}
+use Rattle.org_test_disks.proofs.Calls.{changes_call, passes_call, no_effect}
 use Rattle.org_test_disks.proofs.memory.MemoryDiskDisk.cut.Goals as goal
 
 pub returns-clause-effect : goal.returns-clause-effect
@@ -11,6 +10,3 @@ returns-clause-time c = passes_call c.args.name.now (Cut c.args.to) c.args.self.
 
 pub returns-clause-no_effect : goal.returns-clause-no_effect
 returns-clause-no_effect c apart = no_effect c.args.name.now c.args.self.now c.call.new.self c.call.result (c.call.ensures.no_effect apart)
-
-pub returns-clause-recorded : goal.returns-clause-recorded
-returns-clause-recorded c = count_made c.args.name.now (Cut c.args.to) c.args.self.now.calls.items c.call.new.self.calls.items c.call.result refl c.call.ensures.ok

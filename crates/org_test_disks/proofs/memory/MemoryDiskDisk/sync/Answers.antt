@@ -1,6 +1,6 @@
 use Rattle.std.proofs.Common.{refl}
 use Rattle.org_test_disks.specs.declared.memory.Effect.TheVariants.{Sync}
-use Rattle.org_test_disks.proofs.Calls.{count_made, changes_call, passes_call, no_effect}
+use Rattle.org_test_disks.proofs.Calls.{changes_call, passes_call, no_effect}
 use Rattle.org_test_disks.proofs.memory.MemoryDiskDisk.sync.Goals as goal
 
 pub returns-clause-effect : goal.returns-clause-effect
@@ -11,6 +11,3 @@ returns-clause-time c = passes_call c.args.name.now (Sync) c.args.self.now.calls
 
 pub returns-clause-no_effect : goal.returns-clause-no_effect
 returns-clause-no_effect c = no_effect c.args.name.now c.args.self.now c.call.new.self c.call.result (c.call.ensures.sync refl)
-
-pub returns-clause-recorded : goal.returns-clause-recorded
-returns-clause-recorded c = count_made c.args.name.now Sync c.args.self.now.calls.items c.call.new.self.calls.items c.call.result refl c.call.ensures.ok

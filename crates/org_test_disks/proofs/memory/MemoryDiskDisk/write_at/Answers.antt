@@ -1,8 +1,8 @@
-use Rattle.std.proofs.Common.{◌≡◌, List, ℕ, length, subst, inl, ◌∙◌, refl, rules}
+use Rattle.std.proofs.Common.{◌≡◌, List, ℕ, length, subst, inl, ◌∙◌, rules}
 use Rattle.org_disk.specs.Disk.{write, Changes, Passes, AreLeftBy}
 use Rattle.org_test_disks.specs.Record.{files_after, LeftSince}
 use Rattle.org_test_disks.specs.declared.memory.Effect.TheVariants.{Write}
-use Rattle.org_test_disks.proofs.Calls.{count_made, changes_call, passes_call, changes_out, passes_out, no_effect, failed}
+use Rattle.org_test_disks.proofs.Calls.{changes_call, passes_call, changes_out, passes_out, no_effect, failed}
 use Rattle.org_test_disks.proofs.memory.MemoryDiskDisk.write_at.Goals as goal
 
 pub returns-in-Ok-clause-effect : goal.returns-in-Ok-clause-effect
@@ -33,6 +33,3 @@ returns-in-Ok-clause-no_effect c apart = no_effect c.args.name.now c.args.self.n
 pub returns-in-Err-clause-no_effect : goal.returns-in-Err-clause-no_effect
 returns-in-Err-clause-no_effect c apart =
     no_effect c.args.name.now c.args.self.now c.fault.new.self (failed c.fault.result) (inl (c.fault.ensures.calls ∙ c.turn-turn.ensures.calls))
-
-pub returns-in-Ok-clause-recorded : goal.returns-in-Ok-clause-recorded
-returns-in-Ok-clause-recorded c = count_made c.args.name.now (Write c.args.from c.in-Ok.copy) c.args.self.now.calls.items c.call.new.self.calls.items c.call.result refl c.call.ensures.ok

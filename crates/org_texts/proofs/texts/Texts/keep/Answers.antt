@@ -1,13 +1,9 @@
-use Rattle.std.proofs.Common.{◌∙◌, take, refl, ap, arith}
-use Rattle.std.specs.Map.{keys_of}
+use Rattle.std.proofs.Common.{◌∙◌, take, ap, arith}
 use Rattle.std.proofs.Math.Seq.{take-length}
 use Rattle.org_texts.specs.Held.{HeldText}
-use Rattle.org_texts.proofs.Names.{among_same, same_set}
-use Rattle.org_texts.proofs.Values.{copied_none, copied_more, copied_all}
+use Rattle.org_texts.proofs.Names.{same_set}
+use Rattle.org_texts.proofs.Values.{copied_more, copied_all}
 use Rattle.org_texts.proofs.texts.Texts.keep.Goals as goal
-
-pub loop-place-init : goal.loop-place-init
-loop-place-init c = record { before = copied_none c.self.inside.held.entries; dirty = refl }
 
 pub loop-place-preserved : goal.loop-place-preserved
 loop-place-preserved c = record {
@@ -24,9 +20,3 @@ returns c =
       now = same_set so_far.before.from_same so_far.dirty;
       before = same_set (copied_all so_far.before (omega (arith, c.len-place-end.ensures.len))) (all ∙ so_far.dirty);
     }
-
-pub invariant_of-self : goal.invariant_of-self
-invariant_of-self c = record {
-  held = among_same _ (keys_of c.self.inside.held.entries) _ c.self.inside.dirty.keys c.loop-place.invariant.before.names c.loop-place.invariant.dirty c.self.invariant.held;
-  first = omega (arith, c.len-self-inside.ensures.len);
-}

@@ -2,11 +2,8 @@ use Rattle.std.proofs.Common.{◌∙◌, ◌≤◌, length, refl, sym, ap, arith
 use Rattle.org_splice.specs.Texts.{settled}
 use Rattle.org_texts.specs.Held.{HeldText}
 use Rattle.org_texts.proofs.Names.{on_disk_again, same_set}
-use Rattle.org_texts.proofs.Values.{copied_none, copied_more, copied_all}
+use Rattle.org_texts.proofs.Values.{copied_more, copied_all}
 use Rattle.org_texts.proofs.texts.Texts.settle.Goals as goal
-
-pub loop-place-init : goal.loop-place-init
-loop-place-init c = record { now = copied_none c.self.inside.held.entries; before = copied_none c.self.inside.held.entries }
 
 pub loop-place-preserved : goal.loop-place-preserved
 loop-place-preserved c =

@@ -1,12 +1,8 @@
-use Rattle.std.proofs.Common.{◌≡◌, ◌∙◌, length, take, refl, ap, arith}
-use Rattle.std.specs.Map.{keys_of}
+use Rattle.std.proofs.Common.{◌≡◌, ◌∙◌, take, ap, arith}
 use Rattle.std.proofs.lemmas.List.{length-take-le, take_all}
-use Rattle.org_texts.proofs.Names.{among_same, among_take, same_set}
-use Rattle.org_texts.proofs.Values.{copied_none, copied_more, copied_all}
+use Rattle.org_texts.proofs.Names.{same_set}
+use Rattle.org_texts.proofs.Values.{copied_more, copied_all}
 use Rattle.org_texts.proofs.texts.Texts.undo.Goals as goal
-
-pub loop-place-init : goal.loop-place-init
-loop-place-init c = record { now = copied_none c.self.inside.held.entries; dirty = refl; first = refl }
 
 pub loop-place-preserved : goal.loop-place-preserved
 loop-place-preserved c = record {
@@ -30,14 +26,4 @@ returns c =
     rw (← c.self.view_is) record {
       now = same_set (copied_all so_far.now (omega (arith, c.len-place-end.ensures.len))) (kept c);
       before = same_set so_far.now.from_same (ap (λ n. take n c.truncate.new.self.keys) so_far.first ∙ ap (take first) (kept c) ∙ once);
-    }
-
-pub invariant_of-self : goal.invariant_of-self
-invariant_of-self c =
-    let dirty_before = c.self.inside.dirty_before in
-    let keys = c.self.inside.dirty.keys in
-    let names = keys_of c.self.inside.held.entries in
-    record {
-      held = among_same _ names _ (take dirty_before keys) c.loop-place.invariant.now.names (kept c) (among_take names keys dirty_before c.self.invariant.held);
-      first = omega (arith, length-take-le dirty_before keys c.self.invariant.first, ap length (kept c), c.loop-place.invariant.first);
     }

@@ -1,4 +1,0 @@
-use Rattle.org_folder.proofs.disk.CallsDiskDisk.cut.Goals as goal
-
-pub returns-clause-accounts : goal.returns-clause-accounts
-returns-clause-accounts g c = record { was_honest = λ honest. (c.cut.ensures honest).0; stays_honest = λ never. absurd never; kept = c.counted.ensures.ok; counted = c.counted.ensures.err }
