@@ -10,4 +10,5 @@ pub mod NoDigit
 pub mod Numbers
 pub mod OneByOne
 pub mod Kept
+pub mod Pieces
 pub mod Faults

@@ -1,5 +1,5 @@
 -- Archivings: what their planner finds is what the outcome says.
-use Rattle.std.proofs.Common.{arith, ◌≡◌, ◌≢◌, ℕ, true, false, List, [], ◌∷◌, Option, Some, None, Result, Ok, Err, refl, sym, ◌∙◌, ap, subst, rules}
+use Rattle.std.proofs.Common.{arith, ◌≡◌, ◌≢◌, ℕ, true, false, List, [], ◌∷◌, Option, Some, None, Result, Ok, Err, refl, sym, ◌∙◌, ap, subst, rules, ◌<◌}
 use Rattle.std.proofs.lemmas.Grind.{common_steps}
 use Rattle.std.specs.Option.{IsSome}
 use Rattle.std.specs.Result.{IsErrAnd}
@@ -20,12 +20,12 @@ use Rattle.org_journal.specs.Recovered.{contents}
 use Rattle.org_outline.specs.declared.paths.PathFault.{PathFault}
 use Rattle.org_outline.specs.Paths.{find_path, refusal_of}
 use Rattle.org_outline.specs.States.{Keywords}
-use Rattle.org_outline.specs.Tree.{Document, print, tree}
+use Rattle.org_outline.specs.Tree.{Document, print, tree, node_count}
 use Rattle.org_outline.proofs.Trees.{tree-terminated}
 use Rattle.org_stamp.specs.Calendar.{Moment}
 use Rattle.org_texts.specs.declared.plan.FileEdits.{FileEdits}
 use Rattle.org_texts.specs.declared.plan.Plan.{Plan}
-use Rattle.org_texts.specs.Texts.{Holding, bytes_or, text_of}
+use Rattle.org_texts.specs.Texts.{Holding, bytes_or, text_of, TextSet}
 use Rattle.org_texts.proofs.Looking.{not_equal, the_value}
 use Rattle.org_move.specs.Answers.{IsMadeAs, IsPlaceAs}
 use Rattle.org_move.specs.Archive.{archive_across_at, archive_within_at}
@@ -34,7 +34,7 @@ use Rattle.org_move.specs.Refile.{Moved, with_found}
 use Rattle.org_commands.specs.declared.command.RunFault.{RunFault}
 use Rattle.org_commands.specs.declared.command.RunFault.TheVariants.{Refused}
 use Rattle.org_commands.specs.declared.tally.Tally.{Tally}
-use Rattle.org_commands.specs.Files.{AreReady, IsPlanFor, OpenFiles, new_texts}
+use Rattle.org_commands.specs.Files.{AreReady, IsPlanFor, OpenFiles, new_texts, KeepsHeld}
 use Rattle.org_commands.specs.InOrder.{is_name, text_at}
 use Rattle.org_commands.specs.Keeping.{Plans, fault_of}
 use Rattle.org_commands.specs.Outcome.{Outcome, Refuses, archive, archive_at, archive_to, with_moved}
@@ -44,6 +44,8 @@ use Rattle.org_commands.specs.Step.{Steps}
 use Rattle.org_commands.proofs.MadeReady.{session_in, still_named}
 use Rattle.org_commands.proofs.Plans.{first_name, now_held, one_name, one_text, plan_of_one, plan_of_two, ready_text, second_name, text_held, two_texts}
 use Rattle.org_commands.proofs.Refiles.{move_fails, move_planned}
+use Rattle.org_commands.specs.Headings.{HasHeading}
+use Rattle.org_commands.proofs.Clocks.{heading_before, still_there}
 
 -- ---- texts that are ready
 
@@ -59,6 +61,17 @@ the_text (Some text) some = (text, refl, refl)
 pub store_text : {D : Type 0} (g : Ghosts D) (states : Keywords) (files : OpenFiles D) (tally : Tally) (s : Session) (names : List (List ℕ)) (file : List ℕ) → session_in g states files tally ≡ s → AreReady names files.held → is_name names file ≡ true
     → is_name files.names file ≡ true → (text : List ℕ) × (text_at s.names s.files file ≡ Some text) × (held_bytes files.held file ≡ terminated text)
 store_text g states files tally s names file is are there named = grind (arith, common_steps, the_text, now_held, ready_text, text_held, contents)
+
+-- a heading that it has, in these bytes
+pub heading_in : (set : TextSet) (file : List ℕ) (i : ℕ) (bytes : List ℕ) → bytes ≡ bytes_or [] (text_of set file) → HasHeading set file i → i < node_count (tree bytes)
+heading_in set file i bytes is (text, held, within) = subst (λ (b : List ℕ). i < node_count (tree b)) (sym (is ∙ ap (bytes_or []) held)) within
+
+-- .. is there where another file was made ready
+pub heading_stays : (old new : Holding) (names more : List (List ℕ)) (file : List ℕ) (i : ℕ) → AreReady names old → is_name names file ≡ true → AreReady more new → is_name more file ≡ true → KeepsHeld old new → HasHeading old.now file i
+    → HasHeading new.now file i
+heading_stays old new names more file i was among are there keeps (text, held, within) =
+    let seen = the_text (text_of new.now file) (now_held more new file are there) in
+    (seen.0, seen.1, still_there old new more file i seen.0 (heading_before old names file i text was among held within) keeps are there seen.1)
 
 -- a text that is found twice is one
 same_terminated : (text other seen : List ℕ) → Some text ≡ Some other → seen ≡ terminated other → seen ≡ terminated text

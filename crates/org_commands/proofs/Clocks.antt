@@ -43,8 +43,6 @@ use Rattle.org_commands.proofs.Plans.{ready_text, text_held}
 
 -- ---- the edits of one text
 
--- ---- a clock opened
-
 -- the plan of the edit that opens it, told of what the outline is
 pub start_made : (now : Moment) (text seen : List ℕ) (i : ℕ) (edit : Edit) (edits : List Edit) → seen ≡ text → edits ≡ edit ∷ [] → AreEdits (edit ∷ []) seen (print (with_opened now i (tree seen)))
     → (new : Document) × (clocked_in now None (tree text) (Ok i) ≡ Ok (Some new)) × AreEdits edits text (print new)
@@ -64,8 +62,6 @@ switch_made now text from i edits some (new, is, makes) = go new is makes
     go : (o : Option Document) → switched now from (tree text) i ≡ Ok o → Makes o text edits.items → (d : Document) × (switched now from (tree text) i ≡ Ok (Some d)) × AreEdits edits.items text (print d)
     go None is makes = absurd (some makes)
     go (Some d) is makes = (d, is, makes.1)
-
--- ---- a clock closed
 
 -- ---- a clock moved to another text
 

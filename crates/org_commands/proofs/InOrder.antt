@@ -1,6 +1,5 @@
 -- Texts of files in the order of their names.
 use Rattle.std.proofs.Common.{◌≡◌, ◌≢◌, inl, inr, ℕ, suc, Bool, true, false, List, [], ◌∷◌, Option, Some, None, is_some, refl, sym, ◌∙◌, ap, subst, if◌then◌else◌, arith}
-use Rattle.std.proofs.lemmas.Grind.{common_steps}
 use Rattle.std.specs.List.{AllByRecursion, Contains}
 use Rattle.std.proofs.lemmas.Bool.{false≢true}
 use Rattle.std.proofs.lemmas.Slice.Eq.{bytes_eq-Decides}
@@ -20,7 +19,10 @@ some_at files (one ∷ names) name h = elim (name_cases one name) [
 
 pub text_there : (files : Image) (names : List (List ℕ)) (name : List ℕ) → is_name names name ≡ is_some (text_at names (texts_of files names) name)
 text_there files [] name = refl
-text_there files (one ∷ names) name = grind (arith, common_steps, text_there files names name)
+text_there files (one ∷ names) name = elim (name_cases one name) [
+  | inl is ↦ let t = is.1 in rw t refl
+  | inr apart ↦ let f = apart.1 in rw f (text_there files names name)
+]
 
 pub none_at : (files : Image) (names : List (List ℕ)) (name : List ℕ) → is_name names name ≡ false → text_at names (texts_of files names) name ≡ None
 none_at files names name out = go (text_at names (texts_of files names) name) (sym (text_there files names name) ∙ out)
@@ -66,12 +68,20 @@ texts_same first second (one ∷ names) same =
 pub texts_with : (old new : Image) (names : List (List ℕ)) (name text : List ℕ) → new name ≡ text → ((other : List ℕ) → other ≢ name → new other ≡ old other)
     → texts_of new names ≡ with_text names (texts_of old names) name text
 texts_with old new [] name text here others = refl
-texts_with old new (one ∷ names) name text here others = grind (arith, common_steps, name_cases, texts_with old new names name text here others)
+texts_with old new (one ∷ names) name text here others =
+    let later = texts_with old new names name text here others in
+    elim (name_cases one name) [
+      | inl is ↦ let t = is.1 in rw (t, later) (ap (λ x. x ∷ with_text names (texts_of old names) name text) (ap new is.0 ∙ here))
+      | inr apart ↦ let f = apart.1 in rw (f, later) (ap (λ x. x ∷ with_text names (texts_of old names) name text) (others one apart.0))
+    ]
 
 -- files with the texts that they have
 pub own_texts : (files others : Image) (names : List (List ℕ)) (name : List ℕ) → with_texts names (texts_of files names) others name ≡ (if is_name names name then files name else others name)
 own_texts files others [] name = refl
-own_texts files others (one ∷ names) name = grind (arith, common_steps, name_cases, own_texts files others names name)
+own_texts files others (one ∷ names) name = elim (name_cases one name) [
+  | inl is ↦ let t = is.1 in rw t (ap files is.0)
+  | inr apart ↦ let f = apart.1 in rw f (own_texts files others names name)
+]
 
 -- files that are as they were but for these names, told by the texts of these
 pub told_by_texts : (names : List (List ℕ)) (new old : Image) (name : List ℕ) → (is_name names name ≡ false → new name ≡ old name) → new name ≡ with_texts names (texts_of new names) old name

@@ -1,5 +1,5 @@
 -- What the calls of a store's files do to its session.
-use Rattle.std.proofs.Common.{arith, ◌≡◌, inl, false, List, ℕ, Option, Some, Result, Ok, Err, refl, sym, subst}
+use Rattle.std.proofs.Common.{arith, ◌≡◌, inl, false, List, ℕ, Option, Some, Result, Ok, Err, refl, sym, subst, true, ◌∙◌, ap}
 use Rattle.std.proofs.lemmas.Grind.{common_steps}
 use Rattle.std.specs.Prelude.{IsOkAnd, MatchResult}
 use Rattle.org_disk.specs.Disk.{FileState}
@@ -13,18 +13,35 @@ use Rattle.org_commands.specs.declared.tally.Tally.{Tally}
 use Rattle.org_commands.specs.Files.{OpenFiles, StaysInMemory}
 use Rattle.org_commands.specs.Session.{Session, view_over, session_over}
 use Rattle.org_commands.specs.Outcome.{Outcome}
-use Rattle.org_commands.specs.Step.{Steps}
+use Rattle.org_commands.specs.Step.{Steps, failed_in_read}
 use Rattle.org_commands.specs.Keeping.{Plans, PlansOrStays, Reads}
+use Rattle.org_commands.specs.InOrder.{texts_of}
+use Rattle.org_commands.proofs.InOrder.{texts_same}
 
 -- files that stay as they are, but for what is edited
 pub view_same : {D : Type 0} (files : D → List ℕ → FileState) (states : Keywords) (old new : OpenFiles D) (tally : Tally) → StaysInMemory old new → new.held.before ≡ old.held.before
     → view_over files states new tally ≡ view_over files states old tally
 view_same files states old new tally memory before = rw (memory.disk, memory.names, memory.broken, before) refl
 
+-- a call that changes no text
+still_texts : {D : Type 0} (texts : D → Image) (old new : OpenFiles D) → new.names ≡ old.names → texts new.disk ≡ texts old.disk
+    → ((name : List ℕ) → held_over new.held.before (texts new.disk) name ≡ held_over old.held.before (texts old.disk) name)
+    → texts_of (held_over new.held.before (texts new.disk)) new.names ≡ texts_of (held_over old.held.before (texts old.disk)) old.names
+still_texts texts old new names same over =
+    ap (texts_of (held_over new.held.before (texts new.disk))) names
+    ∙ texts_same (held_over new.held.before (texts new.disk)) (held_over old.held.before (texts old.disk)) old.names (λ name there. over name)
+
 pub session_still : {D : Type 0} (texts : D → Image) (states : Keywords) (old new : OpenFiles D) (tally : Tally) → new.names ≡ old.names → texts new.disk ≡ texts old.disk
     → ((name : List ℕ) → held_over new.held.before (texts new.disk) name ≡ held_over old.held.before (texts old.disk) name)
     → new.broken ≡ old.broken → session_over texts states new tally ≡ session_over texts states old tally
 session_still texts states old new tally names same over still = grind (arith, common_steps)
+
+pub session_failed : {D : Type 0} (texts : D → Image) (states : Keywords) (old new : OpenFiles D) (tally : Tally) → new.names ≡ old.names → texts new.disk ≡ texts old.disk
+    → ((name : List ℕ) → held_over new.held.before (texts new.disk) name ≡ held_over old.held.before (texts old.disk) name)
+    → new.broken ≡ true → session_over texts states new tally ≡ failed_in_read (session_over texts states old tally)
+session_failed texts states old new tally names same over fell =
+    let held = still_texts texts old new names same over in
+    rw (held, same, names, fell) refl
 
 -- a fault of a reading, told of any command
 pub does_read : (A : Type 0) (old new : Session) (outcome : Outcome) (fault : RunFault) → old.broken ≡ false → Reads {A = A} old (Err fault) new → Steps old outcome (Err fault) new

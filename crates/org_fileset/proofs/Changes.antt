@@ -1,5 +1,5 @@
 -- The entries of changed files.
-use Rattle.std.proofs.Common.{rules, arith, ◌≡◌, ◌+◌, ◌++◌, ℕ, List, [], ◌∷◌, length, take, Some, sym, ◌∙◌, ap, subst}
+use Rattle.std.proofs.Common.{◌≡◌, ◌+◌, ◌++◌, ℕ, List, [], ◌∷◌, length, take, Some, sym, ◌∙◌, ap, subst}
 use Rattle.std.specs.Prelude.{slice_get, IsUtf8}
 use Rattle.std.proofs.lemmas.List.{take_more}
 use Rattle.std.proofs.lemmas.Option.{get_or_from_slice_get, slice_get_within}
@@ -13,7 +13,14 @@ use Rattle.org_fileset.specs.Entries.{IsEntryOf, AreEntriesOf}
 pub entry_is : (change : List ℕ × EditedText) (entry : Entry) (patches : List Patch) → entry.name ≡ change.0 → IsUtf8 change.0 → IsDiskName change.0
     → entry.length ≡ length change.1.bytes → entry.patches ≡ patches → AreWellFormed (pairs_of patches) (length change.1.bytes)
     → ((old : List ℕ) → IsEditOf old change.1 → PatchedTo (pairs_of patches) (length change.1.bytes) old change.1.bytes) → IsEntryOf change entry
-entry_is change entry patches named text valid long same formed makes = search (rules, arith)
+entry_is change entry patches named text valid long same formed makes = record {
+  name = named;
+  text = subst IsUtf8 (sym named) text;
+  valid = subst IsDiskName (sym named) valid;
+  length_is = long;
+  patches = rw (same, long) formed;
+  makes = λ old edit. rw (same, long) (makes old edit);
+}
 
 pub entries_more : (changes : List (List ℕ × EditedText)) (entries : List Entry) (change : List ℕ × EditedText) (entry : Entry) → AreEntriesOf changes entries → IsEntryOf change entry
     → AreEntriesOf (changes ++ change ∷ []) (entries ++ entry ∷ [])

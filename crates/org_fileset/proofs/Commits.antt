@@ -1,8 +1,7 @@
 -- The stages of a commit, and what is left in each.
-use Rattle.std.proofs.Common.{rules, ◌≡◌, ◌≢◌, inl, ℕ, ◌+◌, ◌≤◌, ◌++◌, List, [], ◌∷◌, length, drop, false, Some, Result, Ok, OnOk, refl, sym, ◌∙◌, ap, subst, arith}
-use Rattle.std.proofs.lemmas.Grind.{common_steps}
+use Rattle.std.proofs.Common.{◌≡◌, ◌≢◌, inl, inr, ℕ, ◌+◌, ◌≤◌, ◌++◌, List, [], ◌∷◌, length, drop, false, Some, Result, Ok, OnOk, refl, sym, ◌∙◌, ap, subst, arith}
 use Rattle.org_disk.specs.declared.disk.Disk.{Ghosts}
-use Rattle.std.specs.Prelude.{nat_le, slice_index, ◌==◌}
+use Rattle.std.specs.Prelude.{is_some, nat_le, slice_index, ◌==◌}
 use Rattle.std.proofs.lemmas.Bool.{cases_Bool, and_right, ne_eqb}
 use Rattle.org_splice.specs.Overwritten.{overwritten}
 use Rattle.org_disk.specs.Disk.{FileState, IsImage, IsStable, AreImages}
@@ -34,7 +33,9 @@ drop-overwritten body (x ∷ text) long = refl
 
 -- a disk at rest recovers to what it holds
 pub at_rest_recovers : (files : List ℕ → FileState) → IsAtRest files → (image : Image) → AreImages files image → RecoversTo (contents files) image
-at_rest_recovers files rest image left = grind (arith, common_steps, contents, only_image, recovers_closed, shut)
+at_rest_recovers files rest image left =
+    let same : (name : List ℕ) → image name ≡ contents files name = λ name. only_image (rest.stable name) (image name) (left name) in
+    recovers_closed (contents files) image (ap is_open (same journal_name) ∙ shut (contents files journal_name) rest.gate.closed) (λ name not. same name)
 
 module _ (entries : List Entry) (files : List ℕ → FileState) (can : AreApplicableTo entries files) where
   abbrev after : Image
@@ -62,7 +63,9 @@ module _ (entries : List Entry) (files : List ℕ → FileState) (can : AreAppli
     still_made name not = replayed-takes entries (contents last) name (after name) (takes name (contents last name) (ap (λ (f : FileState). f.content) (others name not)))
 
     pub still_takes : IsAtRest files → EachTakes entries after last
-    still_takes rest = grind (arith, common_steps, takes, only_image)
+    still_takes rest = record {
+      each = λ name not text image. takes name text (only_image (rest.stable name) text (subst (λ f. IsImage f text) (others name not) image));
+    }
 
   -- the body stands behind the gate
   module _ (gate : HasClosedGate (files journal_name)) (body : List ℕ) (begins : BeginsWith body entries) (mid : List ℕ → FileState) (over_record : (mid journal_name).content ≡ overwritten 1 body (contents files journal_name))
@@ -75,7 +78,11 @@ module _ (entries : List Entry) (files : List ℕ → FileState) (can : AreAppli
 
     -- the gate is open over the record
     pub opened_over : (last : List ℕ → FileState) → IsStable (last journal_name) → (last journal_name).content ≡ 1 ∷ drop 1 (mid journal_name).content → IsOpenOver entries last
-    opened_over last only is = grind (arith, common_steps, opens, told)
+    opened_over last only is = record {
+      stable = only;
+      opened = opens (last journal_name).content (mid journal_name).content (ap is_some (told (mid journal_name).content refl)) is;
+      found = ap (λ (l : List ℕ). journal_at (drop 1 l)) is ∙ told (1 ∷ drop 1 (mid journal_name).content) refl;
+    }
 
     -- where all files were on the disk
     module _ (rest : IsAtRest files) where
@@ -83,7 +90,13 @@ module _ (entries : List Entry) (files : List ℕ → FileState) (can : AreAppli
       own other text image = only_image (rest.stable other) text image
 
       pub while_opening : (image : Image) → LeavesBody journal_name mid image → Stands image
-      while_opening image left = search (rules, arith, contents, own, cases_Bool, recovers_open, after, told, takes, recovers_closed)
+      while_opening image left =
+          let other_is : (name : List ℕ) → name ≢ journal_name → image name ≡ contents files name =
+          λ name not. own name (image name) (subst (λ f. IsImage f (image name)) (same name not) (left.others name not)) in
+          elim (cases_Bool (is_open (image journal_name))) [
+            | inl opened ↦ inr (recovers_open entries after image can.applicable opened (told (image journal_name) left.body) (λ name not. takes name (image name) (other_is name not)))
+            | inr closed ↦ inl (recovers_closed (contents files) image closed other_is)
+          ]
 
 -- What calls do that write a record behind a closed gate and open the gate over it, where the disk is honest after them. The journal alone is written; where all was on the disk, a crash leaves
 -- what recovers to the files before, or to those that the record makes of them.
@@ -107,7 +120,12 @@ module _ {D : Type 0} (g : Ghosts D) (old : D) (journal : List ℕ) (name_is : j
 
   pub open_writes : (new : D) (r told : Result (Unit {0}) DiskFault) → PassesOver g old new (LeavesClosed journal (g.files old)) → {content : List ℕ} → Puts journal content (g.files old) (g.files new) r
       → OnOk told (IsOpenOver entries (g.files new)) → WritesRecord g entries old new told
-  open_writes new r told time puts opened = grind (arith, common_steps, arming, arming_alone)
+  open_writes new r told time puts opened = record {
+    opened = opened;
+    any_moment = arming new time;
+    others = subst (λ (n : List ℕ). (other : List ℕ) → other ≢ n → g.files new other ≡ g.files old other) name_is puts.others;
+    alone = arming_alone new r time puts;
+  }
 
   pub opened_writes : HasClosedGate (g.files old journal_name) → (body : List ℕ) → BeginsWith body entries → (mid new : D) (r : Result (Unit {0}) DiskFault)
       → PassesOver g old mid (LeavesClosed journal (g.files old)) → Puts journal (overwritten 1 body (g.files old journal).content) (g.files old) (g.files mid) (Ok tt)

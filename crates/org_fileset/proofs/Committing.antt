@@ -1,6 +1,5 @@
 -- What a set's commit needs of its changes, from what is asked of them.
-use Rattle.std.proofs.Common.{rules, ◌≡◌, ◌≢◌, inl, inr, ◌≤◌, ℕ, zero, suc, List, [], ◌∷◌, length, drop, true, false, Some, refl, subst, arith}
-use Rattle.std.proofs.lemmas.Grind.{common_steps}
+use Rattle.std.proofs.Common.{◌≡◌, ◌≢◌, inl, inr, ◌≤◌, ℕ, zero, suc, List, [], ◌∷◌, length, drop, map, true, false, Some, refl, ◌∙◌, subst, arith}
 use Rattle.org_disk.specs.declared.disk.Disk.{Ghosts}
 use Rattle.std.specs.List.{All, AllByRecursion, Contains, IsDistinct}
 use Rattle.std.specs.Map.{keys_of}
@@ -21,6 +20,7 @@ use Rattle.org_disk.specs.Names.{journal_name}
 use Rattle.org_disk.specs.declared.disk.DiskFault.{DiskFault}
 use Rattle.org_splice.specs.Texts.{EditedText, IsEditOf}
 use Rattle.org_journal.specs.declared.record.Entry.{Entry}
+use Rattle.org_splice.specs.declared.patch.Patch.{Patch}
 use Rattle.org_journal.specs.declared.record.Version.TheVariants.{Two}
 use Rattle.org_journal.specs.Record.{IsEntry, IsWellFormed, greatest_length, most_entries}
 use Rattle.org_journal.specs.Recovered.{Image, contents, replayed}
@@ -71,7 +71,9 @@ key_named names changes named q member = (is_member-Decides bytes_eq-Decides nam
     found (change ∷ changes) named (suc k, within, is) = found changes named.1 (k, omega arith, is)
 
 few_changes : (names : List (List ℕ)) (changes : List Change) → IsDistinct bytes_eq (keys_of changes) → length names ≤ most_entries → AllByRecursion (λ (change : Change). Contains names change.0) changes → length changes ≤ most_entries
-few_changes names changes distinct few named = grind (arith, common_steps, length-le_from_is_member, nat_list_eq_equiv, key_named, length-keys_of)
+few_changes names changes distinct few named =
+    let fewer = length-le_from_is_member nat_list_eq_equiv (keys_of changes) names distinct (key_named names changes named) in
+    omega (arith, fewer, few, length-keys_of changes)
 
 same_length : (changes : List Change) (entries : List Entry) → AreEntriesOf changes entries → length entries ≡ length changes
 same_length [] [] are = refl
@@ -81,7 +83,18 @@ same_length (change ∷ changes) [] are = absurd are
 
 each_entry : (changes : List Change) (entries : List Entry) → AreEntriesOf changes entries → AllByRecursion IsCommittable changes → AllByRecursion (IsEntry Two) entries
 each_entry [] [] are can = tt
-each_entry (change ∷ changes) (entry ∷ entries) are can = search (rules, arith, length-map, file_named, each_entry changes entries are.1 can.1)
+each_entry (change ∷ changes) (entry ∷ entries) are can =
+    let pair : Patch → ℕ × List ℕ = λ p. (p.from, p.bytes) in
+    let long : length (map pair entry.patches) ≡ length entry.patches = length-map entry.patches pair in (
+      record {
+        text = are.0.text;
+        name = file_named change entry are.0 can.0.0;
+        few = omega (arith, long, are.0.patches.few);
+        patches = are.0.patches;
+        small = omega (arith, are.0.length_is, can.0.1);
+      },
+      each_entry changes entries are.1 can.1,
+    )
 each_entry [] (entry ∷ entries) are can = absurd are
 each_entry (change ∷ changes) [] are can = absurd are
 
@@ -131,7 +144,15 @@ pub commits_changes : {D A E B F : Type 0} (g : Ghosts D) (changes : List Change
     (r : Result A E) (s : Result B F) → (changes ≡ [] → ⊥) → AreEntriesOf changes entries → AllByRecursion (λ (change : Change). IsEditOf (contents (g.files old) change.0) change.1) changes
     → CommitsOver g (replayed entries (contents (g.files old))) (IsUnwritten entries) old new r → OnOk s (IsCommitted (replayed entries (contents (g.files old))) (g.files old) (g.files new))
     → CommitsOver g (changed changes (contents (g.files old))) (IsOther (keys_of changes)) old new s
-commits_changes g changes entries old new r s some are edits commits done = grind (arith, common_steps, on_ok_weaker, changes_made, contents, changes_left, alone_fewer, others_unwritten)
+commits_changes g changes entries old new r s some are edits commits done = record {
+  done = on_ok_weaker s (λ made. record {
+    made = λ name not. made.made name not ∙ changes_made changes entries (contents (g.files old)) name are edits;
+    rest = made.rest;
+  }) done;
+  any_moment = λ rest. changes_left changes entries (contents (g.files old)) (g.instant old) (g.instant new) (g.left_since old) (g.left_since new) are edits (commits.any_moment rest);
+  recoverable = commits.recoverable;
+  alone = alone_fewer g (IsOther (keys_of changes)) (IsUnwritten entries) old new commits.alone (λ name other. others_unwritten changes entries name are some other);
+}
 
 -- .. as it was written
 pub commits_record : {D : Type 0} (g : Ghosts D) (changes : List Change) (entries record_entries : List Entry) (old new : D) (r : Result (Unit {0}) DiskFault) (s : Result (Unit {0}) SetFault) → (changes ≡ [] → ⊥) → AreEntriesOf changes entries

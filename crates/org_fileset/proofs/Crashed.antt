@@ -1,6 +1,5 @@
 -- A disk that is found after a crash, and an opening of it.
-use Rattle.std.proofs.Common.{◌≡◌, ◌≢◌, ⊎_elim, ℕ, List, length, Option, Some, None, refl, sym, ◌∙◌, ap, subst, arith, is_some, IsTrue}
-use Rattle.std.proofs.lemmas.Grind.{common_steps}
+use Rattle.std.proofs.Common.{◌≡◌, ◌≢◌, inl, ⊎_elim, ℕ, List, length, Option, Some, None, refl, sym, ◌∙◌, ap, subst, arith, is_some, IsTrue}
 use Rattle.std.specs.Prelude.{IsSomeAnd, slice_index}
 use Rattle.org_disk.specs.Disk.{FileState, AreImages}
 use Rattle.org_disk.specs.Names.{journal_name}
@@ -28,7 +27,11 @@ same_recovered (Some recovered_then) one other is also = λ name not. sym (is na
 same_recovered None one other is also = absurd is
 
 is_found : (files : List ℕ → FileState) (P : Image → Type 0) → AllStable files → IsTrue (is_some (recovered (contents files))) → P (contents files) → IsFound P files
-is_found files P all stand has = grind (arith, common_steps, one_image)
+is_found files P all stand has = record {
+  recoverable = inl (λ name not. all name);
+  each_recovers = λ image left. subst (λ (i : Image). IsTrue (is_some (recovered i))) (one_image files all image left) stand;
+  each = λ image left. subst P (one_image files all image left) has;
+}
 
 pub found_image : (texts : Image) (files : List ℕ → FileState) → AllStable files → RecoversTo texts (contents files) → IsFound (RecoversTo texts) files
 found_image texts files all stand = is_found files (RecoversTo texts) all (some_recovered (recovered (contents files)) (λ (i : Image). SameFiles i texts) stand) stand
@@ -59,7 +62,9 @@ pub found_opening : (old files : List ℕ → FileState) → AllStable files →
 found_opening old files all left = is_found files (RecoversAsBefore old) all (some_recovered (recovered (contents files)) (λ (i : Image). SameFiles i left.texts) left.recovers_now) left
 
 pub opened_anew : (texts image : Image) (files : List ℕ → FileState) → AllStable files → RecoversTo texts (contents files) → RecoversAsBefore files image → RecoversTo texts image
-opened_anew texts image files all stand left = grind (arith, common_steps, contents, one_image, recovers_as, same_recovered)
+opened_anew texts image files all stand left =
+    let recovered_then : RecoversTo left.texts (contents files) = subst (RecoversTo left.texts) (sym (one_image files all left.start left.left)) left.recovered_then in
+    recovers_as left.texts texts image (same_recovered (recovered (contents files)) left.texts texts recovered_then stand) left.recovers_now
 
 made_of : (o : Option Image) (now texts : Image) → IsSomeAnd o (SameFiles now) → IsSomeAnd o (λ found. SameFiles found texts) → SameFiles now texts
 made_of (Some recovered_then) now texts made is = λ name not. made name not ∙ is name not

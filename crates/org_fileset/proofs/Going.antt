@@ -3,13 +3,13 @@ use Rattle.std.proofs.Common.{◌≡◌, ◌≢◌, ℕ, List, Some}
 use Rattle.std.specs.Prelude.{IsFalse, slice_get}
 use Rattle.org_disk.specs.declared.disk.Disk.{Ghosts}
 use Rattle.org_disk.specs.CountsFailures.{CountsFailures}
-use Rattle.org_disk.proofs.Accounting.{accounts_then}
+use Rattle.org_disk.proofs.Accounting.{accounts_none, accounts_then}
 use Rattle.org_journal.specs.declared.record.Entry.{Entry}
 use Rattle.org_journal.specs.Record.{is_named}
 use Rattle.org_fileset.specs.Replay.{AreApplicable, AppliesPatchesOver, TakesOver}
 use Rattle.org_fileset.specs.Writes.{LeavesAlone}
-use Rattle.org_fileset.proofs.Replaying.{entry_takes, replays_entry}
-use Rattle.org_fileset.proofs.Writes.{alone_entry}
+use Rattle.org_fileset.proofs.Replaying.{entry_takes, replays_none, replays_entry}
+use Rattle.org_fileset.proofs.Writes.{alone_none, alone_entry}
 
 -- What such calls do, where the disk is honest after them ..
 pub record CallsOn {D : Type 0} (g : Ghosts D) (entries : List Entry) (old new : D) : Type 0 where
@@ -20,6 +20,16 @@ pub record CallsOn {D : Type 0} (g : Ghosts D) (entries : List Entry) (old new :
 pub record GoesOn {D : Type 0} (g : Ghosts D) (entries : List Entry) (old new : D) : Type 0 where
   pub accounts : CountsFailures g old new ⊥
   pub calls : CallsOn g entries old new
+
+-- no call
+pub goes_none : {D : Type 0} (g : Ghosts D) (entries : List Entry) (disk : D) → GoesOn g entries disk disk
+goes_none g entries disk = record {
+  accounts = accounts_none g disk;
+  calls = record {
+    replays = λ honest stable texts takes. replays_none (g.instant disk) (g.left_since disk) (g.files disk) takes;
+    alone = λ honest. alone_none g (λ name. IsFalse (is_named name entries)) disk;
+  };
+}
 
 module _ {D : Type 0} (g : Ghosts D) (entries : List Entry) (i : ℕ) {entry : Entry} {old mid : D} (is : slice_get entries i ≡ Some entry)
     (can : g.honest old → AreApplicable entries) (sofar : GoesOn g entries old mid) where

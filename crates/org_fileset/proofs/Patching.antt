@@ -1,6 +1,5 @@
 -- How the calls on one file go on while patches are applied to it.
-use Rattle.std.proofs.Common.{rules, arith, ◌≡◌, ⊎_elim, ℕ, ◌≤◌, List, length, Result, Ok, Err, Some, refl, sym, subst}
-use Rattle.std.proofs.lemmas.Grind.{common_steps}
+use Rattle.std.proofs.Common.{◌≡◌, ⊎_elim, ℕ, ◌≤◌, List, length, Result, Ok, Err, Some, refl, sym, ◌∙◌, ap, subst}
 use Rattle.std.specs.Prelude.{slice_get}
 use Rattle.org_disk.specs.Disk.{FileState, IsImage, MayLeave, AreLeftBy, Changes, AreImages, Passes, write, cut}
 use Rattle.org_disk.specs.declared.disk.DiskFault.{DiskFault}
@@ -44,12 +43,26 @@ module _ {patches : List (ℕ × List ℕ)} {final : ℕ} {name to : List ℕ} w
   pub applies_call : {m n k : ℕ} {s u v : ℕ → Image → Type 0} {old mid new : List ℕ → FileState} (effect : FileState → FileState) (r : Result (Unit {0}) DiskFault)
       → AppliesPatches patches final name to m n s u old mid → EachPatchedTo patches final to (effect (mid name))
       → Changes effect name mid new r → Passes n k u v (AreLeftBy effect name mid) → AppliesPatches patches final name to m k s v old new
-  applies_call {old = old} {mid = mid} {new = new} effect r sofar after changes time = search (rules, arith, passes_then, may_leave, takes_after)
+  applies_call {old = old} {mid = mid} {new = new} effect r sofar after changes time = record {
+    any_moment = passes_then sofar.any_moment time (λ image left. record {
+      here = may_leave effect (mid name) sofar.takes after (image name) left.here;
+      others = λ other apart. subst (λ f. IsImage f (image other)) (sofar.others other apart) (left.others other apart);
+    });
+    takes = takes_after effect mid new r sofar.takes after changes;
+    others = λ other apart. changes.others other apart ∙ sofar.others other apart;
+  }
 
   -- a call that changes nothing
   pub applies_read : {m n k : ℕ} {s u v : ℕ → Image → Type 0} {old mid new : List ℕ → FileState}
       → AppliesPatches patches final name to m n s u old mid → new ≡ mid → Passes n k u v (AreImages mid) → AppliesPatches patches final name to m k s v old new
-  applies_read {old = old} {mid = mid} {new = new} sofar same time = grind (arith, common_steps)
+  applies_read {old = old} {mid = mid} {new = new} sofar same time = record {
+    any_moment = passes_then sofar.any_moment time (λ image left. record {
+      here = sofar.takes (image name) (left name);
+      others = λ other apart. subst (λ f. IsImage f (image other)) (sofar.others other apart) (left other);
+    });
+    takes = λ text image. sofar.takes text (subst (λ (f : List ℕ → FileState). IsImage (f name) text) same image);
+    others = λ other apart. ap (λ (f : List ℕ → FileState). f other) same ∙ sofar.others other apart;
+  }
 
   -- a write of one of the patches
   pub applies_write : {m n k : ℕ} {s u v : ℕ → Image → Type 0} {old mid new : List ℕ → FileState} (i : ℕ) {from : ℕ} {bytes : List ℕ} (r : Result (Unit {0}) DiskFault)

@@ -1,6 +1,5 @@
 -- The record of a set of changes fits its files, and makes the changed texts of them.
-use Rattle.std.proofs.Common.{rules, ◌≡◌, ◌≢◌, ⊎_elim, ◌≤◌, ℕ, List, [], ◌∷◌, length, true, false, not, refl, sym, ◌∙◌, ap, subst, arith}
-use Rattle.std.proofs.lemmas.Grind.{common_steps}
+use Rattle.std.proofs.Common.{◌≡◌, ◌≢◌, inl, inr, ⊎_elim, ◌≤◌, ℕ, List, [], ◌∷◌, length, true, false, not, refl, sym, ◌∙◌, ap, subst, arith}
 use Rattle.std.specs.Prelude.{IsTrue}
 use Rattle.std.specs.List.{AllByRecursion, IsDistinct}
 use Rattle.std.specs.Map.{keys_of}
@@ -9,7 +8,8 @@ use Rattle.std.proofs.lemmas.Bool.{and_from, false≢true}
 use Rattle.std.proofs.lemmas.Map.Keys.{IsDistinct-tail, IsDistinct-head}
 use Rattle.org_disk.specs.Names.{is_file_name, journal_name}
 use Rattle.org_disk.proofs.Names.{name_cases, same_name}
-use Rattle.org_splice.specs.Texts.{EditedText, IsEditOf}
+use Rattle.org_splice.specs.Patches.{PatchedTo, patched}
+use Rattle.org_splice.specs.Texts.{EditedText, IsEditOf, pairs_of}
 use Rattle.org_journal.specs.declared.record.Entry.{Entry}
 use Rattle.org_journal.specs.declared.record.Version.TheVariants.{Two}
 use Rattle.org_journal.specs.Record.{is_named, names_differ, greatest_length}
@@ -32,14 +32,27 @@ file_named change entry is not = ⊎_elim (λ accepted. accepted) (λ same. absu
 
 each_applicable : (changes : List Change) (entries : List Entry) → AreEntriesOf changes entries → AllByRecursion IsCommittable changes → AllByRecursion IsApplicable entries
 each_applicable [] [] are can = tt
-each_applicable (change ∷ changes) (entry ∷ entries) are can = search (rules, arith, file_named, each_applicable changes entries are.1 can.1)
+each_applicable (change ∷ changes) (entry ∷ entries) are can = (
+  record {
+    name = file_named change entry are.0 can.0.0;
+    patches = are.0.patches;
+    small = omega (arith, are.0.length_is, can.0.1);
+  },
+  each_applicable changes entries are.1 can.1,
+)
 each_applicable [] (entry ∷ entries) are can = absurd are
 each_applicable (change ∷ changes) [] are can = absurd are
 
 -- a name that is no key is no entry's
 no_entry : (name : List ℕ) (changes : List Change) (entries : List Entry) → AreEntriesOf changes entries → AllByRecursion (λ key. bytes_eq name key ≡ false) (keys_of changes) → is_named name entries ≡ false
 no_entry name [] [] are none = refl
-no_entry name (change ∷ changes) (entry ∷ entries) are none = search (rules, arith, name_cases, same_name, false≢true, no_entry name changes entries are.1 none.1)
+no_entry name (change ∷ changes) (entry ∷ entries) are none = elim (name_cases entry.name name) [
+  | inl same ↦
+      let key : name ≡ change.0 = sym same.0 ∙ are.0.name in
+      let here : bytes_eq name change.0 ≡ true = ap (λ (n : List ℕ). bytes_eq n change.0) key ∙ same_name change.0 in
+      absurd (false≢true (sym none.0 ∙ here))
+  | inr other ↦ let e : bytes_eq entry.name name ≡ false = other.1 in rw e (no_entry name changes entries are.1 none.1)
+]
 no_entry name [] (entry ∷ entries) are none = absurd are
 no_entry name (change ∷ changes) [] are none = absurd are
 
@@ -58,7 +71,11 @@ changes_applicable changes entries are distinct can = record { each = each_appli
 -- each text is an edit of its file's
 pub changes_fit : (changes : List Change) (entries : List Entry) (files : Image) → AreEntriesOf changes entries → AllByRecursion (λ (change : Change). IsEditOf (files change.0) change.1) changes → all_fit entries files ≡ true
 changes_fit [] [] files are edits = refl
-changes_fit (change ∷ changes) (entry ∷ entries) files are edits = grind (arith, common_steps, and_from, fits, fits-true, changes_fit changes entries files are.1 edits.1)
+changes_fit (change ∷ changes) (entry ∷ entries) files are edits =
+    let applies : PatchedTo (pairs_of entry.patches) entry.length (files entry.name) change.1.bytes =
+    subst (λ (n : List ℕ). PatchedTo (pairs_of entry.patches) entry.length (files n) change.1.bytes) (sym are.0.name) (are.0.makes (files change.0) edits.0) in
+    and_from (fits (pairs_of entry.patches) entry.length (length (files entry.name))) (all_fit entries files)
+    (fits-true (pairs_of entry.patches) entry.length (length (files entry.name)) applies.fit) (changes_fit changes entries files are.1 edits.1)
 changes_fit [] (entry ∷ entries) files are edits = absurd are
 changes_fit (change ∷ changes) [] files are edits = absurd are
 
@@ -66,6 +83,15 @@ changes_fit (change ∷ changes) [] files are edits = absurd are
 pub changes_made : (changes : List Change) (entries : List Entry) (files : Image) (name : List ℕ) → AreEntriesOf changes entries → AllByRecursion (λ (change : Change). IsEditOf (files change.0) change.1) changes
     → replayed entries files name ≡ changed changes files name
 changes_made [] [] files name are edits = refl
-changes_made (change ∷ changes) (entry ∷ entries) files name are edits = search (rules, arith, name_cases, changes_made changes entries files name are.1 edits.1)
+changes_made (change ∷ changes) (entry ∷ entries) files name are edits = elim (name_cases change.0 name) [
+  | inl same ↦
+      let e : bytes_eq entry.name name ≡ true = ap (λ (n : List ℕ). bytes_eq n name) are.0.name ∙ same.1 in
+      let f : bytes_eq change.0 name ≡ true = same.1 in
+      rw (e, f) (ap (λ (n : List ℕ). patched (pairs_of entry.patches) entry.length (files n)) (sym same.0) ∙ (are.0.makes (files change.0) edits.0).makes)
+  | inr other ↦
+      let e : bytes_eq entry.name name ≡ false = ap (λ (n : List ℕ). bytes_eq n name) are.0.name ∙ other.1 in
+      let f : bytes_eq change.0 name ≡ false = other.1 in
+      rw (e, f) (changes_made changes entries files name are.1 edits.1)
+]
 changes_made [] (entry ∷ entries) files name are edits = absurd are
 changes_made (change ∷ changes) [] files name are edits = absurd are

@@ -1,10 +1,9 @@
 -- The stages of an opening, and what is left in each.
 use Rattle.std.proofs.Common.{◌≡◌, ◌≢◌, ◌⊎◌, inl, inr, ⊎_elim, ℕ, ◌+◌, ◌<◌, ◌≤◌, List, [], ◌∷◌, length, take, drop, get_or, set, true, false, Option, Some, None, Result, Ok, Err, refl, sym, ◌∙◌, ap, subst, arith, length-set, length-take, length-append, ◌++◌}
-use Rattle.std.proofs.lemmas.Grind.{common_steps}
-use Rattle.std.specs.Prelude.{Bool, ◌&&◌, not, IsSomeAnd, is_some, nat_le, if◌then◌else◌}
+use Rattle.std.specs.Prelude.{Bool, ◌&&◌, not, IsSomeAnd, is_some, nat_le, slice_index, ◌==◌, if◌then◌else◌}
 use Rattle.std.specs.List.{AllByRecursion}
 use Rattle.std.specs.Str.{bytes_eq}
-use Rattle.std.proofs.lemmas.Bool.{cases_Bool, cases_lt, cases_eq, and_parts, le-leb, leb-true, false≢true}
+use Rattle.std.proofs.lemmas.Bool.{cases_Bool, cases_lt, cases_eq, and_from, and_parts, le-leb, leb-true, eq-eqb, true≢false, false≢true}
 use Rattle.std.proofs.lemmas.List.{get_or-set_same, get_or-set_other, get_or-take, get_or_append_left}
 use Rattle.org_disk.specs.Disk.{FileState, IsOutside, IsImage, IsStable, AreImages, AreLeftBy, MayLeave, Changes, sync, stable}
 use Rattle.org_disk.specs.Names.{journal_name}
@@ -18,7 +17,7 @@ use Rattle.org_journal.specs.Finding.{Finds}
 use Rattle.org_journal.specs.Gate.{front_size, is_open, HasClosedGate, LeavesClosed}
 use Rattle.org_journal.specs.Reading.{journal_at}
 use Rattle.org_journal.specs.declared.record.Version.TheVariants.{Two}
-use Rattle.org_journal.specs.Record.{IsEntry, IsWellFormed}
+use Rattle.org_journal.specs.Record.{is_named, IsEntry, IsWellFormed}
 use Rattle.org_journal.specs.Recovered.{Image, SameFiles, RecoversTo, IsOpenOverRecord, IsRecoverable, OthersStable, recovered, all_fit, replayed, contents}
 use Rattle.org_fileset.specs.Recovery.{EachRecovers, RecoversAsBefore, is_closed, closed_journal}
 use Rattle.org_fileset.specs.Replay.{TakesTo, IsApplicable, AreApplicable, EachTakes, IsOpenOver, IsReplayable, IsAtRest}
@@ -97,7 +96,10 @@ sync_here file own bytes left = ⊎_elim (λ before. before) (λ after. subst (�
 
 -- an image from within the sync is one from before it
 pub sync_left : (name : List ℕ) (files : List ℕ → FileState) (image : Image) → IsImage (files name) (files name).content → AreLeftBy sync name files image → AreImages files image
-sync_left name files image own left other = grind (arith, common_steps)
+sync_left name files image own left other = elim (name_cases other name) [
+  | inl same ↦ subst (λ (n : List ℕ). IsImage (files n) (image n)) (sym same.0) (sync_here (files name) own (image name) left.here)
+  | inr apart ↦ left.others other apart.0
+]
 
 -- so is one from after it
 pub sync_after : (name : List ℕ) (old new : List ℕ → FileState) (r : Result (Unit {0}) DiskFault) → IsImage (old name) (old name).content → Changes sync name old new r
@@ -138,15 +140,24 @@ with_bytes files name bytes other = if bytes_eq other name then bytes else conte
 module _ (files : List ℕ → FileState) (own : (name : List ℕ) → IsImage (files name) (files name).content) where
   pub one_image : (name bytes : List ℕ) → IsImage (files name) bytes → AreImages files (with_bytes files name bytes)
   unfolding with_bytes
-  one_image name bytes image other = grind (arith, common_steps, name_cases)
+  one_image name bytes image other = elim (name_cases other name) [
+    | inl same ↦ let t : bytes_eq other name ≡ true = same.1 in rw t (subst (λ (n : List ℕ). IsImage (files n) bytes) (sym same.0) image)
+    | inr apart ↦ let f : bytes_eq other name ≡ false = apart.1 in rw f (own other)
+  ]
 
   pub here_is : (name bytes : List ℕ) → with_bytes files name bytes name ≡ bytes
   unfolding with_bytes
-  here_is name bytes = grind (arith, common_steps, name_cases)
+  here_is name bytes = elim (name_cases name name) [
+    | inl same ↦ let t : bytes_eq name name ≡ true = same.1 in rw t refl
+    | inr apart ↦ absurd (apart.0 refl)
+  ]
 
   journal_is : (name bytes : List ℕ) → name ≢ journal_name → with_bytes files name bytes journal_name ≡ contents files journal_name
   unfolding with_bytes
-  journal_is name bytes not = grind (arith, common_steps)
+  journal_is name bytes not = elim (name_cases journal_name name) [
+    | inl same ↦ absurd (not (sym same.0))
+    | inr apart ↦ let f : bytes_eq journal_name name ≡ false = apart.1 in rw f refl
+  ]
 
 module _ (files : List ℕ → FileState) (own : (name : List ℕ) → IsImage (files name) (files name).content) (entries : List Entry) (applicable : AreApplicable entries)
     (over : IsOpenOver entries files) (fit : all_fit entries (contents files) ≡ true) where
@@ -172,7 +183,14 @@ module _ (files : List ℕ → FileState) (own : (name : List ℕ) → IsImage (
   }
 
   pub open_replayable : IsOpenOverRecord files → IsReplayable entries files
-  open_replayable over_record = grind (arith, common_steps, open_takes)
+  open_replayable over_record =
+      let one : Some over_record.entries ≡ Some entries = sym over_record.found ∙ over.found in
+      let same : over_record.entries ≡ entries = cc in
+      record {
+        others = λ name not none. over_record.others name not (ap (λ (l : List Entry). is_named name l) same ∙ none);
+        texts = over_record.texts;
+        takes = open_takes over_record;
+      }
 
   pub recoverable_replayable : IsRecoverable files → IsReplayable entries files
   recoverable_replayable (inl stable) = stable_replayable stable
@@ -189,7 +207,13 @@ closed_stable files shut (inr over_record) = absurd (false≢true (sym shut ∙ 
 
 -- a stable journal of which the gate is closed has it on the disk
 pub shut_gate : (file : FileState) → IsStable file → is_open file.content ≡ false → front_size ≤ length file.content → HasClosedGate file
-shut_gate file stable shut long = grind (arith, common_steps)
+shut_gate file stable shut long = record {
+  nonempty = omega arith;
+  fixed = (omega (arith, stable.least), stable.fixed 0 (omega arith));
+  closed = λ one.
+      let opened : is_open file.content ≡ true = and_from (nat_le front_size (length file.content)) (slice_index file.content 0 == 1) (le-leb front_size (length file.content) long) (eq-eqb (slice_index file.content 0) 1 one) in
+      true≢false (sym opened ∙ shut);
+}
 
 -- The steps of an opening
 

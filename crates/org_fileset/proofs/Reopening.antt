@@ -1,6 +1,5 @@
 -- An opening's steps: a look at the journal, and what finishes what was found there.
-use Rattle.std.proofs.Common.{rules, arith, ◌≡◌, ◌≢◌, inl, inr, ℕ, ◌<◌, ◌≤◌, List, ◌∷◌, length, drop, true, false, Result, Ok, Err, IfOk, OnOk, None, sym, ◌∙◌, ap, subst}
-use Rattle.std.proofs.lemmas.Grind.{common_steps}
+use Rattle.std.proofs.Common.{◌≡◌, ◌≢◌, inl, inr, ℕ, ◌<◌, ◌≤◌, List, ◌∷◌, length, drop, true, false, Result, Ok, Err, IfOk, OnOk, None, sym, ◌∙◌, ap, subst}
 use Rattle.org_disk.specs.declared.disk.Disk.{Ghosts}
 use Rattle.std.specs.Prelude.{IsSomeAnd}
 use Rattle.std.proofs.lemmas.Result.{on_ok_weaker}
@@ -61,7 +60,11 @@ open_as is same = is ∙ ap (λ (l : List Entry). let x : Found = Open l in x) (
 -- a record that was found stands behind an open gate, and can be applied to its files
 pub open_over : (files : List ℕ → FileState) (found : Found) (entries : List Entry) → IsStable (files journal_name) → found ≡ Open entries → IsWritable found → Finds (contents files) (Ok found)
     → IsOpenOver entries files × AreApplicableTo entries files
-open_over files found entries stable is writable finds = grind (arith, common_steps, contents, formed_applicable)
+open_over files found entries stable is writable finds =
+    let over_record = subst (λ (x : Found). Finds (contents files) (Ok x)) is finds in (
+      record { stable = stable; opened = over_record.0; found = over_record.1 },
+      record { applicable = formed_applicable entries (subst IsWritable is writable); fits = over_record.2 },
+    )
 
 module _ {D : Type 0} (g : Ghosts D) where
   -- a sync of the journal, whatever it answers
@@ -80,7 +83,13 @@ module _ {D : Type 0} (g : Ghosts D) where
 
   -- a look behind it
   pub looked_on : (old mid new : D) → IsLookedAt g old mid → LooksOver g mid new → IsLookedAt g old new
-  looked_on old mid new look looks = search (rules, arith, passes_then, alone_then, contents, alone_looks)
+  looked_on old mid new look looks = record {
+    images = λ image left. look.images image (subst (λ (f : List ℕ → FileState). AreImages f image) looks.same left);
+    time = passes_then look.time looks.time look.images;
+    recoverable = λ fit. subst IsRecoverable (sym looks.same) (look.recoverable fit);
+    alone = alone_then g (IsUnconcerned (contents (g.files old) journal_name)) old mid new look.alone
+        (alone_looks g (IsUnconcerned (contents (g.files old) journal_name)) mid new looks);
+  }
 
   -- what is said of one answer is said of another one, where that is no Ok
   pub reopens_as : {A B E F : Type 0} (old new : D) (r : Result A E) (told : Result B F) → ReopensOver g old new r → OnOk told (IsReopened (g.files old) (g.files new))

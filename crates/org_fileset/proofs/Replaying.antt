@@ -9,13 +9,13 @@ use Rattle.org_disk.specs.Disk.{FileState, IsImage, IsStable, AreLeftBy, Changes
 use Rattle.org_disk.specs.Names.{journal_name}
 use Rattle.org_disk.specs.declared.disk.DiskFault.{DiskFault}
 use Rattle.org_disk.proofs.Images.{only_image, stable_is}
-use Rattle.org_disk.proofs.Moments.{passes_then}
+use Rattle.org_disk.proofs.Moments.{passes_then, passes_none}
 use Rattle.org_disk.proofs.Names.{name_cases}
 use Rattle.org_splice.specs.Texts.{pairs_of}
 use Rattle.org_journal.specs.declared.record.Entry.{Entry}
 use Rattle.org_journal.specs.Record.{is_named, names_differ}
 use Rattle.org_journal.specs.Recovered.{Image, contents}
-use Rattle.org_fileset.specs.Replay.{EachPatchedTo, AppliesPatches, TakesTo, AreApplicable, EachTakes, Replays}
+use Rattle.org_fileset.specs.Replay.{EachPatchedTo, AppliesPatches, TakesTo, AreApplicable, EachTakes, Replays, LeavesTaking}
 use Rattle.org_fileset.proofs.Patching.{applies_none, applies_call}
 use Rattle.org_fileset.proofs.Takes.{TakesTo-entry, entry-TakesTo, named_apart, journal_unnamed}
 
@@ -28,6 +28,13 @@ pub entry_takes : (entries : List Entry) (texts : Image) (files : List ℕ → F
     → EachTakes entries texts files → EachPatchedTo (pairs_of entry.patches) entry.length (texts entry.name) (files entry.name)
 entry_takes entries texts files i entry applicable is takes text image =
     TakesTo-entry entries i entry text (texts entry.name) applicable.apart is (takes.each entry.name (not_journal entries i entry applicable is) text image)
+
+pub replays_none : {entries : List Entry} {texts : Image} (m : ℕ) (s : ℕ → Image → Type 0) (files : List ℕ → FileState) → EachTakes entries texts files → Replays entries texts m m s s files files
+replays_none {entries} {texts} m s files takes = record {
+  any_moment = passes_none m s (LeavesTaking (files journal_name).content entries texts);
+  takes = takes;
+  others = λ name none. refl;
+}
 
 -- calls on the file of one entry
 pub replays_entry : {entries : List Entry} {texts : Image} {m n k : ℕ} {s u v : ℕ → Image → Type 0} {old mid new : List ℕ → FileState} (i : ℕ) (entry : Entry)

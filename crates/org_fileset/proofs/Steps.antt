@@ -1,12 +1,12 @@
 -- The patches of an entry, one after the other.
-use Rattle.std.proofs.Common.{◌≡◌, ℕ, zero, suc, ◌+◌, ◌<◌, ◌≤◌, ◌++◌, max, List, [], ◌∷◌, length, get_or, take, Some, refl, ◌∙◌, ap, arith}
+use Rattle.std.proofs.Common.{◌≡◌, ℕ, zero, suc, ◌+◌, ◌<◌, ◌≤◌, ◌++◌, max, List, [], ◌∷◌, length, get_or, take, Some, refl, ◌∙◌, ap, arith, map}
 use Rattle.std.proofs.lemmas.Grind.{common_steps}
 use Rattle.std.specs.Prelude.{slice_get}
-use Rattle.std.proofs.lemmas.List.{take_more}
+use Rattle.std.proofs.lemmas.List.{take_more, take_all, length-map}
 use Rattle.std.proofs.lemmas.Option.{slice_get_read, slice_get-map, get_or_from_slice_get, slice_get_within}
 use Rattle.org_splice.specs.Overwritten.{overwritten}
 use Rattle.org_splice.specs.Texts.{pairs_of}
-use Rattle.org_splice.specs.Patches.{patched_each, end_of, last_end, Rise, BeginWithin, Fit, AreWellFormed}
+use Rattle.org_splice.specs.Patches.{patched_each, end_of, last_end, Rise, BeginWithin, Fit, AreWellFormed, patched}
 use Rattle.org_splice.proofs.Patching.{length-patched_each, last_end-place}
 use Rattle.org_splice.specs.declared.patch.Patch.{Patch}
 
@@ -58,3 +58,12 @@ pub next_small : (patches : List (ℕ × List ℕ)) (final k from : ℕ) (bytes 
     → slice_get patches k ≡ Some (from, bytes) → from + length bytes ≤ final
 next_small patches final k from bytes text formed fit is =
     omega (arith, formed.within, (at_place patches (length text) 0 k from bytes formed.rise fit.begin is).1)
+
+-- all of them written, and the file cut
+pub all_applied : (items patches : List Patch) (k final : ℕ) (text now : List ℕ) → items ≡ patches → length items ≤ k → now ≡ patched_each (take k (pairs_of patches)) text
+    → take final now ≡ patched (pairs_of patches) final text
+all_applied items patches k final text now same done applied =
+    let pair : Patch → ℕ × List ℕ = λ p. (p.from, p.bytes) in
+    let long : length (map pair patches) ≡ length patches = length-map patches pair in
+    let enough : length (pairs_of patches) ≤ k = omega (arith, done, long, ap length same) in
+    ap (λ (l : List ℕ). take final l) (applied ∙ ap (λ (l : List (ℕ × List ℕ)). patched_each l text) (take_all k (pairs_of patches) enough))

@@ -1,6 +1,5 @@
 -- Files that were tried, by writes of no bytes, and a commit that begins with that.
-use Rattle.std.proofs.Common.{rules, ◌≡◌, ◌≢◌, ◌⊎◌, inl, inr, ⊎_elim, ℕ, suc, ◌+◌, ◌<◌, ◌++◌, List, [], ◌∷◌, length, drop, get_or, take, set, Result, Ok, Err, IsErr, sym, ◌∙◌, ap, subst, arith}
-use Rattle.std.proofs.lemmas.Grind.{common_steps}
+use Rattle.std.proofs.Common.{◌≡◌, ◌≢◌, ◌⊎◌, inl, inr, ⊎_elim, ℕ, suc, ◌+◌, ◌<◌, ◌++◌, List, [], ◌∷◌, length, drop, get_or, take, set, Result, Ok, Err, IsErr, sym, ◌∙◌, ap, subst, arith}
 use Rattle.std.proofs.lemmas.Bool.{cases_lt}
 use Rattle.std.proofs.lemmas.Result.{on_ok_weaker}
 use Rattle.std.proofs.lemmas.List.{get_or-take, get_or_append_left, get_or-set_same, get_or-set_other, length-append, length-set, length-take-le}
@@ -9,15 +8,16 @@ use Rattle.org_disk.specs.declared.disk.DiskFault.{DiskFault}
 use Rattle.org_disk.specs.CountsFailures.{LooksOver, PassesOver}
 use Rattle.org_disk.specs.Names.{journal_name}
 use Rattle.org_disk.specs.Disk.{FileState, IsImage, IsOutside, IsStable, AreImages, AreLeftBy, Changes, MayLeave, write}
+use Rattle.org_disk.proofs.Accounting.{looks_then}
 use Rattle.org_disk.proofs.Images.{only_image}
 use Rattle.org_disk.proofs.Moments.{Image, leaves_only, passes_as, passes_then}
 use Rattle.org_disk.proofs.Names.{name_cases}
 use Rattle.org_disk.proofs.Ranges.{nothing_written}
 use Rattle.org_journal.specs.declared.record.Entry.{Entry}
-use Rattle.org_journal.specs.Gate.{HasClosedGate}
+use Rattle.org_journal.specs.Gate.{is_open, HasClosedGate}
 use Rattle.org_journal.specs.Reading.{journal_at}
 use Rattle.org_journal.specs.Recovered.{RecoversTo, SameFiles, contents, replayed}
-use Rattle.org_fileset.specs.Replay.{AreApplicableTo, CommitsEntriesOver, IsAtRest, IsClosedOver, IsCommitted, IsReplayable, ReplaysOver}
+use Rattle.org_fileset.specs.Replay.{AreApplicableTo, CommitsEntriesOver, IsAtRest, IsBeforeOrAfter, IsClosedOver, IsCommitted, IsReplayable, ReplaysOver}
 use Rattle.org_fileset.specs.Writes.{IsUnwritten, TriesOver}
 use Rattle.org_fileset.proofs.OpenGate.{on_ok_never}
 use Rattle.org_fileset.proofs.Commits.{WritesRecord, at_rest_recovers, shut, still_made, still_takes}
@@ -104,7 +104,10 @@ module _ {D : Type 0} (g : Ghosts D) (entries : List Entry) (name : List ℕ) (o
   before bytes may = ⊎_elim (λ image. image) (λ after. subst (λ (f : FileState). IsImage f bytes) nothing after) may
 
   passes : PassesOver g old new (AreLeftBy (write 0 []) name (g.files old)) → PassesOver g old new (AreImages (g.files old))
-  passes time = grind (arith, common_steps)
+  passes time = passes_as time (λ image left n. elim (name_cases n name) [
+    | inl same ↦ subst (λ (m : List ℕ). IsImage (g.files old m) (image m)) (sym same.0) (before (image name) left.here)
+    | inr apart ↦ left.others n apart.0
+  ])
 
   -- what is so of this file is so of each, since the others are the same
   each_file : (P : List ℕ → Type 0) → P name → ((n : List ℕ) → n ≢ name → P n) → (n : List ℕ) → P n
@@ -123,7 +126,14 @@ module _ {D : Type 0} (g : Ghosts D) (entries : List Entry) (name : List ℕ) (o
         images = λ n bytes image. subst (λ (f : FileState). IsImage f bytes) (same n) image;
         others = λ n is. same n;
       }
-  one_try (Err fault) changes time = search (rules, arith, passes, each_file, before)
+  one_try (Err fault) changes time = record {
+    ok = tt;
+    time = passes time;
+    images = each_file (λ n. (bytes : List ℕ) → IsImage (g.files new n) bytes → IsImage (g.files old n) bytes)
+        (λ bytes image. before bytes (changes.err.images bytes image))
+        (λ n apart bytes image. subst (λ (f : FileState). IsImage f bytes) (changes.others n apart) image);
+    others = λ n is. changes.others n (tried n is);
+  }
 
 -- Tries, one after another
 
@@ -131,11 +141,23 @@ module _ {D : Type 0} (g : Ghosts D) (entries : List Entry) where
   -- those before the last went well
   pub tries_then : (old mid new : D) (done : Unit {0}) (result : Result (Unit {0}) DiskFault) → TriesOver g entries old mid (Ok done)
       → TriesOver g entries mid new result → TriesOver g entries old new result
-  tries_then old mid new done result first last = grind (arith, common_steps)
+  tries_then old mid new done result first last =
+      let same : (n : List ℕ) → g.files mid n ≡ g.files old n = λ n. ap (λ (f : List ℕ → FileState). f n) first.ok.same in
+      record {
+        ok = on_ok_weaker result (λ looks. looks_then first.ok looks) last.ok;
+        time = passes_then first.time last.time (λ image left n. subst (λ (f : FileState). IsImage f (image n)) (same n) (left n));
+        images = λ n bytes image. subst (λ (f : FileState). IsImage f bytes) (same n) (last.images n bytes image);
+        others = λ n is. last.others n is ∙ same n;
+      }
 
   -- one failed, and so does the call that made it
   pub tries_failed : (old new : D) (answer result : Result (Unit {0}) DiskFault) → TriesOver g entries old new answer → IsErr result → TriesOver g entries old new result
-  tries_failed old new answer result tries failed = grind (arith, common_steps)
+  tries_failed old new answer result tries failed = record {
+    ok = on_ok_never _ result failed;
+    time = tries.time;
+    images = tries.images;
+    others = tries.others;
+  }
 
 -- A record that is written once its files were tried: they are as at the start.
 
@@ -147,13 +169,23 @@ module _ {D : Type 0} (g : Ghosts D) (entries : List Entry) (old tried : D) (loo
   gate_tried gate = subst (λ (f : List ℕ → FileState). HasClosedGate (f journal_name)) (sym looks.same) gate
 
   pub writes_tried : (new : D) (result : Result (Unit {0}) DiskFault) → WritesRecord g entries tried new result → WritesRecord g entries old new result
-  writes_tried new result writes = grind (arith, common_steps, passes_then, passes_as, at_rest_recovers, contents, alone_then, alone_looks)
+  writes_tried new result writes = record {
+    opened = writes.opened;
+    any_moment = λ rest. passes_then
+        (passes_as looks.time (λ image left. inl (at_rest_recovers (g.files old) rest image left)))
+        (writes.any_moment (subst IsAtRest (sym looks.same) rest))
+        (λ image stands. subst (λ (f : List ℕ → FileState). IsBeforeOrAfter (contents f) (replayed entries (contents f)) image) looks.same stands);
+    others = λ n not. writes.others n not ∙ ap (λ (f : List ℕ → FileState). f n) looks.same;
+    alone = alone_then g (IsUnwritten entries) old tried new (alone_looks g (IsUnwritten entries) old tried looks) writes.alone;
+  }
 
 -- The commit whose files were tried
 
 -- a disk at rest recovers to the files that were made on it
 made_recovers : (files : List ℕ → FileState) → IsAtRest files → {after : Image} → SameFiles (contents files) after → (image : Image) → AreImages files image → RecoversTo after image
-made_recovers files rest {after} made image left = grind (arith, common_steps, contents, only_image, recovers_closed, shut)
+made_recovers files rest {after} made image left =
+    let same : (name : List ℕ) → image name ≡ contents files name = λ name. only_image (rest.stable name) (image name) (left name) in
+    recovers_closed after image (ap is_open (same journal_name) ∙ shut (contents files journal_name) rest.gate.closed) (λ name not. same name ∙ made name not)
 
 module _ {D : Type 0} (g : Ghosts D) (entries : List Entry) (old : D) (only_now : (image : Image) → g.left_since old (g.instant old) image → AreImages (g.files old) image) where
   -- a try failed: nothing was done
@@ -214,7 +246,15 @@ module _ {D : Type 0} (g : Ghosts D) (entries : List Entry) (old : D) (only_now 
 
   -- the commit failed, and so does the call that made it
   pub commits_err : (new : D) (answer result : Result (Unit {0}) DiskFault) → CommitsEntriesOver g entries old new answer → IsErr result → CommitsEntriesOver g entries old new result
-  commits_err new answer result commits failed = grind (arith, common_steps)
+  commits_err new answer result commits failed = record {
+    commits = record {
+      done = on_ok_never _ result failed;
+      any_moment = commits.commits.any_moment;
+      recoverable = commits.commits.recoverable;
+      alone = commits.commits.alone;
+    };
+    closed = on_ok_never _ result failed;
+  }
 
   -- all was done, and the files were tried again
   pub commits_tried : (mid new : D) (done : Unit {0}) (result : Result (Unit {0}) DiskFault) → CommitsEntriesOver g entries old mid (Ok done) → TriesOver g entries mid new result

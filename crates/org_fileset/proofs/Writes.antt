@@ -1,16 +1,15 @@
 -- Calls that leave files alone, one after another.
-use Rattle.std.proofs.Common.{arith, ◌≡◌, ◌≢◌, inl, inr, ℕ, List, [], ◌∷◌, true, false, Result, refl, sym, ◌∙◌, ap}
-use Rattle.std.proofs.lemmas.Grind.{common_steps}
+use Rattle.std.proofs.Common.{◌≡◌, ◌≢◌, inl, inr, ℕ, List, [], ◌∷◌, true, false, Result, refl, sym, ◌∙◌, ap, subst}
 use Rattle.org_disk.specs.declared.disk.Disk.{Ghosts}
 use Rattle.std.specs.Prelude.{Bool, IsFalse, ◌||◌, slice_get, Some}
 use Rattle.std.specs.List.{list_any}
 use Rattle.std.specs.Map.{keys_of}
 use Rattle.std.specs.Str.{bytes_eq}
-use Rattle.org_disk.specs.Disk.{FileState, AreLeftBy, Changes}
+use Rattle.org_disk.specs.Disk.{FileState, IsImage, AreLeftBy, Changes}
 use Rattle.org_disk.specs.CountsFailures.{LooksOver, PassesOver}
 use Rattle.org_disk.specs.Names.{journal_name}
 use Rattle.org_disk.specs.declared.disk.DiskFault.{DiskFault}
-use Rattle.org_disk.proofs.Moments.{Image, passes_none, passes_as}
+use Rattle.org_disk.proofs.Moments.{Image, passes_none, passes_as, passes_then}
 use Rattle.org_disk.proofs.Names.{name_cases}
 use Rattle.org_splice.specs.Texts.{EditedText}
 use Rattle.org_journal.specs.declared.record.Entry.{Entry}
@@ -27,16 +26,25 @@ module _ {D : Type 0} (g : Ghosts D) where
   -- one run of calls after another
   pub alone_then : (These : List ℕ → Type 0) (old mid new : D) → LeavesAlone g These old mid → LeavesAlone g These mid new
       → LeavesAlone g These old new
-  alone_then These old mid new first second = grind (arith, common_steps)
+  alone_then These old mid new first second = record {
+    same = λ name this. second.same name this ∙ first.same name this;
+    time = passes_then first.time second.time (λ image has name this. subst (λ f. IsImage f (image name)) (first.same name this) (has name this));
+  }
 
   -- fewer files
   pub alone_fewer : (These Those : List ℕ → Type 0) (old new : D) → LeavesAlone g Those old new → ((name : List ℕ) → These name → Those name)
       → LeavesAlone g These old new
-  alone_fewer These Those old new alone fewer = grind (arith, common_steps)
+  alone_fewer These Those old new alone fewer = record {
+    same = λ name this. alone.same name (fewer name this);
+    time = passes_as alone.time (λ image has name this. has name (fewer name this));
+  }
 
   -- a call that looks
   pub alone_looks : (These : List ℕ → Type 0) (old new : D) → LooksOver g old new → LeavesAlone g These old new
-  alone_looks These old new looks = grind (arith, common_steps)
+  alone_looks These old new looks = record {
+    same = λ name this. ap (λ (f : List ℕ → FileState). f name) looks.same;
+    time = passes_as looks.time (λ image left name this. left name);
+  }
 
   -- calls on the file of one name, of which these words are said
   pub alone_but : (name : List ℕ) (P : Image → Type 0) (old new : D) → ((other : List ℕ) → other ≢ name → g.files new other ≡ g.files old other) → PassesOver g old new P
@@ -53,6 +61,10 @@ pub alone_called : {D : Type 0} {g : Ghosts D} {effect : FileState → FileState
     → PassesOver g old new (AreLeftBy effect name (g.files old)) → LeavesAlone g (λ other. other ≢ name) old new
 alone_called {g = g} {effect} {name} {old} {new} {result} changes time = alone_call g effect name old new result changes time
 
+-- calls on the file of one name, another that looks, and one more on the file
+pub alone_looked : {D : Type 0} {g : Ghosts D} {These : List ℕ → Type 0} {old mid new : D} → LeavesAlone g These old mid → LooksOver g mid new → LeavesAlone g These old new
+alone_looked {g = g} {These} {old} {mid} {new} sofar looks = alone_then g These old mid new sofar (alone_looks g These mid new looks)
+
 pub alone_more : {D : Type 0} {g : Ghosts D} {effect : FileState → FileState} {name : List ℕ} {old mid new : D} {result : Result (Unit {0}) DiskFault} → LeavesAlone g (λ other. other ≢ name) old mid
     → Changes effect name (g.files mid) (g.files new) result → PassesOver g mid new (AreLeftBy effect name (g.files mid)) → LeavesAlone g (λ other. other ≢ name) old new
 alone_more {g = g} {effect} {name} {old} {mid} {new} {result} sofar changes time = alone_then g (λ other. other ≢ name) old mid new sofar (alone_call g effect name mid new result changes time)
@@ -61,7 +73,9 @@ alone_more {g = g} {effect} {name} {old} {mid} {new} {result} sofar changes time
 pub alone_entry : {D : Type 0} (g : Ghosts D) (entries : List Entry) (i : ℕ) (entry : Entry) (old mid new : D) → slice_get entries i ≡ Some entry
     → LeavesAlone g (λ name. IsFalse (is_named name entries)) old mid → LeavesAlone g (λ other. other ≢ entry.name) mid new
     → LeavesAlone g (λ name. IsFalse (is_named name entries)) old new
-alone_entry g entries i entry old mid new is sofar here = grind (arith, common_steps, alone_then, alone_fewer, named_apart)
+alone_entry g entries i entry old mid new is sofar here =
+    alone_then g (λ name. IsFalse (is_named name entries)) old mid new sofar
+    (alone_fewer g (λ name. IsFalse (is_named name entries)) (λ other. other ≢ entry.name) mid new here (λ name none. named_apart entries i entry name none is))
 
 -- What no record names, and isn't the journal, is left alone by calls on its files ..
 pub alone_applied : {D : Type 0} (g : Ghosts D) (entries : List Entry) (old new : D)

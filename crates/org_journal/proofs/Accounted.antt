@@ -5,6 +5,7 @@ use Rattle.std.specs.Prelude.{Result, Ok, Err, IsErrOf, IsErrAnd}
 use Rattle.org_disk.specs.CountsFailures.{CountsFailures}
 use Rattle.org_disk.specs.declared.disk.Disk.{Ghosts}
 use Rattle.org_disk.proofs.Accounting.{accounts_fine, accounts_then}
+use Rattle.std.proofs.lemmas.Result.{err_from_is_err_and}
 
 -- failure said in other words
 accounts_as : {D : Type 0} {g : Ghosts D} {old new : D} {F G : Type 0} → (F → G) → (G → F)
@@ -33,6 +34,13 @@ accounts_passed {answer = answer} is call = grind (arith, common_steps)
 pub accounts_failed : {D : Type 0} {g : Ghosts D} {old new : D} {Failed : Type 0} → Failed
     → CountsFailures g old new (true ≡ true) → CountsFailures g old new Failed
 accounts_failed failed call = accounts_as (λ f. failed) (λ f. refl) call
+
+-- the fault of a call that failed, which a `?` made another
+pub accounts_told : {D : Type 0} {U E : Type 0} {fault : E} {answer : Result U E} {g : Ghosts D} {old new : D}
+    → IsErrAnd answer (λ y. y ≡ fault) → CountsFailures g old new (true ≡ true) → CountsFailures g old new (IsErrOf answer fault)
+accounts_told {answer = answer} is call =
+    let p = err_from_is_err_and answer is in
+    accounts_failed (cc (p.1, p.2)) call
 
 -- calls that didn't fail, and others after them
 pub accounts_after : {D : Type 0} {T E : Type 0} {x : T} {e : E} {g : Ghosts D} {old mid new : D} {Failed : Type 0}

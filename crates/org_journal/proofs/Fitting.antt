@@ -3,7 +3,7 @@ use Rattle.std.proofs.Common.{◌≡◌, ℕ, suc, ◌+◌, ◌<◌, ◌≤◌, 
 use Rattle.std.proofs.lemmas.Grind.{common_steps}
 use Rattle.std.specs.Prelude.{◌&&◌, nat_le, max, is_some, Ok, Err}
 use Rattle.std.specs.List.{AllByRecursion}
-use Rattle.std.proofs.lemmas.Bool.{false≢true, leb-true, le-leb, le-ltb, lt-ltb, ltb-false}
+use Rattle.std.proofs.lemmas.Bool.{false≢true, leb-true, le-leb, le-ltb, lt-ltb, ltb-false, lt-leb}
 use Rattle.std.proofs.lemmas.List.{drop_all, drop-drop, length-append, length-drop, length-take, take-append-drop, take-append-le, drop-append-le, get_or_append_left}
 use Rattle.byteorder.specs.Endian.{big_number}
 use Rattle.byteorder.specs.Numbers.{big_from-append}
@@ -38,11 +38,42 @@ first_left {A} items i item lt is = rw add-one (drop-cons items i item lt ∙ ap
 none_left : {A : Type 0} (items : List A) (i : ℕ) → length items ≤ i → drop i items ≡ []
 none_left items i le = drop_all i items le
 
+-- nothing has been looked at
+pub fit_start : (patches : List Patch) (final size : ℕ) → AreWellFormed (pairs_of patches) final → FitSoFar patches 0 final size patches
+fit_start patches final size is = record { rise = is.rise; within = is.within; same = refl }
+
 at_first : (patches : List Patch) (i place final size : ℕ) (patch : Patch) → i < length patches → patch ≡ get_or patches i patch → FitSoFar (drop i patches) place final size patches → FitSoFar (patch ∷ drop (i + 1) patches) place final size patches
 at_first patches i place final size patch lt is so_far = subst (λ (left : List Patch). FitSoFar left place final size patches) (first_left patches i patch lt is) so_far
 
 pub fit_ends : (patches : List Patch) (i place final size : ℕ) (patch : Patch) → i < length patches → patch ≡ get_or patches i patch → FitSoFar (drop i patches) place final size patches → patch.from + length patch.bytes ≤ final
 fit_ends patches i place final size patch lt is so_far = grind (arith, common_steps, at_first, last_end_after)
+
+-- ---- entries
+
+pub fit_next : (patches : List Patch) (i place final size : ℕ) (patch : Patch) → i < length patches → patch ≡ get_or patches i patch → patch.from ≤ max size place
+    → FitSoFar (drop i patches) place final size patches → FitSoFar (drop (i + 1) patches) (patch.from + length patch.bytes) final size patches
+fit_next patches i place final size patch lt is begins so_far =
+    let now = at_first patches i place final size patch lt is so_far in
+    let left = pairs_of (drop (i + 1) patches) in
+    let place' = patch.from + length patch.bytes in
+    record {
+      rise = now.rise.1;
+      within = now.within;
+      same = ap (λ (b : Bool). (b && begins_within size place' left) && leb final (max size (last_end place' left))) (sym (le-leb _ _ begins)) ∙ now.same;
+    }
+
+pub fit_stop : (patches : List Patch) (i place final size : ℕ) (patch : Patch) → i < length patches → patch ≡ get_or patches i patch → max size place < patch.from
+    → FitSoFar (drop i patches) place final size patches → false ≡ fits (pairs_of patches) final size
+fit_stop patches i place final size patch lt is late so_far =
+    let now = at_first patches i place final size patch lt is so_far in
+    let left = pairs_of (drop (i + 1) patches) in
+    let place' = patch.from + length patch.bytes in
+    ap (λ (b : Bool). (b && begins_within size place' left) && leb final (max size (last_end place' left))) (sym (lt-leb _ _ late)) ∙ now.same
+
+pub fit_end : (patches : List Patch) (i place final size : ℕ) → length patches ≤ i → FitSoFar (drop i patches) place final size patches → leb final (max size place) ≡ fits (pairs_of patches) final size
+fit_end patches i place final size le so_far =
+    let now = subst (λ (left : List Patch). FitSoFar left place final size patches) (none_left patches i le) so_far in
+    now.same
 
 -- ---- entries
 

@@ -1,6 +1,6 @@
 -- A journal whose record is read begins with the record's bytes, and from such bytes the record is
 -- read.
-use Rattle.std.proofs.Common.{◌≡◌, ℕ, ◌+◌, ◌*◌, ◌-◌, ◌^◌, ◌<◌, ◌≤◌, Bool, true, false, cond, leb, List, [], ◌∷◌, ◌++◌, length, take, drop, get_or, slice_index, Option, Some, None, refl, sym, ap, subst, ◌∙◌, append_assoc, arith, ◌⊎◌, inl, inr, Result, Ok, Err}
+use Rattle.std.proofs.Common.{◌≡◌, ℕ, ◌+◌, ◌*◌, ◌-◌, ◌^◌, ◌<◌, ◌≤◌, Bool, true, false, cond, leb, List, [], ◌∷◌, ◌++◌, length, take, drop, get_or, slice_index, Option, Some, None, refl, sym, ap, subst, ◌∙◌, append_assoc, arith, ◌⊎◌, inl, inr, Result, Ok, Err, zero, suc}
 use Rattle.std.proofs.lemmas.Grind.{common_steps}
 use Rattle.std.specs.Prelude.{◌&&◌, ◌==◌, nat_eq, codes, is_some, IsTrue, IfOk, ◌↔◌}
 use Rattle.std.specs.List.{flat_map, AllByRecursion, starts_with}
@@ -191,6 +191,12 @@ appended5 out o1 o2 o3 o4 o5 a b c d e e1 e2 e3 e4 e5 = grind (arith, common_ste
 pub item_appended : {A : Type 0} (f : A → List ℕ) (out now next : List ℕ) (xs : List A) (i : ℕ) (x : A) → i < length xs → x ≡ get_or xs i x
     → now ≡ out ++ flat_map f (take i xs) → next ≡ now ++ f x → next ≡ out ++ flat_map f (take (i + 1) xs)
 item_appended {A} f out now next xs i x lt is so_far written = grind (arith, common_steps)
+
+-- the item at a place, where each item has P
+pub item_of : {A : Type 0} (P : A → Type 0) (xs : List A) (i : ℕ) (x : A) → AllByRecursion P xs → i < length xs → x ≡ get_or xs i x → P x
+item_of P [] i x all lt is = absurd (omega (arith, lt))
+item_of P (y ∷ ys) zero x all lt is = subst P (sym is) all.0
+item_of P (y ∷ ys) (suc i) x all lt is = item_of P ys i x all.1 (omega (arith, lt)) is
 
 -- a journal of version 2 whose size is written last
 pub sized : (o1 o2 o3 o4 bytes count items : List ℕ) (len size : ℕ) → o1 ≡ 79 ∷ 82 ∷ 71 ∷ 74 ∷ 2 ∷ 0 ∷ 0 ∷ [] → o2 ≡ o1 ++ big_bytes 8 0 → o3 ≡ o2 ++ count → o4 ≡ o3 ++ items

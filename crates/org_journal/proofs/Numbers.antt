@@ -23,6 +23,10 @@ IsBytes-drop n bytes h i = rw get_or-drop (h (n + i))
 pub IsBytes-take : (n : ℕ) (bytes : List ℕ) → IsBytes bytes → IsBytes (take n bytes)
 IsBytes-take n bytes h i = grind (arith, common_steps)
 
+-- the number of patches has 4 bytes
+pub patches_fit : (n : ℕ) → n ≤ 1_000 → n < 4_294_967_296
+patches_fit n few = omega arith
+
 -- what was read by a step, and by the steps after it
 pub bind_some : {A B : Type 0} (r : Option A) (f : A → Option B) (y : B) → (r >>= f) ≡ Some y → (x : A) × (r ≡ Some x) × (f x ≡ Some y)
 bind_some (Some x) f y e = (x, refl, e)

@@ -30,6 +30,10 @@ org_short name e = leb-true (length name) 200 (both_true _ _ (both_true _ _ (bot
 pub name_short : (name : List ℕ) → is_file_name name ≡ true → length name ≤ 208
 name_short name e = length-base name (is_archive_name name) (org_short (base_name name) e)
 
+-- its length has 2 bytes
+pub name_fits : (name : List ℕ) → is_file_name name ≡ true → length name < 65_536
+name_fits name accepted = omega (arith, name_short name accepted)
+
 -- ---- an entry of version 1
 
 old_is : (name : List ℕ) (final from : ℕ) (bytes : List ℕ) → IsUtf8 name → IsTrue (is_file_name name) → final ≤ greatest_length One → Follows 0 final true from (length bytes) → IsEntry One (old_entry name final from bytes)

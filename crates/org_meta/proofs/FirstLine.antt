@@ -1,5 +1,5 @@
 -- The first newline of a closed text ends its first line.
-use Rattle.std.proofs.Common.{◌≡◌, ℕ, ◌+◌, List, [], ◌∷◌, ◌++◌, take, drop, Option, Some, None, arith, eq-eqb}
+use Rattle.std.proofs.Common.{◌≡◌, ℕ, List, [], ◌∷◌, ◌++◌, take, drop, Option, Some, None, arith, eq-eqb}
 use Rattle.std.proofs.lemmas.Grind.{common_steps}
 use Rattle.std.proofs.lemmas.List.{append_cancel_left, drop-drop}
 use Rattle.memchr.specs.Find.{IsFirstByte, is_byte}

@@ -10,6 +10,7 @@ use Rattle.std.proofs.lemmas.Bool.{cases_Bool}
 use Rattle.org_meta.specs.Sections.{SectionParts, split, joined, is_end, value_named, put_before_end, put_in_drawer}
 use Rattle.org_meta.specs.Resplits.{with_drawer_line}
 use Rattle.org_splice.proofs.AllLines.{AllByRecursion-append}
+use Rattle.org_meta.specs.Notes.{with_note}
 
 -- what holds of each line of the parts
 pub record AllParts (P : List ℕ → Type 0) (parts : SectionParts) : Type 0 where
@@ -47,6 +48,16 @@ module _ (P : List ℕ → Type 0) (name line : List ℕ) (own : P line) where
   keeps_put first last ls p = grind (arith, common_steps, all_split, all_joined, split, All-drawer)
 
 -- ---- another rest, another planning
+
+pub keeps_note : (P : List ℕ → Type 0) (note : List ℕ) (ls : List (List ℕ)) → P note → AllByRecursion P ls → AllByRecursion P (joined (with_note note (split ls)))
+keeps_note P note ls own p =
+    let a = all_split P ls p in
+    all_joined P (with_note note (split ls)) (record { planning = a.planning; drawer = a.drawer; rest = (own, a.rest) })
+
+pub keeps_planning : (P : List ℕ → Type 0) (planning ls : List (List ℕ)) → AllByRecursion P planning → AllByRecursion P ls → AllByRecursion P (joined (record (split ls) { planning = planning }))
+keeps_planning P planning ls own p =
+    let a = all_split P ls p in
+    all_joined P (record (split ls) { planning = planning }) (record { planning = own; drawer = a.drawer; rest = a.rest })
 
 -- ---- a line in the LOGBOOK drawer
 

@@ -1,13 +1,12 @@
 -- The lines that a change of a section makes: none has a newline, and none begins with a star.
-use Rattle.std.proofs.Common.{arith, ◌≡◌, eqb, ℕ, zero, suc, Bool, true, false, Option, Some, None, Result, Ok, Err, List, [], ◌∷◌, ◌++◌, length, refl, sym, ap, subst, ◌∙◌, append_assoc, inl, inr}
-use Rattle.std.proofs.lemmas.Grind.{common_steps}
+use Rattle.std.proofs.Common.{◌≡◌, eqb, ℕ, zero, suc, Bool, true, false, Option, Some, None, Result, Ok, Err, List, [], ◌∷◌, ◌++◌, length, refl, sym, ap, subst, ◌∙◌, append_assoc, inl, inr}
 use Rattle.std.specs.Prelude.{codes, filter, if◌then◌else◌, ◌==◌, nat_le, not, ◌&&◌, ◌-◌}
 use Rattle.std.specs.List.{AllByRecursion, list_all}
 use Rattle.std.specs.Result.{result_map_both}
 use Rattle.std.proofs.lemmas.Bool.{cases_Bool, false≢true}
 use Rattle.org_splice.specs.Blanks.{is_blank, is_trailing, front, behind}
 use Rattle.org_splice.proofs.Ends.{front_behind, front_passes}
-use Rattle.org_stamp.specs.Calendar.{Moment}
+use Rattle.org_stamp.specs.Calendar.{Moment, weekday_of}
 use Rattle.org_fault.specs.declared.refusal.Refusal.{Refusal}
 use Rattle.org_fault.specs.declared.refusal.Refusal.TheVariants.{BadRepeat, DateRange}
 use Rattle.org_stamp.specs.declared.kind.Times.{Times}
@@ -19,7 +18,7 @@ use Rattle.org_stamp.specs.declared.kind.Mark.{Mark}
 use Rattle.org_stamp.specs.declared.kind.Mark.TheVariants.{Cumulate, CatchUp, Restart}
 use Rattle.org_stamp.specs.declared.kind.Interval.{Interval}
 use Rattle.org_stamp.specs.declared.kind.Repeater.{Repeater}
-use Rattle.org_stamp.specs.Stamp.{Part, StampValue, IsStampText, HasParts, has_one_time, first_repeater, opening, closing, clock_text, time_text, end_text, cookies_text, stamp_text}
+use Rattle.org_stamp.specs.Stamp.{Part, StampValue, IsStampText, HasParts, is_cookie, has_one_time, first_repeater, opening, closing, clock_text, date_text, day_name, time_text, end_text, cookies_text, stamp_text}
 use Rattle.org_stamp.specs.Repeat.{in_base, is_hour, in_range, moved, restarted, repeated, repeated_as, repeated_by}
 use Rattle.org_meta.specs.declared.entry.Word.{Word}
 use Rattle.org_meta.specs.declared.entry.Word.TheVariants.{Closed, Deadline, Scheduled}
@@ -32,7 +31,7 @@ use Rattle.org_meta.proofs.ClosedClocks.{NoStar, begins_plainly, blanks_line, mo
 use Rattle.org_meta.proofs.Computed.{entries_repeat}
 use Rattle.org_meta.proofs.Flat.{Flat, empty_line, both_lines, with_first_byte, tested, day_line, date_line, clock_text_line}
 use Rattle.org_meta.proofs.Keeping.{AllParts}
-use Rattle.org_meta.proofs.PlanningText.{some_is, bind_some, entry_read, entries_ended, entries_next, planning_read}
+use Rattle.org_meta.proofs.PlanningText.{some_is, none_some, bind_some, entry_read, entries_ended, entries_full, entries_next, planning_read}
 use Rattle.org_meta.proofs.Replanned.{BeginsWithWord, others_later, others_repeat, repeated_begins, same_text}
 
 -- a line that may stand in a section
@@ -64,11 +63,18 @@ parts_flat bytes (x ∷ ps) has p =
 
 kept_flat : (test : Part → Bool) (ps : List Part) → AllByRecursion FlatPart ps → AllByRecursion FlatPart (filter test ps)
 kept_flat test [] all = tt
-kept_flat test (p ∷ ps) all = grind (arith, common_steps, kept_flat test ps all.1)
+kept_flat test (p ∷ ps) all =
+    elim (cases_Bool (test p)) [
+      | inl e ↦ rw e (all.0, kept_flat test ps all.1)
+      | inr e ↦ rw e (kept_flat test ps all.1)
+    ]
 
 -- those of a stamp that is written in a line
 cookies_flat : (text : List ℕ) (s : StampValue) → IsStampText text s → Flat text → AllByRecursion FlatPart s.cookies
-cookies_flat text s is p = grind (arith, common_steps, front_line, back_line, kept_flat, parts_flat)
+cookies_flat text s is p =
+    let all : Flat ((opening s.active ∷ is.date) ++ (is.tail ++ closing s.active ∷ [])) = subst Flat is.split p in
+    let tail = front_line is.tail (closing s.active ∷ []) (back_line (opening s.active ∷ is.date) (is.tail ++ closing s.active ∷ []) all) in
+    subst (AllByRecursion FlatPart) is.says.cookies (kept_flat (λ p. is_cookie p.kind) is.parts (parts_flat is.tail is.parts is.has_parts tail))
 
 cookies_line : (ps : List Part) → AllByRecursion FlatPart ps → Flat (cookies_text ps)
 cookies_line [] all = empty_line
@@ -91,7 +97,14 @@ closing_byte true = with_first_byte 62 [] refl empty_line
 closing_byte false = with_first_byte 93 [] refl empty_line
 
 stamp_line : (s : StampValue) → AllByRecursion FlatPart s.cookies → Flat (stamp_text s)
-stamp_line s all = grind (arith, common_steps, opening_line, both_lines, date_line, with_first_byte, day_line, time_line, cookies_line, closing_byte)
+stamp_line s all =
+    let day : List ℕ = 32 ∷ day_name (weekday_of s.day) in
+    opening_line s.active _
+    (both_lines (((date_text s.day ++ day) ++ time_text s.time) ++ cookies_text s.cookies) (closing s.active ∷ [])
+    (both_lines ((date_text s.day ++ day) ++ time_text s.time) (cookies_text s.cookies)
+    (both_lines (date_text s.day ++ day) (time_text s.time) (both_lines (date_text s.day) day (date_line s.day) (with_first_byte 32 _ refl (day_line (weekday_of s.day)))) (time_line s.time))
+    (cookies_line s.cookies all))
+    (closing_byte s.active))
 
 -- ---- a stamp that repeats keeps its cookies
 
@@ -151,7 +164,11 @@ abbrev FlatRead : List PlanningEntry × List ℕ → Type 0
 FlatRead r = AllByRecursion FlatEntry r.0 × Flat r.1
 
 entries_flat : (n : ℕ) (text : List ℕ) (r : List PlanningEntry × List ℕ) → entries_at n text ≡ Some r → Flat text → FlatRead r
-entries_flat zero text r is p = grind (arith, common_steps)
+entries_flat zero text r is p =
+    elim (cases_Bool (list_all is_trailing text)) [
+      | inl end ↦ subst FlatRead (some_is ([], text) r (sym (entries_ended zero text end) ∙ is)) (tt, p)
+      | inr other ↦ absurd (none_some (sym (entries_full text other) ∙ is))
+    ]
 entries_flat (suc n) text r is p =
     elim (cases_Bool (list_all is_trailing text)) [
       | inl end ↦ subst FlatRead (some_is ([], text) r (sym (entries_ended (suc n) text end) ∙ is)) (tt, p)
@@ -200,13 +217,23 @@ word_begins indentation Scheduled more blank = begins_plainly indentation 83 (co
 
 -- a planning line with these bytes as its entries
 entries_section_line : (p : PlanningLine) (text : List ℕ) → FlatPlanning p → Flat text → BeginsWithWord text → SectionLine (p.indentation ++ (text ++ p.tail))
-entries_section_line p text flat line b = grind (arith, common_steps, append_assoc, both_lines, word_begins)
+entries_section_line p text flat line b =
+    let shape : p.indentation ++ (text ++ p.tail) ≡ p.indentation ++ (word_text b.word ++ (b.more ++ p.tail)) =
+    ap (λ (t : List ℕ). p.indentation ++ (t ++ p.tail)) b.is ∙ ap (λ (t : List ℕ). p.indentation ++ t) (append_assoc (word_text b.word) b.more p.tail) in
+    record {
+      flat = both_lines p.indentation (text ++ p.tail) flat.indentation (both_lines text p.tail line flat.tail);
+      begins = subst NoStar (sym shape) (word_begins p.indentation b.word (b.more ++ p.tail) flat.blank);
+    }
 
 -- ---- without CLOSED, and with it
 
 kept_line : (es : List PlanningEntry) → AllByRecursion FlatEntry es → Flat (kept_text es)
 kept_line [] all = empty_line
-kept_line (e ∷ es) all = grind (arith, common_steps, kept_line es all.1)
+kept_line (e ∷ es) all =
+    elim (cases_Bool (is_closed e)) [
+      | inl closed ↦ rw closed (kept_line es all.1)
+      | inr kept ↦ rw kept (both_lines (entry_text e) (kept_text es) (entry_line e all.0) (kept_line es all.1))
+    ]
 
 kept_begins : (es : List PlanningEntry) → has_others es ≡ true → BeginsWithWord (kept_text es)
 kept_begins [] some = absurd (false≢true some)
@@ -223,10 +250,18 @@ kept_begins (e ∷ es) some =
     with_entry e es kept = rw kept refl
 
 pub without_closed_lines : (line : List ℕ) (p : PlanningLine) → planning_of line ≡ Some p → Flat line → AllByRecursion SectionLine (without_closed p)
-without_closed_lines line p is flat = grind (arith, common_steps, planned, cases_Bool, entries_section_line, kept_line, kept_begins)
+without_closed_lines line p is flat =
+    let f = planned line p is flat in
+    elim (cases_Bool (has_others p.entries)) [
+      | inl some ↦ rw some (entries_section_line p (kept_text p.entries) f (kept_line p.entries f.entries) (kept_begins p.entries some), tt)
+      | inr none ↦ rw none tt
+    ]
 
 pub closed_text_line : (now : Moment) → SectionLine (closed_text now)
-closed_text_line now = grind (arith, common_steps)
+closed_text_line now = record {
+  flat = both_lines (codes "CLOSED: ") (moment_text now) (tested (codes "CLOSED: ") refl) (moment_line now);
+  begins = record { first = 67; others = codes "LOSED: " ++ moment_text now; is = refl; other = refl };
+}
 
 pub with_closed_line : (now : Moment) (line : List ℕ) (p : PlanningLine) → planning_of line ≡ Some p → Flat line → SectionLine (with_closed now p)
 with_closed_line now line p is flat =
@@ -245,7 +280,9 @@ with_closed_line now line p is flat =
 -- ---- repeated
 
 repeated_stamp_line : (now : Moment) (e : PlanningEntry) (text : List ℕ) (r : Result StampValue Refusal) → repeated e.stamp now ≡ r → result_map_both (entry_with e) (λ why. why) r ≡ Ok text → FlatEntry e → Flat text
-repeated_stamp_line now e text (Ok s) same is p = grind (arith, common_steps, entry_with_line, repeated_cookies)
+repeated_stamp_line now e text (Ok s) same is p =
+    let whole : entry_with e s ≡ text = cc in
+    subst Flat whole (entry_with_line e s p (subst (AllByRecursion FlatPart) (sym (repeated_cookies e.stamp s now same)) p.cookies))
 repeated_stamp_line now e text (Err fault) same is p = absurd cc
 
 repeated_entry_line : (now : Moment) (e : PlanningEntry) (text : List ℕ) → repeated_entry now e ≡ Ok text → FlatEntry e → Flat text
@@ -279,7 +316,14 @@ quoted_line : (state : List ℕ) → Flat state → Flat (quoted state)
 quoted_line state p = with_first_byte 34 _ refl (both_lines state _ p (with_first_byte 34 _ refl (blanks_line (10 - length state))))
 
 pub note_is_line : (new old : List ℕ) (now : Moment) → Flat new → Flat old → SectionLine (note_line new old now)
-note_is_line new old now is was = grind (arith, common_steps, both_lines, tested, quoted_line, with_first_byte, moment_line)
+note_is_line new old now is was =
+    let tail : List ℕ = quoted new ++ (codes " from " ++ (quoted old ++ (32 ∷ moment_text now))) in
+    record {
+      flat = both_lines (codes "- State ") tail (tested (codes "- State ") refl)
+          (both_lines (quoted new) _ (quoted_line new is)
+          (both_lines (codes " from ") _ (tested (codes " from ") refl) (both_lines (quoted old) _ (quoted_line old was) (with_first_byte 32 _ refl (moment_line now)))));
+      begins = record { first = 45; others = codes " State " ++ tail; is = refl; other = refl };
+    }
 
 pub property_is_line : (name value : List ℕ) → Flat name → Flat value → SectionLine (property_line name value)
 property_is_line name value is says = by_test (length value == 0)
@@ -317,7 +361,9 @@ module _ (P : List ℕ → Type 0) (flat : (l : List ℕ) → P l → Flat l) (o
           subst (AllParts P) same (record { planning = all_own (some p) (made l p is (flat l all)); drawer = a.drawer; rest = a.rest })
 
       by_lines : (ls : List (List ℕ)) → AllByRecursion P ls → replanned none some parts ls ≡ Ok new → AllParts P new
-      by_lines [] all e = grind (arith, common_steps, all_own)
+      by_lines [] all e =
+          let same : record parts { planning = none } ≡ new = cc in
+          subst (AllParts P) same (record { planning = all_own none first; drawer = a.drawer; rest = a.rest })
       by_lines (l ∷ ls) all e = by_plan l (planning_of l) refl all.0 e
 
   pub cleared_parts : (parts new : SectionParts) → AllParts P parts → clear_closed parts ≡ Ok new → AllParts P new

@@ -83,6 +83,9 @@ pub entries_ended : (n : ℕ) (text : List ℕ) → list_all is_trailing text �
 entries_ended zero text end = rw end refl
 entries_ended (suc n) text end = rw end refl
 
+pub entries_full : (text : List ℕ) → list_all is_trailing text ≡ false → entries_at 0 text ≡ None
+entries_full text other = rw other refl
+
 pub entries_next : (n : ℕ) (text : List ℕ) → list_all is_trailing text ≡ false → entries_at (suc n) text ≡ (entry_at text >>= λ e. entries_at n e.1 >>= λ es. Some (e.0 ∷ es.0, es.1))
 entries_next n text other = rw other refl
 

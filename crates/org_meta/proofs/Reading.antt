@@ -1,12 +1,12 @@
 -- A property that was put is read.
-use Rattle.std.proofs.Common.{rules, ◌≡◌, ℕ, ◌-◌, ◌<◌, Bool, true, false, ◌&&◌, eqb, Option, Some, None, List, [], ◌∷◌, ◌++◌, length, take, drop, map, refl, sym, ap, ◌∙◌, arith, append_assoc, length-append}
-use Rattle.std.proofs.lemmas.Grind.{common_steps}
+use Rattle.std.proofs.Common.{◌≡◌, ℕ, suc, ◌-◌, ◌<◌, ◌≤◌, Bool, true, false, ◌&&◌, eqb, Option, Some, None, List, [], ◌∷◌, ◌++◌, length, take, drop, get_or, map, refl, sym, ap, ◌∙◌, arith, inl, inr, append_assoc, length-append}
 use Rattle.std.specs.Prelude.{codes, is_some, not, ◌==◌, if◌then◌else◌}
 use Rattle.std.specs.Str.{str_eq_ignore_ascii_case}
 use Rattle.std.specs.Char.{to_ascii_lowercase}
 use Rattle.std.specs.List.{prefix_len, list_all}
 use Rattle.std.proofs.Math.Dec.{eqb-suc-zero}
 use Rattle.std.proofs.lemmas.Bool.{cases_Bool, false≢true}
+use Rattle.std.proofs.lemmas.Bool.Decides.{nat_tests}
 use Rattle.std.proofs.lemmas.List.{take_at}
 use Rattle.std.proofs.lemmas.List.Folds.{list_all-append}
 use Rattle.std.proofs.lemmas.Slice.Eq.{bytes_eq-Decides}
@@ -16,7 +16,7 @@ use Rattle.org_meta.specs.Sections.{SectionParts, NodeProperty, is_name_run, is_
 use Rattle.org_stamp.specs.Calendar.{Moment}
 use Rattle.org_meta.specs.Moments.{moment_text}
 use Rattle.org_meta.specs.Notes.{quoted, note_line}
-use Rattle.org_meta.proofs.Trims.{behind_front, front_front, behind_step, trim_behind, trim_either}
+use Rattle.org_meta.proofs.Trims.{behind_front, front_front, behind_step, trim_all, trim_more, trim_behind, trim_either}
 
 -- ---- a mark is no end where its name is none
 
@@ -44,12 +44,32 @@ mark_trimmed : (name tail : List ℕ) → trimmed (58 ∷ (name ++ 58 ∷ tail))
 mark_trimmed name tail = trim_behind is_trailing (58 ∷ name) 58 tail refl
 
 no_end : (name tail : List ℕ) → str_eq_ignore_ascii_case name (codes "END") ≡ false → is_end (58 ∷ (name ++ 58 ∷ tail)) ≡ false
-no_end name tail other = grind (arith, common_steps, cases_Bool, mark_trimmed, bytes_eq-Decides, end_name, tail_is, false≢true)
+no_end name tail other =
+    elim (cases_Bool (is_end (58 ∷ (name ++ 58 ∷ tail)))) [
+      | inl end ↦
+          let same : str_eq_ignore_ascii_case (58 ∷ (name ++ 58 ∷ trimmed_end tail)) (codes ":END:") ≡ true =
+          ap (λ t. str_eq_ignore_ascii_case t (codes ":END:")) (sym (mark_trimmed name tail)) ∙ end in
+          let bytes = (bytes_eq-Decides (map to_ascii_lowercase (58 ∷ (name ++ 58 ∷ trimmed_end tail))) (map to_ascii_lowercase (codes ":END:"))).0 same in
+          let is_name = end_name name (trimmed_end tail) (tail_is _ _ _ _ bytes) in
+          absurd (false≢true (sym other ∙ (bytes_eq-Decides (map to_ascii_lowercase name) (map to_ascii_lowercase (codes "END"))).1 is_name))
+      | inr none ↦ none
+    ]
 
 -- ---- what a mark with a name and a value says
 
+last_at : (xs : List ℕ) → get_or (xs ++ 58 ∷ []) (length (xs ++ 58 ∷ []) - 1) 0 ≡ 58
+last_at [] = refl
+last_at (x ∷ []) = refl
+last_at (x ∷ y ∷ xs) =
+    let n : length (x ∷ ((y ∷ xs) ++ 58 ∷ [])) - 1 ≡ suc (length ((y ∷ xs) ++ 58 ∷ []) - 1) = omega (arith, length-append xs (58 ∷ [])) in
+    ap (λ k. get_or (x ∷ ((y ∷ xs) ++ 58 ∷ [])) k 0) n ∙ last_at (y ∷ xs)
+
 named_run : (n : ℕ) (ns : List ℕ) → is_name_run (58 ∷ ((n ∷ ns) ++ 58 ∷ [])) ≡ true
-named_run n ns = grind (arith, common_steps)
+named_run n ns =
+    let run = 58 ∷ ((n ∷ ns) ++ 58 ∷ []) in
+    let long : 3 ≤ length run = omega (arith, length-append ns (58 ∷ [])) in
+    let last : get_or run (length run - 1) 0 ≡ 58 = last_at (58 ∷ n ∷ ns) in
+    grind (arith, nat_tests)
 
 read_run : (n : ℕ) (ns line w : List ℕ) → trimmed line ≡ (58 ∷ ((n ∷ ns) ++ 58 ∷ [])) ++ w → list_all is_solid (n ∷ ns) ≡ true → prefix_len is_solid w ≡ 0 → property_of line ≡ Some (record { name = n ∷ ns; value = behind is_blank w })
 read_run n ns line w is solid ends =
@@ -64,7 +84,11 @@ read_run n ns line w is solid ends =
     ∙ rw (named_run n ns) (ap (λ (m : List ℕ). Some (record { name = m; value = behind is_blank w })) name)
 
 blank_ends : (value : List ℕ) → prefix_len is_solid (trimmed_end (32 ∷ value)) ≡ 0
-blank_ends value = grind (arith, common_steps)
+blank_ends value =
+    elim (cases_Bool (list_all is_trailing (32 ∷ value))) [
+      | inl all ↦ ap (prefix_len is_solid) (trim_all is_trailing (32 ∷ value) all)
+      | inr some ↦ ap (prefix_len is_solid) (trim_more is_trailing 32 value some)
+    ]
 
 pub property_read : (n : ℕ) (ns value : List ℕ) → list_all is_solid (n ∷ ns) ≡ true → property_of (property_line (n ∷ ns) value) ≡ Some (record { name = n ∷ ns; value = trimmed value })
 property_read n ns [] solid = read_run n ns (property_line (n ∷ ns) []) [] (mark_trimmed (n ∷ ns) [] ∙ ap (λ (t : List ℕ). 58 ∷ t) (sym (append_assoc (n ∷ ns) (58 ∷ []) []))) solid refl
@@ -80,7 +104,10 @@ property_read n ns (v ∷ vs) solid =
 
 no_end_line : (name value : List ℕ) → str_eq_ignore_ascii_case name (codes "END") ≡ false → is_end (property_line name value) ≡ false
 no_end_line name [] other = no_end name [] other
-no_end_line name (v ∷ vs) other = grind (arith, common_steps, no_end)
+no_end_line name (v ∷ vs) other =
+    let some : eqb (length (v ∷ vs)) 0 ≡ false = eqb-suc-zero (length vs) in
+    let line : property_line name (v ∷ vs) ≡ 58 ∷ (name ++ (58 ∷ 32 ∷ v ∷ vs)) = rw some refl in
+    ap is_end line ∙ no_end name (32 ∷ v ∷ vs) other
 
 -- ---- in a drawer
 
@@ -101,7 +128,17 @@ put_later name line l ls other none = rw (other, none) refl
 
 value_put : (name line : List ℕ) (ls : List (List ℕ)) → is_end line ≡ false → is_some (value_named name line) ≡ true → value_before_end name (put_before_end name line ls) ≡ value_named name line
 value_put name line [] other some = value_here name line [] other some
-value_put name line (l ∷ ls) other some = search (rules, arith, cases_Bool, put_at_end, value_here, put_there, put_later, value_later, value_put name line ls other some)
+value_put name line (l ∷ ls) other some =
+    elim (cases_Bool (is_end l)) [
+      | inl end ↦ ap (value_before_end name) (put_at_end name line l ls end) ∙ value_here name line (l ∷ ls) other some
+      | inr inside ↦
+          elim (cases_Bool (is_some (value_named name l))) [
+            | inl found ↦ ap (value_before_end name) (put_there name line l ls inside found) ∙ value_here name line ls other some
+            | inr none ↦
+                ap (value_before_end name) (put_later name line l ls inside none) ∙ value_later name l (put_before_end name line ls) inside none
+                ∙ value_put name line ls other some
+          ]
+    ]
 
 drawer_put : (name line : List ℕ) (drawer : List (List ℕ)) → is_end line ≡ false → is_some (value_named name line) ≡ true → value_before_end name (drop 1 (put_in_drawer name line drawer)) ≡ value_named name line
 drawer_put name line [] other some = value_here name line (codes ":END:" ∷ []) other some

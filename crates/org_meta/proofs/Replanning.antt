@@ -1,5 +1,5 @@
 -- Other planning lines in a section.
-use Rattle.std.proofs.Common.{◌≡◌, ℕ, true, false, Some, None, Result, Ok, Err, List, [], ◌∷◌, ◌++◌, length, take, refl, sym, ap, subst, ◌∙◌, inl, inr, arith}
+use Rattle.std.proofs.Common.{◌≡◌, ℕ, true, false, Some, None, Result, Ok, Err, List, [], ◌∷◌, ◌++◌, length, take, refl, sym, ap, subst, ◌∙◌, inl, inr, arith, append_assoc}
 use Rattle.std.proofs.lemmas.Grind.{common_steps}
 use Rattle.std.proofs.lemmas.Bool.{cases_Bool}
 use Rattle.org_splice.specs.Lines.{terminated, print_lines, IsLine, lines_of}
@@ -14,8 +14,8 @@ use Rattle.org_fault.proofs.Faults.{refused_as}
 use Rattle.org_meta.specs.Lines.{BeginsWith}
 use Rattle.org_meta.specs.Edits.{Rewrites, ChangesNothing}
 use Rattle.org_meta.specs.Sections.{SectionParts, AreSections, split, joined, is_planning, planning_size}
-use Rattle.org_meta.specs.Planning.{PlanningEntry, PlanningLine, planning_of, has_repeater, AreRepeated, replanned, replanned_line, has_closed, has_closed_entry, without_closed, clear_closed}
-use Rattle.org_meta.specs.Replans.{RewritesOk, HasNoRepeater, IsRefusedRepeat, RewritesRepeated, RewritesRepeatedIn, repeated_line}
+use Rattle.org_meta.specs.Planning.{PlanningEntry, PlanningLine, planning_of, has_repeater, AreRepeated, replanned, replanned_line, has_closed, has_closed_entry, without_closed, clear_closed, closed_text, kept_text, has_others, with_closed}
+use Rattle.org_meta.specs.Replans.{RewritesOk, HasNoRepeater, IsRefusedRepeat, RewritesRepeated, RewritesRepeatedIn, repeated_line, PutsAllRepeated}
 use Rattle.org_splice.proofs.Lines.{print_lines-append, lines_of-lines}
 use Rattle.org_splice.proofs.AllLines.{AllByRecursion-take}
 use Rattle.org_meta.proofs.Drawers.{part_lines}
@@ -113,8 +113,27 @@ module _ (section : List ℕ) (slices : Sections) (whole : terminated section �
 
 -- ---- repetition
 
+line_shape : (i c k t : List ℕ) → i ++ (c ++ 32 ∷ []) ++ (k ++ (t ++ 10 ∷ [])) ≡ (i ++ (c ++ (32 ∷ (k ++ t)))) ++ 10 ∷ []
+line_shape i c k t = simp append_assoc
+
+pub with_closed_bytes : (o0 o1 o2 : List ℕ) (now : Moment) (p : PlanningLine) → o0 ≡ p.indentation → o1 ≡ o0 ++ (closed_text now ++ 32 ∷ []) → o2 ≡ o1 ++ (kept_text p.entries ++ (p.tail ++ 10 ∷ [])) → has_others p.entries ≡ true
+    → o2 ≡ with_closed now p ++ 10 ∷ []
+with_closed_bytes o0 o1 o2 now p e0 e1 e2 others =
+    let more = kept_text p.entries ++ (p.tail ++ 10 ∷ []) in
+    let line : with_closed now p ≡ p.indentation ++ (closed_text now ++ (32 ∷ (kept_text p.entries ++ p.tail))) = rw others refl in
+    e2 ∙ ap (λ (t : List ℕ). t ++ more) (e1 ∙ ap (λ (t : List ℕ). t ++ (closed_text now ++ 32 ∷ [])) e0) ∙ line_shape p.indentation (closed_text now) (kept_text p.entries) p.tail ∙ ap (λ (t : List ℕ). t ++ 10 ∷ []) (sym line)
+
+repeated_shape : (i r t : List ℕ) → (i ++ r) ++ (t ++ 10 ∷ []) ≡ (i ++ (r ++ t)) ++ 10 ∷ []
+repeated_shape i r t = simp append_assoc
+
 pub same_fault : (now : Moment) (es fs : List PlanningEntry) (fault : Fault Refusal) → es ≡ fs → IfRefusal fault (λ why. AreRepeated es now (Err why)) → IfRefusal fault (λ why. AreRepeated fs now (Err why))
 same_fault now es fs fault same wrong = let P : List PlanningEntry → Type 0 = λ es. IfRefusal fault (λ why. AreRepeated es now (Err why)) in subst P same wrong
+
+pub repeated_bytes : (now : Moment) (p : PlanningLine) (es : List PlanningEntry) (o0 o1 o2 : List ℕ) → es ≡ p.entries → o0 ≡ p.indentation → PutsAllRepeated es now o0 o1 → o2 ≡ o1 ++ (p.tail ++ 10 ∷ [])
+    → (text : List ℕ) × AreRepeated p.entries now (Ok text) × (o2 ≡ repeated_line p text ++ 10 ∷ [])
+repeated_bytes now p es o0 o1 o2 same e0 puts e2 =
+    let Q : List PlanningEntry → Type 0 = λ es. AreRepeated es now (Ok puts.text) in
+    (puts.text, subst Q same puts.are, e2 ∙ ap (λ (t : List ℕ). t ++ (p.tail ++ 10 ∷ [])) (puts.bytes ∙ ap (λ (t : List ℕ). t ++ puts.text) e0) ∙ repeated_shape p.indentation puts.text p.tail)
 
 module _ (section : List ℕ) (slices : Sections) (whole : terminated section ≡ section) (are : AreSections slices (split (lines_of section))) (now : Moment) where
   pub repeat_none : slices.planning.bytes.now ≡ [] → HasNoRepeater (split (lines_of section)).planning

@@ -1,17 +1,25 @@
 -- A section that was edited is split again as it was edited.
-use Rattle.std.proofs.Common.{rules, ◌≡◌, ℕ, suc, true, false, Option, Some, None, List, [], ◌∷◌, ◌++◌, length, take, drop, refl, sym, ap, subst, ◌∙◌, arith, inl, inr}
-use Rattle.std.proofs.lemmas.Grind.{common_steps}
+use Rattle.std.proofs.Common.{◌≡◌, ℕ, suc, true, false, Option, Some, None, List, [], ◌∷◌, ◌++◌, length, take, drop, refl, sym, ap, subst, ◌∙◌, arith, inl, inr, take-append-drop}
 use Rattle.std.specs.Prelude.{is_some, codes}
 use Rattle.std.specs.Option.{option_map, option_map_or}
 use Rattle.std.proofs.lemmas.Bool.{cases_Bool}
-use Rattle.std.proofs.lemmas.List.{append-nil}
+use Rattle.std.proofs.lemmas.List.{take_at, drop_at, append-nil}
 use Rattle.org_meta.specs.Sections.{SectionParts, split, joined, is_planning, planning_size, is_drawer_start, drawer_size, is_end, property_of, size_to_end, value_named, put_before_end, put_in_drawer}
 use Rattle.org_meta.specs.Notes.{with_note}
 use Rattle.org_meta.specs.Resplits.{with_drawer_line}
 
 -- lines that are split as they were joined
 pub resplit : (p : SectionParts) → planning_size (joined p) ≡ length p.planning → drawer_size (p.drawer ++ p.rest) ≡ length p.drawer → split (joined p) ≡ p
-resplit p first second = grind (arith, common_steps)
+resplit p first second =
+    let make : List (List ℕ) → List (List ℕ) → List (List ℕ) → SectionParts = λ x y z. record { planning = x; drawer = y; rest = z } in
+    let below : drop (planning_size (joined p)) (joined p) ≡ p.drawer ++ p.rest = ap (λ n. drop n (joined p)) first ∙ drop_at p.planning (p.drawer ++ p.rest) (length p.planning) refl in
+    let front : take (planning_size (joined p)) (joined p) ≡ p.planning = ap (λ n. take n (joined p)) first ∙ take_at p.planning (p.drawer ++ p.rest) (length p.planning) refl in
+    let drawer : take (drawer_size (p.drawer ++ p.rest)) (p.drawer ++ p.rest) ≡ p.drawer = ap (λ n. take n (p.drawer ++ p.rest)) second ∙ take_at p.drawer p.rest (length p.drawer) refl in
+    let rest : drop (drawer_size (p.drawer ++ p.rest)) (p.drawer ++ p.rest) ≡ p.rest = ap (λ n. drop n (p.drawer ++ p.rest)) second ∙ drop_at p.drawer p.rest (length p.drawer) refl in
+    ap (λ x. make x (take (drawer_size (drop (planning_size (joined p)) (joined p))) (drop (planning_size (joined p)) (joined p))) (drop (drawer_size (drop (planning_size (joined p)) (joined p))) (drop (planning_size (joined p)) (joined p)))) front
+    ∙ ap (λ t. make p.planning (take (drawer_size t) t) (drop (drawer_size t) t)) below
+    ∙ ap (λ y. make p.planning y (drop (drawer_size (p.drawer ++ p.rest)) (p.drawer ++ p.rest))) drawer
+    ∙ ap (λ z. make p.planning p.drawer z) rest
 
 -- ---- a drawer, whatever follows it
 
@@ -23,7 +31,11 @@ body_end : (l : List ℕ) → is_end l ≡ true → IsBody (l ∷ [])
 body_end l end = record { ends = λ rest. rw end refl }
 
 body_more : (l : List ℕ) (body : List (List ℕ)) → is_end l ≡ false → is_some (property_of l) ≡ true → IsBody body → IsBody (l ∷ body)
-body_more l body other property b = search (rules, arith)
+body_more l body other property b = record {
+  ends = λ rest.
+      let next : size_to_end (l ∷ (body ++ rest)) ≡ option_map suc (size_to_end (body ++ rest)) = rw (other, property) refl in
+      next ∙ ap (option_map suc) (b.ends rest);
+}
 
 plus_suc : (o : Option ℕ) (n : ℕ) → option_map suc o ≡ Some n → (m : ℕ) × (o ≡ Some m) × (n ≡ suc m)
 plus_suc None n e = absurd cc
@@ -57,7 +69,11 @@ same_body : (x y : List (List ℕ)) → x ≡ y → IsBody x → IsBody y
 same_body x y e b = let P : List (List ℕ) → Type 0 = IsBody in subst P e b
 
 ended : (l : List ℕ) (ls : List (List ℕ)) → is_end l ≡ true → BodyOf (l ∷ ls) 1
-ended l ls end = grind (arith, common_steps, body_end, same_body, put_end, body_more)
+ended l ls end = record {
+  long = refl;
+  body = body_end l end;
+  put = λ name line other property. same_body _ _ (put_end name line l [] end) (body_more line (l ∷ []) other property (body_end l end));
+}
 
 longer : (l : List ℕ) (ls : List (List ℕ)) (m : ℕ) → is_end l ≡ false → is_some (property_of l) ≡ true → BodyOf ls m → BodyOf (l ∷ ls) (suc m)
 longer l ls m other property later = record {
@@ -106,7 +122,15 @@ start_other start ls other = rw other refl
 
 planning_again : (ls below : List (List ℕ)) → (planning_size ls ≡ 0 → planning_size below ≡ 0) → planning_size (take (planning_size ls) ls ++ below) ≡ length (take (planning_size ls) ls)
 planning_again [] below none = none refl
-planning_again (l ∷ ls) below none = grind (arith, common_steps)
+planning_again (l ∷ ls) below none =
+    elim (cases_Bool (is_planning l)) [
+      | inl here ↦
+          let size : planning_size (l ∷ ls) ≡ 1 = rw here refl in
+          ap (λ n. planning_size (take n (l ∷ ls) ++ below)) size ∙ (let one : planning_size (l ∷ below) ≡ 1 = rw here refl in one) ∙ sym (ap (λ n. length (take n (l ∷ ls))) size)
+      | inr other ↦
+          let size : planning_size (l ∷ ls) ≡ 0 = rw other refl in
+          ap (λ n. planning_size (take n (l ∷ ls) ++ below)) size ∙ none size ∙ sym (ap (λ n. length (take n (l ∷ ls))) size)
+    ]
 
 -- ---- sections with another drawer
 
@@ -133,7 +157,9 @@ pub data DrawerOf (ls drawer : List (List ℕ)) : Type 0 where
   drawn : (s : Stands ls drawer) → ((name line : List ℕ) → is_end line ≡ false → is_some (property_of line) ≡ true → IsBody (put_before_end name line s.body)) → DrawerOf ls drawer
 
 first_behind : (ls below later : List (List ℕ)) (start : List ℕ) → below ≡ drop (planning_size ls) ls → below ≡ start ∷ later → planning_size ls ≡ 0 → planning_size (start ∷ later) ≡ 0
-first_behind ls below later start is first none = grind (arith, common_steps)
+first_behind ls below later start is first none =
+    let all : below ≡ ls = is ∙ ap (λ n. drop n ls) none in
+    sym (ap planning_size first) ∙ ap planning_size all ∙ none
 
 drawer_at : (ls below : List (List ℕ)) → below ≡ drop (planning_size ls) ls → DrawerOf ls (take (drawer_size below) below)
 drawer_at ls [] is = bare refl
@@ -162,10 +188,18 @@ drawer_of ls = drawer_at ls (drop (planning_size ls) ls) refl
 
 bare_note : (ls drawer rest : List (List ℕ)) (note : List ℕ) → drawer ≡ [] → is_planning note ≡ false → is_drawer_start note ≡ false
     → split (joined (record { planning = take (planning_size ls) ls; drawer = drawer; rest = note ∷ rest })) ≡ record { planning = take (planning_size ls) ls; drawer = drawer; rest = note ∷ rest }
-bare_note ls drawer rest note none plain other = grind (arith, common_steps)
+bare_note ls drawer rest note none plain other =
+    let size : planning_size (note ∷ rest) ≡ 0 = rw plain refl in
+    resplit (record { planning = take (planning_size ls) ls; drawer = drawer; rest = note ∷ rest })
+    (planning_again ls (drawer ++ (note ∷ rest)) (λ _. ap (λ (d : List (List ℕ)). planning_size (d ++ (note ∷ rest))) none ∙ size))
+    (ap (λ (d : List (List ℕ)). drawer_size (d ++ (note ∷ rest))) none ∙ start_other note rest other ∙ sym (ap length none))
 
 pub split_note : (note : List ℕ) (ls : List (List ℕ)) → is_planning note ≡ false → is_drawer_start note ≡ false → split (joined (with_note note (split ls))) ≡ with_note note (split ls)
-split_note note ls plain other = grind (arith, common_steps, drawer_of, bare_note, split, stands_split)
+split_note note ls plain other =
+    elim (drawer_of ls) [
+      | bare none ↦ bare_note ls (split ls).drawer (split ls).rest note none plain other
+      | drawn s put ↦ stands_split ls (split ls).drawer (note ∷ (split ls).rest) s
+    ]
 
 pub split_put : (name line : List ℕ) (ls : List (List ℕ)) → is_end line ≡ false → is_some (property_of line) ≡ true → split (joined (with_drawer_line name line (split ls))) ≡ with_drawer_line name line (split ls)
 split_put name line ls own named =
@@ -192,13 +226,29 @@ split_put name line ls own named =
 
 -- ---- another planning line
 
+planned_split : (line : List ℕ) (below : List (List ℕ)) → is_planning line ≡ true
+    → split (line ∷ below) ≡ record { planning = line ∷ []; drawer = take (drawer_size below) below; rest = drop (drawer_size below) below }
+planned_split line below here = rw here refl
+
+pub split_planned : (line : List ℕ) (ls : List (List ℕ)) → is_planning line ≡ true → split (joined (record (split ls) { planning = line ∷ [] })) ≡ record (split ls) { planning = line ∷ [] }
+split_planned line ls here =
+    let below = drop (planning_size ls) ls in
+    let all : take (drawer_size below) below ++ drop (drawer_size below) below ≡ below = take-append-drop (drawer_size below) below in
+    ap (λ (t : List (List ℕ)). split (line ∷ t)) all ∙ planned_split line below here
+
 -- ---- the first parts alone
 
 pub split_planning : (ls : List (List ℕ)) → split (split ls).planning ≡ record { planning = (split ls).planning; drawer = []; rest = [] }
-split_planning ls = grind (arith, common_steps)
+split_planning ls =
+    let p : SectionParts = record { planning = take (planning_size ls) ls; drawer = []; rest = [] } in
+    let alone : p.planning ≡ joined p = sym (append-nil p.planning) in
+    ap split alone ∙ resplit p (planning_again ls [] (λ _. refl)) refl
 
 bare_front : (ls drawer : List (List ℕ)) → drawer ≡ [] → split (joined (record { planning = take (planning_size ls) ls; drawer = drawer; rest = [] })) ≡ record { planning = take (planning_size ls) ls; drawer = drawer; rest = [] }
-bare_front ls drawer none = grind (arith, common_steps)
+bare_front ls drawer none =
+    resplit (record { planning = take (planning_size ls) ls; drawer = drawer; rest = [] })
+    (planning_again ls (drawer ++ []) (λ _. ap (λ (d : List (List ℕ)). planning_size (d ++ [])) none))
+    (ap (λ (d : List (List ℕ)). drawer_size (d ++ [])) none ∙ sym (ap length none))
 
 pub split_front : (ls : List (List ℕ)) → split ((split ls).planning ++ (split ls).drawer) ≡ record (split ls) { rest = [] }
 split_front ls =

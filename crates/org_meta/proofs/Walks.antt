@@ -8,7 +8,7 @@ use Rattle.org_splice.specs.Lines.{print_lines, lines_of}
 use Rattle.org_splice.specs.declared.Span.{Span}
 use Rattle.org_meta.specs.Lines.{BeginsWith}
 use Rattle.org_meta.specs.Clocks.{minutes_in, total, is_open, open_line, line_span, HasOpenAt}
-use Rattle.org_meta.proofs.Walk.{Passed, passed_none, passed_line}
+use Rattle.org_meta.proofs.Walk.{Passed, passed_none, passed_line, rest_shorter}
 
 -- ---- sums
 
@@ -86,3 +86,13 @@ open_found whole text line rest o b found =
 
 pub open_there : (whole text line rest : List ℕ) → OpenLater whole text → BeginsWith text line rest → is_open line ≡ true → HasOpenAt whole (record { start = length whole - length text; end = length whole - length rest })
 open_there whole text line rest o b found = grind (arith, common_steps)
+
+pub open_nowhere : (whole text : List ℕ) → OpenLater whole text → text ≡ [] → None ≡ open_line (lines_of whole)
+open_nowhere whole text o none =
+    sym (ap (option_map (line_span (lines_of whole))) (o.place ∙ ap (λ (t : List ℕ). option_map (λ n. length o.passed.before + n) (position is_open (lines_of t))) none))
+
+pub left_within : (whole text : List ℕ) → OpenLater whole text → length text ≤ length whole
+left_within whole text o = omega (arith, ap length o.passed.bytes, length-append (print_lines o.passed.before) text)
+
+pub rest_within : (whole text line rest : List ℕ) → OpenLater whole text → BeginsWith text line rest → length rest ≤ length whole
+rest_within whole text line rest o b = omega (arith, left_within whole text o, rest_shorter text line rest b)

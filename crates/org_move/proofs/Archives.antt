@@ -1,10 +1,10 @@
 -- What archiving keeps: documents are valid, and each node is there as often, but for the entry's
 -- own section and for the heading that is made.
-use Rattle.std.proofs.Common.{rules, ◌≡◌, ℕ, zero, suc, ◌+◌, ◌<◌, ◌≤◌, List, [], ◌∷◌, length, Bool, true, false, Option, Some, None, Ok, Err, refl, sym, ap, subst, ◌∙◌, arith, inl, inr}
-use Rattle.std.proofs.lemmas.Grind.{common_steps}
+use Rattle.std.proofs.Common.{◌≡◌, ℕ, zero, suc, ◌+◌, ◌<◌, ◌≤◌, List, [], ◌∷◌, length, Bool, true, false, Option, Some, None, Ok, Err, refl, sym, ap, subst, ◌∙◌, arith, inl, inr}
 use Rattle.std.specs.Prelude.{◌≢◌, ◌==◌, Result, if◌then◌else◌, filter, slice_get, slice_set}
 use Rattle.std.specs.List.{AllByRecursion}
 use Rattle.std.specs.Option.{ForSome}
+use Rattle.std.specs.Str.{bytes_eq}
 use Rattle.std.proofs.lemmas.Bool.{cases_Bool}
 use Rattle.org_splice.specs.Lines.{IsLine}
 use Rattle.org_stamp.specs.Calendar.{Moment}
@@ -12,10 +12,10 @@ use Rattle.org_outline.specs.declared.steps.Step.{Step}
 use Rattle.org_outline.specs.declared.moves.Place.TheVariants.{Last}
 use Rattle.org_outline.specs.declared.paths.PathFault.{PathFault}
 use Rattle.org_outline.specs.States.{Keywords}
-use Rattle.org_outline.specs.Tree.{Document, IsValid, Node, Placed, node_at, node_count, print, tree}
+use Rattle.org_outline.specs.Tree.{Document, IsValid, Node, Placed, node_at, node_count, nodes, print, tree}
 use Rattle.org_outline.specs.Moves.{IsNode, append_heading, take}
 use Rattle.org_outline.specs.Numbers.{parent_without, size_of, weigh, weigh_node}
-use Rattle.org_outline.specs.Paths.{find_path, the_only, titled_nodes}
+use Rattle.org_outline.specs.Paths.{find_path, the_only, title_of, titled_nodes}
 use Rattle.org_outline.proofs.ByNumber.{count-is}
 use Rattle.org_outline.proofs.Changes.{append_heading_valid, take_valid}
 use Rattle.org_outline.proofs.Found.{found_in, some_holds}
@@ -23,6 +23,7 @@ use Rattle.org_outline.proofs.Trees.{tree-is}
 use Rattle.org_outline.proofs.Valid.{IsValid-insert}
 use Rattle.org_outline.proofs.Weights.{Weight, insert-weight, made-weight, one_each, take-weight}
 use Rattle.org_fault.specs.declared.refusal.Refusal.{Refusal}
+use Rattle.org_fault.specs.declared.refusal.Refusal.TheVariants.{AlreadyArchive, InsideItself}
 use Rattle.org_move.specs.Archive.{archive_across, archive_within, archived, archived_section, if_apart, put_last, target_heading, with_heading}
 use Rattle.org_move.specs.Counts.{count_in, count_over, made_count, one_of}
 use Rattle.org_move.specs.Location.{Destination}
@@ -37,7 +38,12 @@ use Rattle.org_move.proofs.Within.{left_with}
 place_in : (test : ℕ → Bool) (states : Keywords) (title : List ℕ) (end i : ℕ) (ps : List Placed) → i + length ps ≤ end
     → AllByRecursion (λ k. k < end) (filter test (titled_nodes states title i ps))
 place_in test states title end i [] le = tt
-place_in test states title end i (p ∷ ps) le = search (rules, arith, cases_Bool, place_in test states title end (suc i) ps (omega (arith, le)))
+place_in test states title end i (p ∷ ps) le =
+    let more = place_in test states title end (suc i) ps (omega (arith, le)) in
+    elim (cases_Bool (bytes_eq (title_of states p.node.rest) title)) [
+      | inl e ↦ elim (cases_Bool (test i)) [ inl f ↦ rw (e, f) (omega (arith, le), more) | inr f ↦ rw (e, f) more ]
+      | inr e ↦ rw e more
+    ]
 
 one_place : (P : ℕ → Type 0) (is : List ℕ) (up : Option ℕ) → AllByRecursion P is → the_only is ≡ Ok up → ForSome up P
 one_place P [] up all is = let same : None ≡ up = cc in subst (λ (up : Option ℕ). ForSome up P) same (λ i none. absurd cc)
@@ -49,7 +55,9 @@ target_of true P is up all found = let same : None ≡ up = cc in subst (λ (up 
 target_of false P is up all found = one_place P is up all found
 
 target_in : (states : Keywords) (to : Destination) (d : Document) (up : Option ℕ) → target_heading states to d ≡ Ok up → ForSome up (λ p. p < node_count d)
-target_in states to d up found = grind (arith, common_steps, target_of, place_in)
+target_in states to d up found =
+    let P : ℕ → Type 0 = λ p. p < node_count d in
+    target_of (to.level == 0) P _ up (place_in (λ i. (node_at d i).node.level == to.level) states to.title (node_count d) 0 (nodes d) (omega arith)) found
 
 -- ---- what archiving that succeeds has found and made
 
@@ -57,10 +65,17 @@ heading_found : {A : Type 0} (s : Result (Option ℕ) PathFault) (make : Option 
 heading_found (Ok up) make x is = (up, refl, is)
 heading_found (Err fault) make x is = absurd cc
 
+apart_gives : {A : Type 0} (inside below : Bool) (x y : A) → ◌≡◌ {A = Result A Refusal} (if inside then Err InsideItself else (if below then Err AlreadyArchive else Ok x)) (Ok y) → (inside ≡ false) × (x ≡ y)
+apart_gives true below x y is = absurd cc
+apart_gives false true x y is = absurd cc
+apart_gives false false x y is = (refl, cc)
+
 -- the heading stays, and what is defined is made
 apart_of : {A : Type 0} (d : Document) (i : ℕ) (up : Option ℕ) (x y : A) → if_apart d i up x ≡ Ok y → ForSome up (λ p. is_inside d i p ≡ false) × (x ≡ y)
 apart_of d i None x y is = (λ p none. absurd cc, cc)
-apart_of d i (Some p) x y is = grind (arith, common_steps)
+apart_of d i (Some p) x y is =
+    let both = apart_gives (is_inside d i p) (is_inside d p i) x y is in
+    (some_holds (λ p. is_inside d i p ≡ false) p both.0, both.1)
 
 pub record Stays (states : Keywords) (name : List ℕ) (now : Moment) (to : Destination) (d new : Document) (i : ℕ) (up : Option ℕ) : Type 0 where
   pub node_in : i < node_count d
@@ -125,7 +140,9 @@ one_more level rest d =
 
 put_last_count : (rest : List ℕ) (section : List (List ℕ)) (to : Destination) (up : Option ℕ) (node : Node) (d : Document) → ForSome up (λ p. p < node_count d)
     → count_in rest section (put_last to up node d) ≡ count_in rest section d + weigh_node (weight_of rest section) node + made_count rest section to up
-put_last_count rest section to (Some p) node d up_in = search (rules, arith, insert-weight)
+put_last_count rest section to (Some p) node d up_in =
+    let w : Weight = weight_of rest section in
+    omega (arith, insert-weight w (Some p) Last node d up_in)
 put_last_count rest section to None node d up_in =
     let w : Weight = weight_of rest section in
     let new : Document = append_heading to.level (32 ∷ to.title) d in

@@ -1,9 +1,9 @@
 -- Properties put one after another.
-use Rattle.std.proofs.Common.{◌≡◌, ℕ, zero, suc, ◌+◌, ◌<◌, List, [], ◌∷◌, ◌++◌, length, take, get_or, Option, Some, None, refl, ap, ◌∙◌, arith}
+use Rattle.std.proofs.Common.{◌≡◌, ℕ, zero, suc, ◌+◌, ◌<◌, List, [], ◌∷◌, ◌++◌, length, take, get_or, Option, Some, None, refl, ap, ◌∙◌, arith, ◌≤◌}
 use Rattle.std.proofs.lemmas.Grind.{common_steps}
 use Rattle.std.specs.Borrow.{Bor}
 use Rattle.std.specs.List.{AllByRecursion}
-use Rattle.std.proofs.lemmas.List.{take_more}
+use Rattle.std.proofs.lemmas.List.{take_more, take_all}
 use Rattle.org_meta.specs.Sections.{NodeProperty, SectionParts, put}
 use Rattle.org_move.specs.declared.properties.Property.{Property}
 use Rattle.org_move.specs.Archive.{named, put_each}
@@ -50,3 +50,6 @@ value_more ps k d value start old new old_is lt is new_is = each_more ps k d sta
 pub none_more : (ps : List Property) (k : ℕ) (d : Property) (start old : SectionParts) → old ≡ put_each (given (take k ps)) start → k < length ps → (get_or ps k d).value ≡ None
     → old ≡ put_each (given (take (k + 1) ps)) start
 none_more ps k d start old old_is lt is = each_more ps k d start old old old_is lt (rw is refl)
+
+pub each_all : (ps : List Property) (k : ℕ) (start old : SectionParts) → old ≡ put_each (given (take k ps)) start → length ps ≤ k → old ≡ put_each (given ps) start
+each_all ps k start old old_is le = old_is ∙ ap (λ qs. put_each (given qs) start) (take_all k ps le)

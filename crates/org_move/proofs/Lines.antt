@@ -1,11 +1,11 @@
 -- A line that begins with `#+ARCHIVE:` holds `#+`, so that others are passed over.
-use Rattle.std.proofs.Common.{◌≡◌, ℕ, zero, suc, ◌+◌, ◌-◌, ◌<◌, ◌≤◌, Bool, true, false, eqb, ◌&&◌, ◌||◌, List, [], ◌∷◌, ◌++◌, length, take, drop, Option, Some, None, refl, sym, ap, subst, ◌∙◌, append_assoc, arith, inl, inr}
-use Rattle.std.proofs.lemmas.Grind.{common_steps}
-use Rattle.std.specs.Prelude.{◌⊎◌, IfSome, codes, is_some}
+use Rattle.std.proofs.Common.{◌≡◌, ℕ, zero, suc, ◌+◌, ◌-◌, ◌<◌, ◌≤◌, Bool, true, false, eqb, ltb, ◌&&◌, ◌||◌, List, [], ◌∷◌, ◌++◌, length, take, drop, Option, Some, None, refl, sym, ap, subst, ◌∙◌, append_assoc, arith, inl, inr}
+use Rattle.std.specs.Prelude.{◌⊎◌, IfNone, IfSome, codes, is_some, slice_index}
 use Rattle.std.specs.Borrow.{Bor}
 use Rattle.std.specs.Char.{to_ascii_lowercase}
 use Rattle.std.specs.List.{AllByRecursion, find, prefix_len}
 use Rattle.std.proofs.lemmas.Bool.{cases_Bool, eqb-true, false≢true}
+use Rattle.std.proofs.lemmas.Bool.Decides.{nat_tests}
 use Rattle.std.proofs.lemmas.List.{append-nil, append_cancel_left, drop_at, length-append, length-drop, take-append-drop, take_all, take_at}
 use Rattle.memchr.specs.Find.{FindsNeedle, OccursAt}
 use Rattle.org_splice.specs.Blanks.{is_blank}
@@ -49,10 +49,23 @@ mark_parts (a ∷ b ∷ l) r h =
     (rw n.0 more.0, more.1)
 
 shift : (a : ℕ) (t needle : List ℕ) (k : ℕ) → OccursAt t needle k → OccursAt (a ∷ t) needle (suc k)
-shift a t needle k o = grind (arith, common_steps)
+shift a t needle k o =
+    record {
+      fits = omega (arith, o.fits);
+      reads = λ j lt. let next : suc k + j ≡ suc (k + j) = omega arith in ap (slice_index (a ∷ t)) next ∙ o.reads j lt;
+    }
+
+first_two : (a b : ℕ) (t : List ℕ) → a ≡ 35 → b ≡ 43 → (j : ℕ) → j < 2 → slice_index (a ∷ b ∷ t) j ≡ slice_index mark j
+first_two a b t ea eb zero lt = ea
+first_two a b t ea eb (suc zero) lt = eb
+first_two a b t ea eb (suc (suc j)) lt = absurd (omega (arith, lt))
 
 starts : (a b : ℕ) (t : List ℕ) → a ≡ 35 → b ≡ 43 → OccursAt (a ∷ b ∷ t) mark 0
-starts a b t ea eb = grind (arith, common_steps)
+starts a b t ea eb =
+    record {
+      fits = omega arith;
+      reads = λ j lt. let same : 0 + j ≡ j = omega arith in ap (slice_index (a ∷ b ∷ t)) same ∙ first_two a b t ea eb j lt;
+    }
 
 no_mark : (t : List ℕ) (n : ℕ) → ((k : ℕ) → k < n → OccursAt t mark k → ⊥) → has_mark (take n t) ≡ false
 no_mark [] zero none = refl
@@ -72,11 +85,25 @@ no_mark (a ∷ b ∷ t) (suc (suc n)) none =
 -- ---- an archive line has one
 
 lower_is : (b n : ℕ) → n < 65 → eqb (to_ascii_lowercase b) n ≡ true → b ≡ n
-lower_is b n small e = grind (arith, common_steps)
+lower_is b n small e =
+    let is : to_ascii_lowercase b ≡ n = eqb-true (to_ascii_lowercase b) n e in
+    elim (cases_Bool (ltb b 65)) [
+      | inl low ↦ rw low at is
+      | inr high ↦
+          let le : 65 ≤ b = grind (arith, nat_tests) in
+          elim (cases_Bool (ltb b 91)) [
+            | inl letter ↦ let up : b + 32 ≡ n = rw (high, letter) at is in absurd (omega (arith, up, le, small))
+            | inr other ↦ let up : b ≡ n = rw (high, other) at is in up
+          ]
+    ]
 
 marked : (l : List ℕ) → is_archive_line l ≡ true → has_mark l ≡ true
 marked [] e = absurd cc
-marked (b ∷ []) e = grind (arith, common_steps)
+marked (b ∷ []) e =
+    elim (cases_Bool (is_blank b)) [
+      | inl blank ↦ absurd (let bad : false ≡ true = rw blank at e in cc)
+      | inr solid ↦ absurd (let f : (eqb (to_ascii_lowercase b) 35 && false) ≡ true = rw solid at e in let t = both (eqb (to_ascii_lowercase b) 35) false f in cc)
+    ]
 marked (b ∷ c ∷ l) e =
     let next : 1 + prefix_len is_blank (c ∷ l) ≡ suc (prefix_len is_blank (c ∷ l)) = omega arith in
     elim (cases_Bool (is_blank b)) [
@@ -92,7 +119,11 @@ marked (b ∷ c ∷ l) e =
     ]
 
 unmarked : (l : List ℕ) → has_mark l ≡ false → is_archive_line l ≡ false
-unmarked l none = grind (arith, common_steps, cases_Bool, marked)
+unmarked l none =
+    elim (cases_Bool (is_archive_line l)) [
+      | inl e ↦ let yes = marked l e in absurd cc
+      | inr e ↦ e
+    ]
 
 -- ---- lines without it are passed over
 
@@ -130,7 +161,9 @@ with_newline : (text before left : List ℕ) → text ≡ before ++ 10 ∷ left 
 with_newline text before left split = split ∙ sym (append_assoc before (10 ∷ []) left)
 
 left_terminated : (text before left : List ℕ) → terminated text ≡ text → text ≡ before ++ 10 ∷ left → terminated left ≡ left
-left_terminated text before left whole split = grind (arith, common_steps, terminated-append, tail_is, append_cancel_left)
+left_terminated text before left whole split =
+    let same : before ++ 10 ∷ terminated left ≡ before ++ 10 ∷ left = sym (terminated-append before left) ∙ ap terminated (sym split) ∙ whole ∙ split in
+    tail_is 10 10 (terminated left) left (append_cancel_left before (10 ∷ terminated left) (10 ∷ left) same)
 
 behind_line : (text left before : List ℕ) (at : ℕ) → terminated text ≡ text → FindsNeedle text mark 0 (Some at) → text ≡ before ++ 10 ∷ left → length before < at → IsBehindOthers text left
 behind_line text left before at whole found split lt =
@@ -253,6 +286,10 @@ pub comes_some : (text left : List ℕ) (r : Option Cut) → IsBehindOthers text
 comes_some text left None sofar begins = tt
 comes_some text left (Some p) sofar begins = record { left = left; behind = sofar; begins = begins }
 
+pub comes_none : (text left : List ℕ) (r : Option Cut) → IsBehindOthers text left → IfNone r (left ≡ []) → IfNone r (has_archive_line text ≡ false)
+comes_none text left None sofar empty = none_then text left sofar (ap has_archive_line empty)
+comes_none text left (Some p) sofar empty = tt
+
 -- ---- the lines of which nothing is known
 
 -- the lines before those that hold a place
@@ -275,7 +312,14 @@ lines_from text at left whole (inr from) = record {
 
 -- all of them, where nothing is known of the end
 pub leaves_all : (text left end : List ℕ) (front back at : ℕ) → IsLinesFrom text at left → at ≤ front → end ≡ [] → LeavesLines text front back left end
-leaves_all text left end front back at from le none = grind (arith, common_steps)
+leaves_all text left end front back at from le none = record {
+  before = from.before;
+  parts = from.parts ∙ ap (λ (x : List ℕ). from.before ++ x) (sym (append-nil left) ∙ ap (λ (x : List ℕ). left ++ x) (sym none));
+  terminated_before = from.terminated_before;
+  terminated_lines = from.terminated_left;
+  short = let s = from.short in omega (arith, s, le);
+  last = inl none;
+}
 
 -- .. and those up to the first line of the end
 pub leaves_some : (text left end line rest lines behind : List ℕ) (front back at cut : ℕ) → IsLinesFrom text at left → at ≤ front → end ≡ drop cut left → cut ≡ length left - back → BeginsWith end line rest
@@ -312,14 +356,19 @@ module _ (text lines behind : List ℕ) (front back : ℕ) (leaves : LeavesLines
 
   -- none is found
   pub none_known : has_archive_line lines ≡ false → has_archive_line text ≡ false
-  none_known none = grind (arith, common_steps, none_both, front_none, back_none)
+  none_known none =
+      ap has_archive_line leaves.parts
+      ∙ none_both leaves.before (lines ++ behind) leaves.terminated_before front_none (none_both lines behind leaves.terminated_lines none back_none)
 
   module _ (line rest : List ℕ) (comes : ComesTo lines line rest) where
     abbrev before : List ℕ
     before = leaves.before ++ comes.behind.before
 
     cut : text ≡ before ++ (comes.left ++ behind)
-    cut = grind (arith, common_steps)
+    cut =
+        leaves.parts
+        ∙ ap (λ (x : List ℕ). leaves.before ++ x) (ap (λ (x : List ℕ). x ++ behind) comes.behind.parts ∙ append_assoc comes.behind.before comes.left behind)
+        ∙ sym (append_assoc leaves.before comes.behind.before (comes.left ++ behind))
 
     whole_before : terminated before ≡ before
     whole_before = terminated-both leaves.before comes.behind.before leaves.terminated_before comes.behind.terminated_before
@@ -329,7 +378,11 @@ module _ (text lines behind : List ℕ) (front back : ℕ) (leaves : LeavesLines
 
     -- one is found
     pub first_known : is_archive_line line ≡ true → find is_archive_line (lines_of text) ≡ Some line
-    first_known is = grind (arith, common_steps, cut, line_later, before, whole_before, before_none, lines_of-both)
+    first_known is =
+        ap (λ (x : List ℕ). find is_archive_line (lines_of x)) cut
+        ∙ line_later before (comes.left ++ behind) whole_before before_none
+        ∙ ap (find is_archive_line) (lines_of-both comes.left behind comes.behind.terminated_left)
+        ∙ ap (λ (ls : List (List ℕ)). find is_archive_line (ls ++ lines_of behind)) comes.begins.lines ∙ rw is refl
 
     -- .. and where it begins
     sizes : length text ≡ length before + (length line + (1 + length rest) + length behind)

@@ -1,6 +1,5 @@
 -- What a refile that succeeds has found and made.
-use Rattle.std.proofs.Common.{◌≡◌, ℕ, ◌<◌, Bool, true, false, List, Some, Ok, Err, refl, sym, arith}
-use Rattle.std.proofs.lemmas.Grind.{common_steps}
+use Rattle.std.proofs.Common.{◌≡◌, ℕ, ◌+◌, ◌<◌, ◌≤◌, leb, ltb, Bool, true, false, List, Some, Ok, Err, refl, sym, ap, arith, inl, inr}
 use Rattle.std.specs.Prelude.{Result, if◌then◌else◌}
 use Rattle.std.proofs.lemmas.Bool.{cases_Bool}
 use Rattle.std.proofs.lemmas.Bool.Decides.{nat_tests}
@@ -57,9 +56,31 @@ within_of states path to place d new is =
 
 pub across_of : (states : Keywords) (path : List Step) (source : Document) (there : Keywords) (to : List Step) (target : Document) (place : Place) (new : Moved)
     → refile_across states path source there to target place ≡ Ok new → Across place source target new
-across_of states path source there to target place new is = grind (arith, common_steps, found_of, found_in)
+across_of states path source there to target place new is =
+    let first = found_of (find_path states source path) _ new is in
+    let second = found_of (find_path there target to) _ new first.2 in
+    let same : record { source = take first.0 source; target = insert (Some second.0) place (node_at source first.0).node target } ≡ new = cc in
+    record {
+      node = first.0;
+      parent = second.0;
+      node_in = found_in states source path first.0 first.1;
+      parent_in = found_in there target to second.0 second.1;
+      source_is = ap (λ (m : Moved). m.source) same;
+      target_is = ap (λ (m : Moved). m.target) same;
+    }
 
 -- the number of a heading outside the subtree that is taken out
 pub number_in : (d : Document) (i p : ℕ) → i < node_count d → p < node_count d → is_inside d i p ≡ false
     → number_without i (size_of d i) p < node_count (take i d)
-number_in d i p i_in p_in outside = grind (arith, common_steps, size_of-room, count-without, cases_Bool, nat_tests)
+number_in d i p i_in p_in outside =
+    let room = size_of-room d i i_in in
+    let count = count-without i d i_in in
+    elim (cases_Bool (ltb p i)) [
+      | inl e ↦ rw e (let low : p < i = grind (arith, nat_tests) in omega (arith, low, room, count))
+      | inr e ↦ rw e (
+          let low : i ≤ p = grind (arith, nat_tests) in
+          let le : leb i p ≡ true = grind (arith, nat_tests) in
+          let test : ltb p (i + size_of d i) ≡ false = rw le at outside in
+          let high : i + size_of d i ≤ p = grind (arith, nat_tests) in
+          omega (arith, high, p_in, count))
+    ]

@@ -1,12 +1,21 @@
 -- Where a value says that a subtree goes.
-use Rattle.std.proofs.Common.{arith, ◌≡◌, ℕ, true, false, Bool, ◌&&◌, List, Some, Ok, Err, refl}
+use Rattle.std.proofs.Common.{arith, ◌≡◌, ℕ, true, false, Bool, ◌&&◌, List, Some, Ok, Err, refl, sym, subst, ◌∙◌, ap, Option}
 use Rattle.std.proofs.lemmas.Grind.{common_steps}
-use Rattle.std.specs.Prelude.{IfErr, if◌then◌else◌}
+use Rattle.std.specs.Prelude.{IfErr, if◌then◌else◌, Result}
 use Rattle.std.specs.Str.{is_utf8}
 use Rattle.org_fault.specs.declared.refusal.Refusal.TheVariants.{NoSuchFile}
 use Rattle.org_disk.specs.Names.{is_archive_name, is_file_name}
 use Rattle.org_outline.specs.States.{Keywords}
 use Rattle.org_move.specs.Location.{Destination, Halves, Heading, file_named, halves_of, heading_of, location_at, value_for, with_file}
+use Rattle.org_fault.specs.declared.fault.Fault.{Fault}
+use Rattle.org_fault.specs.declared.refusal.Refusal.{Refusal}
+use Rattle.org_move.specs.Answers.{IsNameOf, IsPlaceAs}
+use Rattle.org_fault.specs.declared.fault.Fault.TheVariants.{OutOfMemory, Refused}
+use Rattle.std.specs.Option.{option_map}
+
+-- what was read
+pub read_is : {A B : Type 0} (view : A → B) (o : Option A) (x : A) (defined : Option B) → option_map view o ≡ defined → o ≡ Some x → defined ≡ Some (view x)
+read_is view o x defined is some = sym is ∙ ap (option_map view) some
 
 pub located : (states s : Keywords) (name t value : List ℕ) (i : ℕ) (halves : Halves) (heading : Heading) (b : Bool)
     → b ≡ is_archive_name name → b ≡ false → value ≡ value_for t i → halves_of value ≡ Some halves → s ≡ states → heading_of s halves.heading ≡ Some heading
@@ -20,3 +29,14 @@ late to false = refl
 
 pub no_memory : (to : Destination) → IfErr (with_file to) (λ why. why ≡ NoSuchFile)
 no_memory to = late to (is_utf8 to.file && is_file_name to.file)
+
+named_fault : (bytes : List ℕ) (to : Destination) (fault : Fault Refusal) → bytes ≡ to.file → IsNameOf bytes (Err fault) → IsPlaceAs (with_file to) (Err fault)
+named_fault bytes to OutOfMemory same gives = no_memory to
+named_fault bytes to (Refused why) same gives =
+    let none : (is_utf8 to.file && is_file_name to.file) ≡ false = ap (λ b. is_utf8 b && is_file_name b) (sym same) ∙ gives.1 in
+    rw (none, gives.0) refl
+
+pub name_fault : (bytes : List ℕ) (to : Destination) (defined : Result Destination Refusal) (r : Result (List ℕ) (Fault Refusal)) (fault : Fault Refusal)
+    → defined ≡ with_file to → bytes ≡ to.file → IsNameOf bytes r → r ≡ Err fault → IsPlaceAs defined (Err fault)
+name_fault bytes to defined r fault is same gives was =
+    subst (λ d. IsPlaceAs d (Err fault)) (sym is) (named_fault bytes to fault same (subst (IsNameOf bytes) was gives))

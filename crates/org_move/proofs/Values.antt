@@ -1,9 +1,8 @@
 -- The values of an archived entry's properties hold no newline, nor does the title of its place,
 -- and its section is one still.
-use Rattle.std.proofs.Common.{arith, ◌≡◌, ℕ, zero, suc, ◌-◌, Bool, true, false, eqb, not, ◌&&◌, List, [], ◌∷◌, ◌++◌, length, take, drop, map, get_or, refl, sym, subst, ◌∙◌, inl, inr, Option, None, Some, Ok, Err}
-use Rattle.std.proofs.lemmas.Grind.{common_steps}
-use Rattle.std.specs.Prelude.{◌≢◌, codes, if◌then◌else◌, ◌==◌, Result}
-use Rattle.std.specs.List.{AllByRecursion, find, flat_map, join_with_byte, list_all, list_any, slice_split}
+use Rattle.std.proofs.Common.{◌≡◌, ℕ, zero, suc, ◌-◌, Bool, true, false, eqb, not, ◌&&◌, List, [], ◌∷◌, ◌++◌, length, take, drop, map, get_or, refl, sym, subst, ◌∙◌, inl, inr, Option, None, Some, Ok, Err}
+use Rattle.std.specs.Prelude.{◌≢◌, codes, if◌then◌else◌, ◌==◌, is_some, Result}
+use Rattle.std.specs.List.{AllByRecursion, find, flat_map, join_with_byte, list_all, list_any, onto_first, slice_split}
 use Rattle.std.specs.Option.{IfSome, option_and_then, option_map, option_or, unwrap_or}
 use Rattle.std.specs.Str.{bytes_eq, is_utf8}
 use Rattle.std.specs.Str.{str_eq_ignore_ascii_case}
@@ -11,24 +10,25 @@ use Rattle.std.proofs.lemmas.Bool.{cases_Bool, false≢true}
 use Rattle.std.proofs.lemmas.List.{take-append-drop}
 use Rattle.std.proofs.lemmas.Slice.Eq.{bytes_eq-Decides}
 use Rattle.org_disk.specs.Names.{IsDiskName, archive_suffix, base_name, is_archive_name, is_file_name, is_name_byte, is_org_name, journal_name}
-use Rattle.org_splice.specs.Blanks.{is_blank, is_solid, behind, front, trimmed}
-use Rattle.org_splice.specs.Lines.{IsLine}
+use Rattle.org_splice.specs.Blanks.{is_blank, is_solid, behind, end_of, front, trimmed}
+use Rattle.org_splice.specs.Lines.{IsLine, lines_of}
 use Rattle.org_splice.proofs.Ends.{both}
 use Rattle.org_splice.proofs.Lines.{lines_of-lines}
-use Rattle.org_stamp.specs.Calendar.{Moment}
+use Rattle.org_stamp.specs.Calendar.{Moment, weekday_of}
+use Rattle.org_stamp.specs.Stamp.{date_text, day_name}
 use Rattle.org_outline.specs.declared.steps.Step.{Step}
 use Rattle.org_outline.specs.States.{Keywords}
 use Rattle.org_headings.specs.Text.{level_of}
 use Rattle.org_outline.specs.Tree.{Document, IsPlain, IsValid, Placed, no_node, node_at, nodes, tree}
 use Rattle.org_outline.specs.Moves.{IsNode}
 use Rattle.org_outline.specs.Numbers.{ancestors_of}
-use Rattle.org_outline.specs.Parts.{parts_of}
+use Rattle.org_outline.specs.Parts.{after_keyword, after_priority, are_tags, content_of, parts_of}
 use Rattle.org_outline.specs.Paths.{find_path, title_of}
 use Rattle.org_outline.proofs.Sections.{nodes-valid}
 use Rattle.org_outline.proofs.Trees.{tree-is}
-use Rattle.org_meta.specs.Sections.{NodeProperty, drawer_size, is_name_run, is_property_name, joined, planning_size, property, property_line, property_of, put, split, value_before_end, value_if_named}
+use Rattle.org_meta.specs.Sections.{NodeProperty, drawer_size, is_end, is_name_run, is_property_name, joined, planning_size, property, property_line, property_of, put, split, value_before_end, value_if_named, value_named}
 use Rattle.org_splice.proofs.AllLines.{AllByRecursion-append, AllByRecursion-take, AllByRecursion-drop}
-use Rattle.org_meta.proofs.Flat.{Flat, both_lines, either_line, empty_line, tested, with_first_byte}
+use Rattle.org_meta.proofs.Flat.{Flat, both_lines, clock_text_line, date_line, day_line, either_line, empty_line, tested, with_first_byte}
 use Rattle.org_meta.proofs.Keeping.{keeps_put}
 use Rattle.org_meta.proofs.Reading.{line_said}
 use Rattle.org_meta.proofs.Resplit.{split_put}
@@ -36,7 +36,7 @@ use Rattle.org_fault.specs.declared.refusal.Refusal.{Refusal}
 use Rattle.org_fault.specs.declared.refusal.Refusal.TheVariants.{AlreadyArchive, NoSuchFile}
 use Rattle.org_move.specs.Archive.{archive_properties, category_of, named, put_each, time_text, unless_none, without_org}
 use Rattle.org_move.specs.Inherited.{first_ones, inherited_tags, is_colon, last_value, nearest, nonempty, nonempty_only, own_value, tag_list, tags_above, titles_above}
-use Rattle.org_move.specs.Location.{Destination, Halves, Heading, and_file, file_named, halves_of, heading_of, is_title_alone, location, location_of, titled_line, value_behind, value_for, with_byte}
+use Rattle.org_move.specs.Location.{Destination, Halves, Heading, and_file, file_named, halves_of, heading_of, is_archive_line, is_title_alone, location, location_of, titled_line, value_behind, value_for, value_of_lines, with_byte}
 use Rattle.org_move.proofs.Moving.{found_of}
 use Rattle.org_move.proofs.Own.{plain_lines}
 use Rattle.org_move.proofs.Puts.{tested_line}
@@ -55,7 +55,9 @@ trimmed_line l p = first_line _ (behind is_blank l) (last_line _ l p)
 -- ---- the time
 
 time_line : (now : Moment) → Flat (time_text now)
-time_line now = grind (arith, common_steps)
+time_line now =
+    let day = weekday_of now.day in
+    both_lines (date_text now.day) _ (date_line now.day) (with_first_byte 32 _ refl (both_lines (day_name day) _ (day_line day) (with_first_byte 32 _ refl (clock_text_line now.minute))))
 
 -- ---- the name
 
@@ -89,13 +91,21 @@ name_line l (inr journal) = subst IsLine (sym journal) (tested_line journal_name
 -- ---- parts of a heading line
 
 title_line : (states : Keywords) (rest : List ℕ) → Flat rest → Flat (title_of states rest)
-title_line states rest p = grind (arith, common_steps)
+title_line states rest p =
+    let content = content_of rest in
+    let behind_keyword : Flat (after_keyword states content) = last_line _ _ (last_line _ content (trimmed_line rest p)) in
+    let left : Flat (after_priority (after_keyword states content)) = last_line _ (after_keyword states content) behind_keyword in
+    first_line _ _ (last_line _ _ (first_line _ (after_priority (after_keyword states content)) left))
 
 tags_line : (states : Keywords) (rest : List ℕ) → Flat rest → Flat (parts_of states rest).tags
-tags_line states rest p = grind (arith, common_steps)
+tags_line states rest p =
+    let content = content_of rest in
+    either_line (are_tags (end_of is_solid content)) (end_of is_solid content) [] (last_line _ content (trimmed_line rest p)) empty_line
 
 keyword_line : (states : Keywords) (rest : List ℕ) → Flat rest → Flat (parts_of states rest).keyword
-keyword_line states rest p = grind (arith, common_steps)
+keyword_line states rest p =
+    let content = content_of rest in
+    either_line _ (front is_solid content) [] (first_line _ content (trimmed_line rest p)) empty_line
 
 -- ---- the nodes of a document
 
@@ -147,7 +157,9 @@ either_value false false x y p q = q
 
 value_lines : (name : List ℕ) (ls : List (List ℕ)) → AllByRecursion Flat ls → IfSome (value_before_end name ls) Flat
 value_lines name [] all = tt
-value_lines name (l ∷ ls) all = grind (arith, common_steps, either_value, named_value, property_line_value, value_lines name ls all.1)
+value_lines name (l ∷ ls) all =
+    either_value (is_end l) (is_some (value_named name l)) (value_named name l) (value_before_end name ls)
+    (named_value name (property_of l) (property_line_value l all.0)) (value_lines name ls all.1)
 
 nonempty_line : (o : Option (List ℕ)) → IfSome o Flat → IfSome (option_and_then nonempty o) Flat
 nonempty_line None is = tt
@@ -184,13 +196,19 @@ join_line b [] other all = empty_line
 join_line b (x ∷ []) other all = all.0
 join_line b (x ∷ y ∷ xs) other all = both_lines x (b ∷ join_with_byte b (y ∷ xs)) all.0 (with_first_byte b _ other (join_line b (y ∷ xs) other all.1))
 
+onto_lines : (b : ℕ) (xs : List (List ℕ)) → b ≢ 10 → AllByRecursion Flat xs → AllByRecursion Flat (onto_first b xs)
+onto_lines b [] other all = (record { flat = (other, tt) }, tt)
+onto_lines b (x ∷ xs) other all = (record { flat = (other, all.0.flat) }, all.1)
+
 either_lines : (b : Bool) (xs ys : List (List ℕ)) → AllByRecursion Flat xs → AllByRecursion Flat ys → AllByRecursion Flat (if b then xs else ys)
 either_lines true xs ys p q = p
 either_lines false xs ys p q = q
 
 split_line : (l : List ℕ) → Flat l → AllByRecursion Flat (slice_split is_colon l)
 split_line [] p = (empty_line, tt)
-split_line (b ∷ l) p = grind (arith, common_steps, split_line l (record { flat = p.flat.1 }))
+split_line (b ∷ l) p =
+    let more = split_line l (record { flat = p.flat.1 }) in
+    either_lines (is_colon b) ([] ∷ slice_split is_colon l) (onto_first b (slice_split is_colon l)) (empty_line, more) (onto_lines b (slice_split is_colon l) p.flat.0 more)
 
 some_lines : (xs : List (List ℕ)) → AllByRecursion Flat xs → AllByRecursion Flat (nonempty_only xs)
 some_lines [] all = tt
@@ -219,8 +237,17 @@ inherited_lines states d i valid =
 abbrev pub IsPut : NodeProperty → Type 0
 IsPut p = (is_property_name p.name ≡ true) × IsPlain (property_line p.name p.value)
 
+either_plain : (b : Bool) (x y : List ℕ) → IsPlain x → IsPlain y → IsPlain (if b then x else y)
+either_plain true x y p q = p
+either_plain false x y p q = q
+
 can_put : (name value : List ℕ) → is_property_name name ≡ true → Flat name → Flat value → IsPut (named name value)
-can_put name value good p q = grind (arith, common_steps)
+can_put name value good p q = (
+  good,
+  either_plain (length value == 0) (58 ∷ (name ++ 58 ∷ [])) (58 ∷ (name ++ (58 ∷ 32 ∷ value)))
+      ((with_first_byte 58 _ refl (both_lines name (58 ∷ []) p (with_first_byte 58 [] refl empty_line))).flat, refl)
+      ((with_first_byte 58 _ refl (both_lines name (58 ∷ 32 ∷ value) p (with_first_byte 58 _ refl (with_first_byte 32 value refl q)))).flat, refl),
+)
 
 unless_put : {X : Type 0} (xs : List X) (p : NodeProperty) → IsPut p → AllByRecursion IsPut (unless_none xs p)
 unless_put [] p is = tt
@@ -277,10 +304,18 @@ nonempty_alone (b ∷ bs) line = line
 
 found_line : (test : List ℕ → Bool) (ls : List (List ℕ)) → AllByRecursion Flat ls → IfSome (option_and_then (λ l. nonempty (value_behind l)) (find test ls)) Flat
 found_line test [] all = tt
-found_line test (l ∷ ls) all = grind (arith, common_steps, cases_Bool, nonempty_alone, trimmed_line, last_line, behind, found_line test ls all.1)
+found_line test (l ∷ ls) all =
+    elim (cases_Bool (test l)) [
+      | inl e ↦ rw e (nonempty_alone (value_behind l) (trimmed_line _ (last_line 10 (behind is_blank l) (last_line _ l all.0))))
+      | inr e ↦ rw e (found_line test ls all.1)
+    ]
 
 value_line : (text : List ℕ) (i : ℕ) → Flat (value_for text i)
-value_line text i = grind (arith, common_steps, unwrap_line, or_line, last_value_line, tree-is, found_line, all_flat, lines_of-lines, tested)
+value_line text i =
+    let d : Document = tree text in
+    unwrap_line (option_or (nearest (codes "ARCHIVE") d i) (value_of_lines (lines_of text))) (codes "%s_archive::")
+    (or_line (nearest (codes "ARCHIVE") d i) (value_of_lines (lines_of text)) (last_value_line (codes "ARCHIVE") d (ancestors_of d i ++ i ∷ []) (tree-is text).valid)
+    (found_line is_archive_line (lines_of text) (all_flat (lines_of text) (lines_of-lines text)))) (tested (codes "%s_archive::") refl)
 
 behind_first : (b : ℕ) (l : List ℕ) → Flat (b ∷ l) → Flat l
 behind_first b l line = record { flat = line.flat.1 }

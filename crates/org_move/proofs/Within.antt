@@ -1,7 +1,6 @@
 -- The edits of a subtree archived in its own text make the document that is defined.
-use Rattle.std.proofs.Common.{arith, ◌≡◌, ℕ, ◌<◌, List, [], ◌∷◌, Option, Ok, Err, ap, subst, ◌∙◌}
-use Rattle.std.proofs.lemmas.Grind.{common_steps}
-use Rattle.std.specs.Prelude.{Result}
+use Rattle.std.proofs.Common.{◌≡◌, ℕ, ◌<◌, List, [], ◌∷◌, Option, Ok, Err, rules, refl, sym, ap, subst, ◌∙◌}
+use Rattle.std.specs.Prelude.{Result, IsOk}
 use Rattle.org_fault.specs.declared.fault.Fault.{Fault}
 use Rattle.org_fault.specs.declared.fault.Fault.TheVariants.{OutOfMemory, Refused}
 use Rattle.org_fault.specs.declared.refusal.Refusal.{Refusal}
@@ -19,7 +18,7 @@ use Rattle.org_move.specs.Answers.{IsMadeAs}
 use Rattle.org_move.specs.Archive.{archive_within_at, archived, filled, if_apart, put_last, target_heading}
 use Rattle.org_move.specs.Edits.{insertion, removal}
 use Rattle.org_move.specs.Location.{Destination}
-use Rattle.org_move.proofs.Apart.{apart_same, apart_too}
+use Rattle.org_move.proofs.Apart.{apart_fails, apart_same, apart_too}
 use Rattle.org_move.proofs.Made.{prints}
 use Rattle.org_move.proofs.Putting.{level_at}
 
@@ -30,20 +29,31 @@ left_with states name now to d i up = put_last to (parent_without i (size_of d i
 -- what is defined, once the heading of the destination is found
 found_up : (states : Keywords) (name : List ℕ) (now : Moment) (to : Destination) (d : Document) (s : Result (Option ℕ) PathFault) (i : ℕ) (up : Option ℕ)
     → s ≡ target_heading states to d → s ≡ Ok up → archive_within_at states name now to d i ≡ if_apart d i up (left_with states name now to d i up)
-found_up states name now to d s i up s_is found = grind (arith, common_steps)
+found_up states name now to d s i up s_is found =
+    let there : target_heading states to d ≡ Ok up = sym s_is ∙ found in
+    rw there refl
 
 pub not_apart : {C : Type 0} (states : Keywords) (name : List ℕ) (now : Moment) (to : Destination) (d : Document) (Fits : Document → C → Type 0) (s : Result (Option ℕ) PathFault)
     (i : ℕ) (up : Option ℕ) (why : Refusal)
     → s ≡ target_heading states to d → s ≡ Ok up → Err why ≡ if_apart d i up up
     → IsMadeAs {A = C} (archive_within_at states name now to d i) Fits (Err (Refused why))
-not_apart states name now to d Fits s i up why s_is found fails = grind (arith, common_steps)
+not_apart states name now to d Fits s i up why s_is found fails =
+    apart_fails d i up up (left_with states name now to d i up) (archive_within_at states name now to d i) why
+    (found_up states name now to d s i up s_is found) fails
+
+some_ok : (r : Result Document Refusal) (d : Document) → r ≡ Ok d → IsOk r
+some_ok (Ok new) d is = search rules
+some_ok (Err fault) d is = absurd cc
 
 -- memory is wanted only where a document is defined
 pub starved : {C : Type 0} (states : Keywords) (name : List ℕ) (now : Moment) (to : Destination) (d : Document) (Fits : Document → C → Type 0) (s : Result (Option ℕ) PathFault)
     (i : ℕ) (asked up : Option ℕ) (fault : Fault Refusal)
     → s ≡ target_heading states to d → s ≡ Ok asked → Ok up ≡ if_apart d i asked asked → fault ≡ OutOfMemory
     → IsMadeAs {A = C} (archive_within_at states name now to d i) Fits (Err fault)
-starved {C} states name now to d Fits s i asked up fault s_is found is memory = grind (arith, common_steps)
+starved {C} states name now to d Fits s i asked up fault s_is found is memory =
+    let defined : archive_within_at states name now to d i ≡ Ok (left_with states name now to d i asked) =
+    found_up states name now to d s i asked s_is found ∙ apart_too d i asked asked up (left_with states name now to d i asked) is in
+    subst (λ (f : Fault Refusal). IsMadeAs {A = C} (archive_within_at states name now to d i) Fits (Err f)) (sym memory) (some_ok (archive_within_at states name now to d i) (left_with states name now to d i asked) defined)
 
 pub archived_within : (states : Keywords) (name : List ℕ) (now : Moment) (t : List ℕ) (to : Destination) (s : Result (Option ℕ) PathFault)
     (i : ℕ) (asked up : Option ℕ) (at : ℕ) (bytes : List ℕ) (out goes_in : Edit)

@@ -1,6 +1,5 @@
 -- The parts that a heading line is split into are the ones that it has.
-use Rattle.std.proofs.Common.{◌≡◌, ℕ, ◌-◌, ◌<◌, Bool, true, false, ◌&&◌, eqb, ltb, List, [], ◌∷◌, ◌++◌, length, take, drop, refl, sym, ap, subst, ◌∙◌, append_assoc, arith, rules, inl, inr}
-use Rattle.std.proofs.lemmas.Grind.{common_steps}
+use Rattle.std.proofs.Common.{◌≡◌, ℕ, ◌-◌, ◌<◌, Bool, true, false, ◌&&◌, ◌||◌, eqb, ltb, List, [], ◌∷◌, ◌++◌, length, take, drop, refl, sym, ap, subst, ◌∙◌, append_assoc, arith, rules, inl, inr}
 use Rattle.std.specs.Prelude.{◌⊎◌, IsTrue}
 use Rattle.std.specs.Char.{is_ascii_alphanumeric}
 use Rattle.std.specs.List.{AllByRecursion, flat_map, list_all}
@@ -11,7 +10,7 @@ use Rattle.org_splice.specs.Blanks.{is_blank, is_solid, is_trailing, front, behi
 use Rattle.org_splice.proofs.Ends.{both, front_behind, front_passes, end_passes, kept_end}
 use Rattle.org_outline.specs.HeadingLine.{BeginsWithNo, EndsWithNo, IsState, IsPriority, IsTag, AreTags, BeginsWithState, BeginsWithPriority, EndsWithTags, Takes, HasParts}
 use Rattle.org_outline.specs.Parts.{Parts, keyword_of, priority_of, is_tag_byte, are_tags, are_closed_tags, tags_of, content_of, after_keyword, after_priority, without_blanks, parts_of}
-use Rattle.org_outline.specs.States.{Keywords, are_states}
+use Rattle.org_outline.specs.States.{Keywords, is_state_byte, has_word, are_states}
 use Rattle.org_outline.proofs.Borders.{front_is, behind_is, without_end_is, end_of_is, solid, begins_behind, begins_before, ends_before}
 use Rattle.org_outline.proofs.Splitting.{state_word, priority_front, tags_behind}
 
@@ -19,7 +18,9 @@ use Rattle.org_outline.proofs.Splitting.{state_word, priority_front, tags_behind
 
 -- a state has no blank
 state_solid : (states : Keywords) (w : List ℕ) → IsTrue (are_states states) → IsState states w → list_all is_solid w ≡ true
-state_solid states w ok is = grind (arith, common_steps, both, state_word, solid)
+state_solid states w ok is =
+    let bytes = both _ (list_all is_state_byte w) (state_word states w ok is) in
+    solid is_state_byte w refl refl bytes.1
 
 whole_word : (states : Keywords) (l : List ℕ) → IsState states (front is_solid l) → BeginsWithState states l (front is_solid l) (behind is_solid l)
 whole_word states l is = record { is = front_behind is_solid l; state = is; word = begins_behind is_solid l }
@@ -28,11 +29,34 @@ abbrev Keyword : Keywords → List ℕ → List ℕ → List ℕ → Type 0
 Keyword states l keyword tail = Takes (BeginsWithState states l) l keyword tail
 
 keyword_read : (states : Keywords) (l keyword tail : List ℕ) → IsTrue (are_states states) → Keyword states l keyword tail → (keyword_of states l ≡ keyword) × (l ≡ keyword ++ tail)
-keyword_read states l keyword tail ok (inl h) = grind (arith, common_steps, front, front_is, state_solid)
-keyword_read states l keyword tail ok (inr h) = grind (arith, common_steps, cases_Bool, front, behind, whole_word)
+keyword_read states l keyword tail ok (inl h) =
+    let run : front is_solid l ≡ keyword = ap (front is_solid) h.is ∙ front_is is_solid keyword tail (state_solid states keyword ok h.state) h.word in
+    let is : IsState states (front is_solid l) = subst (IsState states) (sym run) h.state in
+    (rw is run, h.is)
+keyword_read states l keyword tail ok (inr h) =
+    let whole : l ≡ keyword ++ tail = rw (h.0, h.1) refl in
+    elim (cases_Bool (has_word states.active (front is_solid l) || has_word states.done (front is_solid l))) [
+      | inl e ↦ absurd (h.2 (front is_solid l) (behind is_solid l) (whole_word states l e))
+      | inr e ↦ (rw e (sym h.0), whole)
+    ]
 
 keyword_taken : (states : Keywords) (l : List ℕ) → IsTrue (are_states states) → Keyword states l (keyword_of states l) (drop (length (keyword_of states l)) l)
-keyword_taken states l ok = search (rules, arith, cases_Bool, front, behind, front_behind, drop_at, whole_word, front_is, state_solid)
+keyword_taken states l ok =
+    elim (cases_Bool (has_word states.active (front is_solid l) || has_word states.done (front is_solid l))) [
+      | inl e ↦
+          let run = front is_solid l in
+          let tail : drop (length run) l ≡ behind is_solid l = ap (drop (length run)) (front_behind is_solid l) ∙ drop_at run (behind is_solid l) (length run) refl in
+          rw e (inl (rw tail (whole_word states l e)))
+      | inr e ↦
+          rw e (inr (
+            refl,
+            refl,
+            λ w t h.
+                let run : front is_solid l ≡ w = ap (front is_solid) h.is ∙ front_is is_solid w t (state_solid states w ok h.state) h.word in
+                let is : IsState states (front is_solid l) = subst (IsState states) (sym run) h.state in
+                absurd (let no : true ≡ false = sym is ∙ e in cc),
+          ))
+    ]
 
 -- ---- the priority
 
@@ -44,13 +68,26 @@ priority_found [] = inl refl
 priority_found (a ∷ []) = inl refl
 priority_found (a ∷ b ∷ []) = inl refl
 priority_found (a ∷ b ∷ x ∷ []) = inl refl
-priority_found (a ∷ b ∷ x ∷ c ∷ l) = grind (arith, common_steps)
+priority_found (a ∷ b ∷ x ∷ c ∷ l) =
+    elim (cases_Bool (eqb a 91 && eqb b 35 && is_ascii_alphanumeric x && eqb c 93)) [
+      | inl e ↦
+          let t = both (eqb a 91 && eqb b 35 && is_ascii_alphanumeric x) (eqb c 93) e in
+          let u = both (eqb a 91 && eqb b 35) (is_ascii_alphanumeric x) t.0 in
+          let v = both (eqb a 91) (eqb b 35) u.0 in
+          let first : a ≡ 91 = eqb-true a 91 v.0 in
+          let second : b ≡ 35 = eqb-true b 35 v.1 in
+          let last : c ≡ 93 = eqb-true c 93 t.1 in
+          rw e (inr (record { value = x; alphanumeric = u.1; is = rw (first, second, last) refl }))
+      | inr e ↦ rw e (inl refl)
+    ]
 
 priority_begins : (x : ℕ) (tail : List ℕ) → IsTrue (is_ascii_alphanumeric x) → priority_of (91 ∷ 35 ∷ x ∷ 93 ∷ tail) ≡ 91 ∷ 35 ∷ x ∷ 93 ∷ []
 priority_begins x tail letter = rw letter refl
 
 priority_read : (l priority tail : List ℕ) → Priority l priority tail → (priority_of l ≡ priority) × (l ≡ priority ++ tail)
-priority_read l priority tail (inl h) = grind (arith, common_steps)
+priority_read l priority tail (inl h) =
+    let p = h.well_formed in
+    (ap priority_of (h.is ∙ ap (λ w. w ++ tail) p.is) ∙ priority_begins p.value tail p.alphanumeric ∙ sym p.is, h.is)
 priority_read l priority tail (inr h) =
     elim (priority_found l) [
       | inl none ↦ (none ∙ sym h.0, rw (h.0, h.1) refl)
@@ -58,7 +95,19 @@ priority_read l priority tail (inr h) =
     ]
 
 priority_taken : (l : List ℕ) → Priority l (priority_of l) (after_priority l)
-priority_taken l = grind (arith, common_steps, priority_found, priority_begins, priority_front)
+priority_taken l =
+    elim (priority_found l) [
+      | inl none ↦
+          inr (
+            none,
+            ap (λ p. drop (length p) l) none,
+            λ p o h.
+                let is = h.well_formed in
+                let begins : priority_of l ≡ 91 ∷ 35 ∷ is.value ∷ 93 ∷ [] = ap priority_of (h.is ∙ ap (λ w. w ++ o) is.is) ∙ priority_begins is.value o is.alphanumeric in
+                absurd (let no : [] ≡ 91 ∷ 35 ∷ is.value ∷ 93 ∷ [] = sym none ∙ begins in cc),
+          )
+      | inr found ↦ inl (record { is = priority_front l; well_formed = found })
+    ]
 
 -- ---- the tags
 
@@ -66,7 +115,11 @@ abbrev closed : List (List ℕ) → List ℕ
 closed tags = flat_map (λ tag. tag ++ 58 ∷ []) tags
 
 no_colon : (b : ℕ) → is_tag_byte b ≡ true → eqb b 58 ≡ false
-no_colon b letter = grind (arith, common_steps)
+no_colon b letter =
+    elim (cases_Bool (eqb b 58)) [
+      | inl e ↦ absurd (let is : is_tag_byte 58 ≡ true = ap is_tag_byte (sym (eqb-true b 58 e)) ∙ letter in cc)
+      | inr e ↦ e
+    ]
 
 within_tag : (tag l : List ℕ) → list_all is_tag_byte tag ≡ true → are_closed_tags true (tag ++ 58 ∷ l) ≡ are_closed_tags false l
 within_tag [] l letters = refl
@@ -76,7 +129,9 @@ within_tag (b ∷ tag) l letters =
 
 one_tag : (tag l : List ℕ) → IsTag tag → are_closed_tags false (tag ++ 58 ∷ l) ≡ are_closed_tags false l
 one_tag [] l is = absurd (omega (arith, is.some))
-one_tag (b ∷ tag) l is = grind (arith, common_steps, both, no_colon, within_tag)
+one_tag (b ∷ tag) l is =
+    let t = both (is_tag_byte b) (list_all is_tag_byte tag) is.letters in
+    rw (no_colon b t.0, t.0) (within_tag tag l t.1)
 
 tags_closed : (tags : List (List ℕ)) → AllByRecursion IsTag tags → are_closed_tags false (closed tags) ≡ true
 tags_closed [] all = refl
@@ -87,11 +142,17 @@ closed_some [] some = absurd (omega (arith, some))
 closed_some (tag ∷ tags) some = omega (arith, length-append (tag ++ 58 ∷ []) (closed tags), length-append tag (58 ∷ []))
 
 tags_pass : (l : List ℕ) → AreTags l → are_tags l ≡ true
-tags_pass l h = grind (arith, common_steps, closed, closed_some, tags_closed)
+tags_pass l h =
+    let long : 0 < length (closed h.tags) = closed_some h.tags h.some in
+    let some : ltb 0 (length (closed h.tags)) ≡ true = search rules in
+    ap are_tags h.is ∙ rw (some, tags_closed h.tags h.each) refl
 
 tag_solid : (tags : List (List ℕ)) → AllByRecursion IsTag tags → list_all is_solid (closed tags) ≡ true
 tag_solid [] all = refl
-tag_solid (tag ∷ tags) all = grind (arith, common_steps, list_all-append, closed, solid, tag_solid tags all.1)
+tag_solid (tag ∷ tags) all =
+    let first = all.0 in
+    list_all-append is_solid (tag ++ 58 ∷ []) (closed tags)
+    ∙ rw (list_all-append is_solid tag (58 ∷ []), solid is_tag_byte tag refl refl first.letters, tag_solid tags all.1) refl
 
 tags_solid : (l : List ℕ) → AreTags l → list_all is_solid l ≡ true
 tags_solid l h = ap (list_all is_solid) h.is ∙ tag_solid h.tags h.each
@@ -143,7 +204,10 @@ abbrev Tags : List ℕ → List ℕ → List ℕ → Type 0
 Tags l tags before = Takes (EndsWithTags l) l tags before
 
 tags_read : (l tags before : List ℕ) → Tags l tags before → tags_of l ≡ tags
-tags_read l tags before (inl h) = grind (arith, common_steps, end_of, end_of_is, tags_solid, tags_pass)
+tags_read l tags before (inl h) =
+    let run : end_of is_solid l ≡ tags = ap (end_of is_solid) h.is ∙ end_of_is is_solid before tags (tags_solid tags h.well_formed) h.word in
+    let pass : are_tags (end_of is_solid l) ≡ true = ap are_tags run ∙ tags_pass tags h.well_formed in
+    rw pass run
 tags_read l tags before (inr h) =
     elim (cases_Bool (are_tags (end_of is_solid l))) [
       | inl e ↦ absurd (h.2 (end_of is_solid l) (without_end is_solid l) (record { is = kept_end is_solid l; well_formed = tags_are (end_of is_solid l) e; word = ends_before is_solid l }))
@@ -170,7 +234,11 @@ tags_taken l =
 -- ---- the title
 
 begins_more : (p : ℕ → Bool) (b : ℕ) (l more : List ℕ) → BeginsWithNo p (b ∷ l) → BeginsWithNo p (b ∷ (l ++ more))
-begins_more p b l more none = grind (arith, common_steps)
+begins_more p b l more none =
+    elim (cases_Bool (p b)) [
+      | inl e ↦ absurd (omega (arith, rw e at none))
+      | inr e ↦ rw e refl
+    ]
 
 unblanked : (second title third : List ℕ) → list_all is_blank second ≡ true → list_all is_blank third ≡ true → BeginsWithNo is_blank title → EndsWithNo is_blank title → without_blanks (second ++ (title ++ third)) ≡ title
 unblanked second [] third before after begins ends =
@@ -194,7 +262,9 @@ title_read second title third tags before after begins ends =
 -- ---- all parts
 
 same_parts : (a b : Parts) → a.gap ≡ b.gap → a.keyword ≡ b.keyword → a.priority ≡ b.priority → a.title ≡ b.title → a.tags ≡ b.tags → a ≡ b
-same_parts a b e1 e2 e3 e4 e5 = grind (arith, common_steps)
+same_parts a b e1 e2 e3 e4 e5 =
+    ap (λ l. record a { gap = l }) e1 ∙ ap (λ l. record a { gap = b.gap; keyword = l }) e2 ∙ ap (λ l. record b { priority = l; title = a.title; tags = a.tags }) e3
+    ∙ ap (λ l. record b { title = l; tags = a.tags }) e4 ∙ ap (λ l. record b { tags = l }) e5
 
 pub only_parts : (states : Keywords) (rest : List ℕ) (parts : Parts) → IsTrue (are_states states) → HasParts states rest parts → parts ≡ parts_of states rest
 only_parts states rest parts ok h =

@@ -1,5 +1,5 @@
 -- One run after another, over what a crash left of the first.
-use Rattle.std.proofs.Common.{rules, arith, ◌≡◌, ℕ, ◌≤◌, List, Option, Some, None, refl, sym, ap, ◌∙◌, subst}
+use Rattle.std.proofs.Common.{◌≡◌, ℕ, ◌≤◌, List, Option, Some, None, refl, sym, ap, ◌∙◌, subst}
 use Rattle.std.specs.Prelude.{slice_get, IsSomeAnd}
 use Rattle.std.specs.List.{All}
 use Rattle.org_disk.specs.declared.disk.Disk.{Ghosts}
@@ -44,7 +44,9 @@ with_archives_in_order given more names same sorted =
 module _ {D E : Type 0} {g : Ghosts D} {h : Ghosts E} {one other : Setup} {disk now : D} {left after : E} {end last : ServeEnd} {io more : Exchange}
     (first : ServesOver g one disk now end io) (second : ServesOver h other left after last more) where
   same_names : AreSameNames one.names.items other.names.items → second.first.store.session.names ≡ first.first.store.session.names
-  same_names same = search (rules, arith, one_sorting, with_archives_in_order)
+  same_names same =
+      one_sorting (with_archives other.names.items) second.first.store.session.names first.first.store.session.names second.begins.names
+      (with_archives_in_order one.names.items other.names.items first.first.store.session.names same first.begins.names)
 
   -- the texts that an image holds are those that the second run begins with
   begins_with : (texts : List (List ℕ)) (image : Image) → All IsOrgFile one.names.items → AreSmall first.first.store.session.names texts → Holds first.first.store.session (contents (g.files first.first.store.disk)) texts image

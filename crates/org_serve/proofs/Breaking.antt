@@ -4,14 +4,14 @@ use Rattle.std.proofs.lemmas.Grind.{common_steps}
 use Rattle.org_disk.specs.declared.disk.Disk.{Ghosts}
 use Rattle.std.specs.Prelude.{IsTrue, IsFalse, Ok}
 use Rattle.org_disk.specs.CountsFailures.{CountsFailures}
-use Rattle.org_disk.proofs.Accounting.{accounts_then}
+use Rattle.org_disk.proofs.Accounting.{accounts_then, accounts_none}
 use Rattle.org_disk.specs.Disk.{HasRisen}
-use Rattle.org_commands.specs.declared.command.RunFault.TheVariants as run
 use Rattle.org_commands.specs.Session.{Session, StoreView}
 use Rattle.org_serve.specs.declared.end.ServeEnd.{ServeEnd}
 use Rattle.org_serve.specs.declared.end.ServeEnd.TheVariants.{End, Unsettled, Device, Read, Write}
 use Rattle.org_serve.specs.Serving.{HasBroken, EndSaysBroken, refused_end}
 use Rattle.org_serve.specs.Whole.{SaysFailure}
+use Rattle.org_journal.proofs.Accounted.{accounts_quiet}
 
 both_ways : {b : Bool} → b ≡ true → b ≡ false → ⊥
 both_ways is isnt = true≢false (sym is ∙ isnt)
@@ -62,6 +62,11 @@ served_accounts {D} {g} {disk} end store after opened served sound ends is =
     equal Device ends rises stays fine = absurd (fine tt)
     equal Read ends rises stays fine = stays (λ broke. fine (rises broke))
     equal Write ends rises stays fine = stays (λ broke. fine (rises broke))
+
+-- nothing was done
+pub accounts_still : {D : Type 0} {g : Ghosts D} {disk : D} (session : Session)
+    → CountsFailures g disk disk (HasBroken session session)
+accounts_still {g = g} {disk = disk} session = accounts_quiet (λ has. both_ways has.1 has.0) (accounts_none g disk)
 
 pub write_unread : Write ≡ Read → ⊥
 write_unread is = cc is

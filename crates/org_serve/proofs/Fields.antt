@@ -12,7 +12,7 @@ use Rattle.std.proofs.lemmas.List.Elements.{All-from_get_or}
 use Rattle.std.proofs.lemmas.List.Splits.{length-slice_split, slice_split_none}
 use Rattle.org_commands.specs.declared.command.Command.{Command}
 use Rattle.org_commands.specs.declared.command.Command.TheVariants.{Settle}
-use Rattle.org_serve.specs.Grammar.{command_of, command_of_fields}
+use Rattle.org_serve.specs.Grammar.{command_of, command_of_fields, clocked_of, archive_of, clock_in_of, todo_of, edit_of, refile_of, capture_of, show_of, clock_out_of}
 
 more_than_seven : (fields : List (List ℕ)) → 7 < length fields → command_of_fields fields ≡ None
 more_than_seven [] e = absurd (omega arith)
@@ -121,6 +121,27 @@ four_fields (a ∷ b ∷ c ∷ e ∷ f ∷ more) some few = absurd (omega arith)
 abbrev Within : List ℕ → List ℕ → List ℕ → Fields → Option Command → Type 0
 Within word name place more read = command_of_fields (word ∷ name ∷ place ∷ now_of more) ≡ read
 
+pub is_time : (word name place : List ℕ) (more : Fields) → length more < 1 → bytes_eq word (codes "time") ≡ true → Within word name place more (clocked_of name place)
+is_time word name place more few is = rw (no_fields more few, is) refl
+
+pub is_archive : (word name place : List ℕ) (more : Fields) → 1 ≤ length more → length more < 2 → bytes_eq word (codes "archive") ≡ true → Within word name place more (archive_of name place (at more 0))
+is_archive word name place more some few is = rw (one_field more some few, is) refl
+
+pub is_clock_in : (word name place : List ℕ) (more : Fields) → 1 ≤ length more → length more < 2 → bytes_eq word (codes "archive") ≡ false → bytes_eq word (codes "clock-in") ≡ true → Within word name place more (clock_in_of name place (at more 0))
+is_clock_in word name place more some few other is = rw (one_field more some few, other, is) refl
+
+pub is_todo : (word name place : List ℕ) (more : Fields) → 2 ≤ length more → length more < 3 → bytes_eq word (codes "todo") ≡ true → Within word name place more (todo_of name place (at more 0) (at more 1))
+is_todo word name place more some few is = rw (two_fields more some few, is) refl
+
+pub is_edit : (word name place : List ℕ) (more : Fields) → 2 ≤ length more → length more < 3 → bytes_eq word (codes "todo") ≡ false → bytes_eq word (codes "edit") ≡ true → Within word name place more (edit_of name place (at more 0) (at more 1))
+is_edit word name place more some few other is = rw (two_fields more some few, other, is) refl
+
+pub is_refile : (word name place : List ℕ) (more : Fields) → 3 ≤ length more → length more < 4 → bytes_eq word (codes "refile") ≡ true → Within word name place more (refile_of name place (at more 0) (at more 1) (at more 2))
+is_refile word name place more some few is = rw (three_fields more some few, is) refl
+
+pub is_capture : (word name place : List ℕ) (more : Fields) → 4 ≤ length more → length more < 5 → bytes_eq word (codes "capture") ≡ true → Within word name place more (capture_of name place (at more 0) (at more 1) (at more 2) (at more 3))
+is_capture word name place more some few is = rw (four_fields more some few, is) refl
+
 -- where the word is none of a command of so many fields
 pub no_time : (word name place : List ℕ) (more : Fields) → length more < 1 → bytes_eq word (codes "time") ≡ false → Within word name place more None
 no_time word name place more few other = rw (no_fields more few, other) refl
@@ -146,6 +167,12 @@ no_field fields few = rw (no_fields fields few) refl
 
 pub is_settle : (fields : Fields) → 1 ≤ length fields → length fields < 2 → bytes_eq (at fields 0) (codes "settle") ≡ true → command_of_fields (now_of fields) ≡ Some Settle
 is_settle fields some few is = rw (one_field fields some few, is) refl
+
+pub is_show : (fields : Fields) → 2 ≤ length fields → length fields < 3 → bytes_eq (at fields 0) (codes "show") ≡ true → command_of_fields (now_of fields) ≡ show_of (at fields 1)
+is_show fields some few is = rw (two_fields fields some few, is) refl
+
+pub is_clock_out : (fields : Fields) → 2 ≤ length fields → length fields < 3 → bytes_eq (at fields 0) (codes "show") ≡ false → bytes_eq (at fields 0) (codes "clock-out") ≡ true → command_of_fields (now_of fields) ≡ clock_out_of (at fields 1)
+is_clock_out fields some few other is = rw (two_fields fields some few, other, is) refl
 
 pub no_settle : (fields : Fields) → 1 ≤ length fields → length fields < 2 → bytes_eq (at fields 0) (codes "settle") ≡ false → command_of_fields (now_of fields) ≡ None
 no_settle fields some few other = rw (one_field fields some few, other) refl

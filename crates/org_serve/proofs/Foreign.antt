@@ -1,11 +1,11 @@
 -- A run writes no file but its own.
-use Rattle.std.proofs.Common.{arith, ◌≡◌, ◌⊎◌, inl, inr, ℕ, List, [], ◌∷◌, Result, Ok, Err, refl, sym, ap, subst}
-use Rattle.std.proofs.lemmas.Grind.{common_steps}
+use Rattle.std.proofs.Common.{◌≡◌, ◌⊎◌, inl, inr, ⊎_elim, ℕ, List, [], ◌∷◌, Result, Ok, Err, refl, sym, ap, subst}
 use Rattle.org_disk.specs.declared.disk.Disk.{Ghosts}
 use Rattle.std.proofs.lemmas.Bool.{cases_Bool}
 use Rattle.org_disk.specs.CountsFailures.{LeavesOver}
 use Rattle.org_disk.specs.Disk.{AreImages}
 use Rattle.org_disk.specs.Names.{journal_name}
+use Rattle.org_disk.proofs.Moments.{passes_as}
 use Rattle.org_journal.specs.Recovered.{contents}
 use Rattle.org_fileset.specs.Names.{with_archives}
 use Rattle.org_fileset.specs.Writes.{LeavesAlone}
@@ -48,7 +48,10 @@ module _ {D : Type 0} (g : Ghosts D) where
       own_then g old.store a.0.store new.store (own_read old a.3.0 a.1 a.0 ready a.3.2) (λ ready. own_lines a.0 new lines a.2 a.5 ready)
 
   own_end : (mid last : Trace D) → (last ≡ mid) ⊎ HasSettled (sound_traces g) mid last → Ready mid → Own mid last
-  own_end mid last ends ready = grind (arith, common_steps, own_same, own_settling)
+  own_end mid last ends ready = ⊎_elim
+      (λ same. own_same mid last ready same)
+      (λ settled. own_settling g mid.store last.store settled.0 ready settled.1.0.0)
+      ends
 
   pub own_runs : {first last : Trace D} {end : ServeEnd} {io : Exchange} → RunsLines (sound_traces g) first last end io → Ready first → Own first last
   own_runs {first} {last} run ready =
@@ -57,7 +60,10 @@ module _ {D : Type 0} (g : Ghosts D) where
 -- the syncs of a store's files
 pub synced_alone : {D : Type 0} (g : Ghosts D) (given : List (List ℕ)) (journal : List ℕ) (disk mid : D)
     → ((name : List ℕ) → IsNotStored given name → g.files mid name ≡ g.files disk name) → LeavesOver g disk mid (AreImages (g.files disk)) → LeavesAlone g (IsForeign given journal) disk mid
-synced_alone g given journal disk mid others time = grind (arith, common_steps)
+synced_alone g given journal disk mid others time = record {
+  same = λ name foreign. others name foreign.outside;
+  time = passes_as time.passes (λ image left name foreign. left name);
+}
 
 module _ {D : Type 0} {g : Ghosts D}
     {setup : Setup} {disk now : D} {end : ServeEnd} {io : Exchange}
@@ -79,7 +85,9 @@ module _ {D : Type 0} {g : Ghosts D}
   ready = subst (AreNames served.first.store.session.names) (sym served.dirty_files) tt
 
   alone_to : (here : Trace D) → g.honest served.first.store.disk → KeepsToItsOwn g served.first.store here.store → LeavesAlone g (IsForeign setup.names.items journal) disk here.store.disk
-  alone_to here began own = grind (arith, common_steps, alone_then, journal, alone_fewer, apart)
+  alone_to here began own =
+      alone_then g (IsForeign setup.names.items journal) disk served.first.store.disk here.store.disk (served.alone began)
+      (alone_fewer g (IsForeign setup.names.items journal) (IsApart served.first.store.session.names) served.first.store.disk here.store.disk own.alone apart)
 
   pub leaves_foreign : LeavesForeign served
   leaves_foreign here (inl way) honestly =

@@ -14,7 +14,7 @@ use Rattle.org_serve.specs.Lines.{Cut, cut, Stands}
 use Rattle.org_serve.specs.Serving.{EndsAt, EndsWith, FeedsAll, FeedsSome, FeedsToEnd, MayHaveSettled, Passes, PassesAll, RunsSome, Serves, ServesAll, ServesInput, ServesToEnd, most_read, refused_end}
 use Rattle.org_serve.proofs.Counting.{read_apart}
 use Rattle.org_serve.proofs.Cuts.{cut-append}
-use Rattle.org_serve.proofs.Joins.{Appends-append, Consumes-append, Each-append, some_then}
+use Rattle.org_serve.proofs.Joins.{Appends-append, Consumes-append, Each-append, some_then, Appends-none, Consumes-none}
 
 -- The input so far was read, its lines are answered, and what stands behind its last newline is
 -- kept.
@@ -25,6 +25,11 @@ pub record Served {S : Type 0} (group : Group) (m : Machine S) (old new : S) (le
   pub passes : PassesAll group m old (cut input).lines out new
   pub wrote : Appends written written' out
   pub stands : Stands pending (cut input).rest
+
+-- none of it was read
+pub Served-none : {S : Type 0} {group : Group} {m : Machine S} {old : S} {left written : Option (List ℕ)} {pending : Pending} → Stands pending []
+    → Served group m old old left left written written pending
+Served-none {left = left} {written = written} stands = record { input = []; out = []; read = Consumes-none left; passes = (refl, refl); wrote = Appends-none written; stands = stands }
 
 -- lines of a piece, behind those of the input before it
 ends_later : {S : Type 0} {group : Group} {m : Machine S} {Last : S → List ℕ → List ℕ → S → Type 0} {old mid new : S} (input piece out more : List ℕ) → PassesAll group m old (cut input).lines out mid

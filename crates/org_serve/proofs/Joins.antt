@@ -1,7 +1,7 @@
 -- Runs, reads and writes, one after another.
-use Rattle.std.proofs.Common.{arith, ◌≡◌, ℕ, List, [], ◌∷◌, ◌++◌, Option, None, Some, Result, Ok, Err, refl, sym, ap, ◌∙◌, append_assoc, append-nil, subst}
+use Rattle.std.proofs.Common.{arith, ◌≡◌, ℕ, List, [], ◌∷◌, ◌++◌, Option, None, Some, Result, Ok, Err, refl, sym, ap, ◌∙◌, append_assoc, append-nil, subst, true≢false}
 use Rattle.std.proofs.lemmas.Grind.{common_steps}
-use Rattle.std.specs.Prelude.{OnOk, OnErr, IfErr, IsErrAnd, false, is_ok}
+use Rattle.std.specs.Prelude.{OnOk, OnErr, IfErr, IsErrAnd, false, is_ok, IsErr}
 use Rattle.std.specs.Io.KnownBytes.{Consumes, Appends, Keeps}
 use Rattle.std.specs.Result.{result_and}
 use Rattle.org_disk.specs.Disk.{IsCounted}
@@ -20,7 +20,7 @@ use Rattle.org_serve.specs.Writes.{Writes}
 use Rattle.org_store.specs.Calls.{Machine}
 use Rattle.org_store.specs.Calls.Call.{Ran}
 use Rattle.org_serve.specs.Replies.{answer_text, fault_text}
-use Rattle.org_serve.specs.Serving.{Answers, AnswersEach, AnswersLine, AnswersRead, EndsAt, LineLeadsTo, Passes, PassesAll, ReadLeadsTo, ReadOutcome, behind}
+use Rattle.org_serve.specs.Serving.{Answers, AnswersEach, AnswersLine, AnswersRead, EndsAt, LineLeadsTo, Passes, PassesAll, ReadLeadsTo, ReadOutcome, behind, IsReadAs, LineOutcome}
 
 -- Lines answered one by one, and then more.
 module _ {S : Type 0} (OneLine : S → List ℕ → List ℕ → S → Type 0) where
@@ -73,6 +73,12 @@ pub then_leads : {S W E : Type 0} (w : sinks.Ghosts W) (group : Group) (next : N
 then_leads w group next m old read out new first last (Ok done) result is leads wrote =
     subst (λ r. ReadOutcome group r m old read out new × Writes w first last r out) (sym is) (leads, record { ok = wrote.ok; part = tt; same = wrote.same; counted = tt })
 then_leads w group next m old read out new first last (Err fault) result is leads wrote = grind (arith, common_steps)
+
+-- what a line comes to, as what it was read as does
+pub outcome_of : {S E : Type 0} (group : Group) (result : Result Next E) (m : Machine S) (old : S) (line : List ℕ) (read : Result Command (Fault BadLine)) (out : List ℕ) (new : S) → IsReadAs line read
+    → ReadOutcome group result m old read out new → LineOutcome group result m old line out new
+outcome_of group (Ok next) m old line read out new is ran = (read, is, ran)
+outcome_of group (Err fault) m old line read out new is ran = (read, is, ran)
 
 pub all_answer : {S : Type 0} (group : Group) (m : Machine S) (old : S) (lines : List (List ℕ)) (out : List ℕ) (new : S) → PassesAll group m old lines out new → Answers m old lines out new
 all_answer group m old lines out new a = Each-weaker (Passes group m) (AnswersLine m) (line_answers group Line m) old lines out new a
@@ -149,6 +155,12 @@ pub then_flushed : {W A B E F : Type 0} (w : sinks.Ghosts W) {first mid new : W}
     → OnOk last (w.failures new ≡ w.failures mid) → OnErr last (IsCounted (w.failures mid) (w.failures new)) → Writes w first new last text
 then_flushed w {first} {mid} {new} (Ok y) {text} is wrote kept same counted = grind (arith, common_steps)
 then_flushed w {first} {mid} {new} (Err e) {text} is wrote kept same counted = grind (arith, common_steps)
+
+-- a write that failed, handed on
+pub passed_on : {W A B E F : Type 0} (w : sinks.Ghosts W) {first new : W} {result : Result A E} (last : Result B F) {text : List ℕ} {e : E} → result ≡ Err e
+    → IsErr last → Writes w first new result text → Writes w first new last text
+passed_on w (Ok y) is failed wrote = absurd (true≢false (sym failed))
+passed_on w (Err f) is failed wrote = record { ok = tt; part = rw is at wrote.part; same = tt; counted = rw is at wrote.counted }
 
 -- what a `?` passed on
 pub passed_never : {A E : Type 0} (P : E → Type 0) (Q : Type 0) (answer : Result A E) → IsErrAnd answer P → OnOk answer Q

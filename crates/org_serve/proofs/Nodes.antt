@@ -1,6 +1,6 @@
 -- Commands of which a part isn't there, in whatever order the parts are read.
-use Rattle.std.proofs.Common.{◌≡◌, Option, None, Some, Result, Ok, Err, refl, sym, true≢false}
-use Rattle.std.specs.Prelude.{IsErr}
+use Rattle.std.proofs.Common.{◌≡◌, Option, None, Some, Result, Ok, Err, refl, sym, true≢false, subst}
+use Rattle.std.specs.Prelude.{IsErr, IsErrAnd}
 use Rattle.std.specs.Option.{option_map, option_and_then, ok_or}
 use Rattle.org_fault.specs.declared.fault.Fault.{Fault}
 use Rattle.org_serve.specs.declared.fault.BadLine.{BadLine}
@@ -32,3 +32,10 @@ pub part_refused : {Y : Type 0} (answer : Result Y (Fault BadLine)) (whole : Opt
 part_refused (Ok y) whole failed none = absurd (true≢false (sym failed))
 part_refused (Err (Refused _)) whole failed none = none
 part_refused (Err OutOfMemory) whole failed none = tt
+
+-- or why it couldn't be read
+pub part_unread : {X Y : Type 0} (fault : Fault BadLine) (part : Option X) (answer : Result Y (Fault BadLine)) (whole : Option Y) → Parses (Err fault) part → IsErrAnd answer (λ e. e ≡ fault)
+    → (part ≡ None → whole ≡ None) → Parses answer whole
+part_unread fault part (Ok y) whole gives is none = absurd is
+part_unread (Refused _) part (Err f) whole gives is none = subst (λ (e : Fault BadLine). Parses (Err e) whole) (sym is) (none gives)
+part_unread OutOfMemory part (Err f) whole gives is none = subst (λ (e : Fault BadLine). Parses (Err e) whole) (sym is) tt

@@ -1,11 +1,10 @@
 -- A whole run over a disk: an opening, and what is served then.
 use Rattle.std.proofs.Common.{◌≡◌, ◌⊎◌, inl, inr, ⊎_elim, ℕ, ◌≤◌, Bool, true, false, ◌||◌, if◌then◌else◌, nat_lt, is_some, List, [], ◌∷◌, Option, Some, None, Result, Ok, Err, refl, sym, ap, ◌∙◌, subst, arith}
-use Rattle.std.proofs.lemmas.Grind.{common_steps}
 use Rattle.org_disk.specs.declared.disk.Disk.{Ghosts}
 use Rattle.std.specs.Prelude.{IsSomeAnd, IsTrue, IsFalse, slice_get}
 use Rattle.org_disk.specs.Disk.{AreImages, HasRisen, LeavesOnly}
 use Rattle.org_disk.specs.Names.{journal_name}
-use Rattle.org_disk.proofs.Moments.{Image}
+use Rattle.org_disk.proofs.Moments.{Image, passes_as, passes_then, leaves_only}
 use Rattle.org_journal.specs.Recovered.{SameFiles, RecoversTo, IsRecoverable, recovered, contents}
 use Rattle.org_fileset.specs.Names.{with_archives, AreFew, AreSorted, first_large}
 use Rattle.org_fileset.specs.Recovery.{EachRecovers, IsReopened, RecoversAsBefore}
@@ -41,7 +40,9 @@ use Rattle.org_serve.proofs.Honest.{sound_last, sound_lines, sound_reaches, soun
 
 -- one run after another, of which each leaves something else
 leaves_then : {m n k : ℕ} {s u v : ℕ → Image → Type 0} {P Q : Image → Type 0} → LeavesOnly m n s u P → LeavesOnly n k u v Q → LeavesOnly m k s v (λ image. P image ⊎ Q image)
-leaves_then {m} first second = grind (arith, common_steps)
+leaves_then {m} first second =
+    leaves_only (passes_then (passes_as first.passes (λ image p. inl p)) second.passes (λ image q. inr q))
+    (λ image left. inl (first.each image (first.passes.keeps m image (omega arith) left)))
 
 begins : (setup : Setup) (files : Image) (store begun : Session) → begun ≡ record store { group = setup.group }
     → store ≡ opened setup.states store.names (texts_of files store.names) → AreFew setup.names.items → AreSorted (with_archives setup.names.items) store.names → Begins setup files begun
@@ -229,7 +230,9 @@ module _ {D : Type 0} {g : Ghosts D}
     moment_at later (inl way) honestly =
         let whole = sound_traced g (up_to served.run later way) honestly in
         moment_in later whole.0 whole.1 honestly (rest whole.1) (opening whole.1)
-    moment_at later (inr same) honestly = grind (arith, common_steps, moment_at_last)
+    moment_at later (inr same) honestly =
+        subst (λ (p : Trace D). LeavesOnly (g.instant disk) (g.instant p.store.disk) (g.left_since disk) (g.left_since p.store.disk) (λ image. RecoversAsBefore (g.files disk) image ⊎ HoldsServed served served.first p image)) (sym same)
+        (moment_at_last (subst (λ (p : Trace D). g.honest p.store.disk) same honestly))
 
     since_at_last : (here : Trace D) → IsIntermediate served here → g.honest served.last.store.disk → here.store.session.broken ≡ false
         → LeavesOnly (g.instant here.store.disk) (g.instant served.last.store.disk) (g.left_since here.store.disk) (g.left_since served.last.store.disk) (HoldsServed served here served.last)
@@ -249,7 +252,9 @@ module _ {D : Type 0} {g : Ghosts D}
         let whole = sound_traced g (up_to served.run later to.0) honestly in
         since_in later whole.0 whole.1 honestly (rest whole.1) here
         (inl (sound_reaches g served.first to.0.answered to.0.written later here to.1 honestly)) sound
-    since_at here later (inr to) honestly sound = grind (arith, common_steps, since_at_last)
+    since_at here later (inr to) honestly sound =
+        subst (λ (p : Trace D). LeavesOnly (g.instant here.store.disk) (g.instant p.store.disk) (g.left_since here.store.disk) (g.left_since p.store.disk) (HoldsServed served here p)) (sym to.0)
+        (since_at_last here to.1 (subst (λ (p : Trace D). g.honest p.store.disk) to.0 honestly) sound)
 
     -- Where commands are to be done whole.
 
@@ -291,7 +296,9 @@ module _ {D : Type 0} {g : Ghosts D}
 
   -- what a crash leaves of it at the end
   at_end : g.honest now → IsDurable served → LeavesOnly (g.instant disk) (g.instant now) (g.left_since disk) (g.left_since now) (λ image. RecoversAsBefore (g.files disk) image ⊎ HoldsServed served served.first served.last image)
-  at_end honest_now lasts = grind (arith, common_steps)
+  at_end honest_now lasts =
+      subst (λ d. LeavesOnly (g.instant disk) (g.instant d) (g.left_since disk) (g.left_since d) (λ image. RecoversAsBefore (g.files disk) image ⊎ HoldsServed served served.first served.last image)) (sym served.given_up)
+      (lasts.any_moment served.last (inr refl) (subst g.honest served.given_up honest_now))
 
   -- each image of the disk that is left recovers to files
   pub left_recovers : g.honest now → IsDurable served → EachRecovers (g.files now)

@@ -1,12 +1,12 @@
 -- Bytes written in pieces, one after another.
-use Rattle.std.proofs.Common.{◌≡◌, ℕ, ◌+◌, ◌<◌, List, [], ◌∷◌, ◌++◌, Option, length, take, drop, get_or, append_assoc, sym, ap, ◌∙◌, subst}
+use Rattle.std.proofs.Common.{◌≡◌, ℕ, ◌+◌, ◌<◌, List, [], ◌∷◌, ◌++◌, Option, length, take, drop, get_or, append_assoc, sym, ap, ◌∙◌, subst, ◌≤◌}
 use Rattle.std.specs.Borrow.{Bor}
 use Rattle.std.specs.Io.KnownBytes.{Appends}
 use Rattle.std.specs.List.{flat_map}
-use Rattle.std.proofs.lemmas.List.{take_more, take-append-drop, flat_map_more}
+use Rattle.std.proofs.lemmas.List.{take_more, take-append-drop, flat_map_more, take_all}
 use Rattle.std.proofs.lemmas.List.Concat.{flat_map-append}
 use Rattle.org_serve.specs.Pipes.{AppendsSome}
-use Rattle.org_serve.proofs.Joins.{some_first, some_then}
+use Rattle.org_serve.proofs.Joins.{some_first, some_then, Appends-append}
 
 -- the bytes of all pieces
 abbrev pub bytes_of : List (Bor (List ℕ)) → List ℕ
@@ -14,6 +14,14 @@ bytes_of pieces = flat_map (λ piece. piece.now) pieces
 
 one_more : (pieces : List (Bor (List ℕ))) (k : ℕ) (d : Bor (List ℕ)) → k < length pieces → bytes_of (take (k + 1) pieces) ≡ bytes_of (take k pieces) ++ (get_or pieces k d).now
 one_more pieces k d lt = ap bytes_of (take_more pieces k d lt) ∙ sym (flat_map_more (λ piece. piece.now) [] (take k pieces) (get_or pieces k d))
+
+pub wrote_more : (old now new : Option (List ℕ)) (pieces : List (Bor (List ℕ))) (k : ℕ) (d : Bor (List ℕ)) → k < length pieces
+    → Appends old now (bytes_of (take k pieces)) → Appends now new (get_or pieces k d).now → Appends old new (bytes_of (take (k + 1) pieces))
+wrote_more old now new pieces k d lt before wrote =
+    subst (Appends old new) (sym (one_more pieces k d lt)) (Appends-append old now new (bytes_of (take k pieces)) (get_or pieces k d).now before wrote)
+
+pub wrote_all : (old new : Option (List ℕ)) (pieces : List (Bor (List ℕ))) (k : ℕ) → length pieces ≤ k → Appends old new (bytes_of (take k pieces)) → Appends old new (bytes_of pieces)
+wrote_all old new pieces k le wrote = subst (λ (some : List (Bor (List ℕ))). Appends old new (bytes_of some)) (take_all k pieces le) wrote
 
 -- within a piece
 pub wrote_some : (old now new : Option (List ℕ)) (pieces : List (Bor (List ℕ))) (k : ℕ) (d : Bor (List ℕ)) → k < length pieces

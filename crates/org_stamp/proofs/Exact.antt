@@ -1,10 +1,9 @@
 -- What is read is a timestamp, and every timestamp is read.
-use Rattle.std.proofs.Common.{rules, ◌≡◌, ◌≢◌, ℕ, suc, ◌+◌, ◌-◌, ◌<◌, ◌≤◌, ◌==◌, inl, inr, Bool, true, false, not, ◌&&◌, ◌||◌, IsTrue, Option, None, Some, List, [], ◌∷◌, ◌++◌, length, map, position, slice_index, get_or, take, drop, append_assoc, refl, sym, ap, ◌∙◌, subst, arith}
-use Rattle.std.proofs.lemmas.Grind.{common_steps}
+use Rattle.std.proofs.Common.{◌≡◌, ◌≢◌, ℕ, suc, ◌+◌, ◌-◌, ◌*◌, ◌<◌, ◌≤◌, ◌==◌, inl, inr, Bool, true, false, not, ◌&&◌, ◌||◌, cond, IsTrue, Option, None, Some, List, [], ◌∷◌, ◌++◌, length, map, position, slice_index, get_or, fold, take, drop, nat_lt, nat_le, append_assoc, refl, sym, ap, ◌∙◌, subst, arith}
 use Rattle.std.specs.Char.{is_ascii_digit}
 use Rattle.std.specs.List.{slice_split, list_all, position_or_len}
 use Rattle.std.proofs.lemmas.Bool.Decides.{nat_tests}
-use Rattle.std.proofs.lemmas.List.{take-append-drop, length-append, take_at, drop_at, take_more}
+use Rattle.std.proofs.lemmas.List.{take-append-drop, drop-drop, drop_more, length-append, take_at, drop_at, take_more}
 use Rattle.std.proofs.lemmas.Option.{some_pair_parts}
 use Rattle.std.proofs.Math.Seq.{get_or-append_seam, take-append_seam}
 use Rattle.org_stamp.specs.Calendar.{CivilDay}
@@ -70,7 +69,10 @@ some_append (x ∷ xs) ys some e = absurd (cc)
 
 parts_end : (bytes : List ℕ) (ps : List Part) → HasParts bytes ps → EndsPlain bytes
 parts_end bytes [] h = subst EndsPlain (sym h) tt
-parts_end bytes (p ∷ ps) h = search (rules, arith, word_of, ends_both, ends_run, ends_after, some_append, parts_end h.1 ps h.5)
+parts_end bytes (p ∷ ps) h =
+    let w = word_of p.run h.4.run in
+    let run_ends = ends_both p.run h.1 (ends_run p.run w.plain) (parts_end h.1 ps h.5) in
+    subst EndsPlain (sym h.2) (ends_after h.0 (p.run ++ h.1) (some_append p.run h.1 w.some) run_ends)
 
 last_plain : (x : ℕ) (xs : List ℕ) → EndsPlain (x ∷ xs) → is_blank (get_or (x ∷ xs) (length (x ∷ xs) - 1) 0) ≡ false
 last_plain x [] h = h
@@ -79,7 +81,10 @@ last_plain x (y ∷ ys) h =
     rw k (last_plain y ys h)
 
 tail_of_parts : (b : ℕ) (after : List ℕ) → is_blank b ≡ true → EndsPlain (b ∷ after) → (h : Gathered) → pieces_with nothing (slice_split is_blank (b ∷ after)) ≡ Some h → tail_of (b ∷ after) ≡ Some h
-tail_of_parts b after e ends h found = grind (arith, common_steps, last_plain)
+tail_of_parts b after e ends h found =
+    let some : (length (b ∷ after) == 0) ≡ false = grind arith in
+    let last = last_plain b after ends in
+    rw (some, e, last) (rw e at found)
 
 -- parts are gathered
 pub tail_complete : (tail : List ℕ) (ps : List Part) (h : Gathered) → HasParts tail ps → parts_with nothing ps ≡ Some h → tail_of tail ≡ Some h
@@ -123,10 +128,18 @@ digits_open : (bytes : List ℕ) → IsTrue (list_all is_ascii_digit bytes) → 
 digits_open bytes h = all_open is_ascii_digit digit_open bytes h
 
 number_open : (text : List ℕ) (n : ℕ) → number_of text ≡ Some n → IsOpen text
-number_open text n e = grind (arith, common_steps, chosen, digits_open, both)
+number_open text n e =
+    elim (chosen (nat_le 1 (length text) && nat_le (length text) 4 && list_all is_ascii_digit text) (Some (fold (λ n b. 10 * n + (b - 48)) 0 text)) None (Some n) e) [
+      | inl h ↦ digits_open text (both (nat_le 1 (length text) && nat_le (length text) 4) (list_all is_ascii_digit text) h.0).1
+      | inr h ↦ absurd (cc)
+    ]
 
 date_parts : (text : List ℕ) → length text ≡ 10 → text ≡ take 4 text ++ (get_or text 4 0 ∷ (take 2 (drop 5 text) ++ (get_or text 7 0 ∷ drop 8 text)))
-date_parts text e = grind (arith, common_steps)
+date_parts text e =
+    let lower : 4 < length text = omega arith in
+    let upper : 7 < length text = omega arith in
+    let after = sym (take-append-drop 2 (drop 5 text)) ∙ ap (λ l. take 2 (drop 5 text) ++ l) (drop-drop 2 5 text ∙ drop_more text 7 0 upper) in
+    sym (take-append-drop 4 text) ∙ ap (λ l. take 4 text ++ l) (drop_more text 4 0 lower ∙ ap (λ l. get_or text 4 0 ∷ l) after)
 
 eq_of : (a b : ℕ) → (a == b) ≡ true → a ≡ b
 eq_of a b e = grind (arith, nat_tests)
@@ -161,7 +174,14 @@ active_is true = refl
 active_is false = refl
 
 opening_is : (b : ℕ) (active : Bool) → active_of b ≡ Some active → b ≡ opening active
-opening_is b active e = grind (arith, common_steps)
+opening_is b active e =
+    elim (chosen (b == 60) (Some true) (cond (b == 91) (Some false) None) (Some active) e) [
+      | inl h ↦ let same : true ≡ active = cc in rw (← same) (eq_of b 60 h.0)
+      | inr h ↦ elim (chosen (b == 91) (Some false) None (Some active) h.1) [
+        | inl k ↦ let same : false ≡ active = cc in rw (← same) (eq_of b 91 k.0)
+        | inr k ↦ absurd (cc)
+      ]
+    ]
 
 first_closing : (xs : List ℕ) (c : ℕ) (ys : List ℕ) → IsOpen xs → is_closing c ≡ true → position_or_len is_closing (xs ++ (c ∷ ys)) ≡ length xs
 first_closing [] c ys h e = rw e refl
@@ -170,7 +190,10 @@ first_closing (x ∷ xs) c ys h e =
     rw (parts.0, first_closing xs c ys parts.1 e) (omega arith)
 
 position_at : (xs : List ℕ) (c : ℕ) (ys : List ℕ) → IsOpen xs → is_closing c ≡ true → position is_closing (xs ++ (c ∷ ys)) ≡ Some (length xs)
-position_at xs c ys h e = grind (arith, common_steps, first_closing, nat_tests, length-append)
+position_at xs c ys h e =
+    let at = first_closing xs c ys h e in
+    let within : nat_lt (length xs) (length (xs ++ (c ∷ ys))) ≡ true = grind (arith, nat_tests, length-append xs (c ∷ ys)) in
+    rw (at, within) refl
 
 inside_complete : (active : Bool) (date tail : List ℕ) (s : StampValue) (parts : List Part) → s.active ≡ active → date_of date ≡ Some s.day → HasParts tail parts → Says parts s → inside_of active (date ++ tail) ≡ Some s
 inside_complete active date tail s parts same day has says =
@@ -230,7 +253,11 @@ inside_sound active inside s clear e =
     })
 
 position_within : (p : ℕ → Bool) (xs : List ℕ) (i : ℕ) → position p xs ≡ Some i → i < length xs
-position_within p xs i e = grind (arith, common_steps)
+position_within p xs i e =
+    elim (chosen (nat_lt (position_or_len p xs) (length xs)) (Some (position_or_len p xs)) None (Some i) e) [
+      | inl h ↦ let same = same_some _ _ h.1 in let lt : position_or_len p xs < length xs = grind (arith, nat_tests, h.0) in omega (arith, same, lt)
+      | inr h ↦ absurd (cc)
+    ]
 
 pub record IsRead (text : List ℕ) (s : StampValue) (n : ℕ) : Type 0 where
   pub is_text : IsStampText (take n text) s

@@ -1,17 +1,18 @@
 -- Days after days, by their numbers.
-use Rattle.std.proofs.Common.{◌≡◌, ℕ, zero, suc, ◌+◌, ◌-◌, ◌*◌, ◌/◌, ◌<◌, ◌≤◌, ◌⊎◌, inl, inr, nat_le, None, Some, true, false, ℤ, pos, neg_ℤ, ◌+ℤ◌, ◌<ℤ◌, ◌≤ℤ◌, refl, sym, ap, ◌∙◌, subst, arith}
-use Rattle.std.proofs.lemmas.Grind.{common_steps}
+use Rattle.std.proofs.Common.{◌≡◌, ℕ, zero, suc, ◌+◌, ◌-◌, ◌*◌, ◌/◌, ◌%◌, ◌^◌, ◌<◌, ◌≤◌, ◌⊎◌, inl, inr, nat_lt, nat_le, None, Some, true, false, cond, ℤ, pos, neg_ℤ, ◌+ℤ◌, ◌<ℤ◌, ◌≤ℤ◌, refl, sym, ap, ◌∙◌, subst, arith, mul-le-mul_right}
 use Rattle.std.specs.Int.{IsInRange}
 use Rattle.std.proofs.Math.Nat.{div-mul-le_self}
 use Rattle.std.proofs.lemmas.Bool.{cases_lt}
+use Rattle.std.proofs.lemmas.Nat.{le-div, div_below}
 use Rattle.std.proofs.lemmas.Bool.Decides.{nat_tests}
 use Rattle.jiff_core.specs.declared.civil.date.Date.{Date}
 use Rattle.jiff_core.specs.Calendar.{days_in_month, days_from_civil}
 use Rattle.jiff_core.specs.Date.{epoch_day}
 use Rattle.jiff_core.proofs.SignedLemmas.{signed_arith}
-use Rattle.jiff_core.proofs.CalendarLemmas.{days_from_civil-day_count, day_count-later_year, day_count-lt_year, day_count-lt_month, day_count-day_of_year, day_count-end, day_count-next_year}
+use Rattle.jiff_core.proofs.CalendarLemmas.{days_from_civil-day_count, day_count-later_year, day_count-lt_year, day_count-lt_month, day_count-day_of_year, day_count-end, day_count-next_year, days_in_month_bounds}
 use Rattle.jiff_core.proofs.DateLemmas.{epoch_day_range, epoch_day_injective, days_from_civil-day, days_from_civil-next_month, days_from_civil-next_year}
 use Rattle.org_stamp.specs.Calendar.{CivilDay, civil_day, IsDay, day_number, next_day, days_after, months_after, month_number, to_year_9999}
+use Rattle.org_stamp.proofs.Found.{chosen}
 
 -- a day of any year from 1 on
 pub record IsCivil (d : CivilDay) : Type 0 where
@@ -23,10 +24,22 @@ pub civil_of : (d : CivilDay) → IsDay d → IsCivil d
 civil_of d h = record { year = h.0.0; month = h.1; day = h.2 }
 
 next_cases : (d : CivilDay) → ((d.day < days_in_month (pos d.year) d.month) × (next_day d ≡ civil_day d.year d.month (d.day + 1))) ⊎ (((days_in_month (pos d.year) d.month ≤ d.day) × (d.month < 12) × (next_day d ≡ civil_day d.year (d.month + 1) 1)) ⊎ ((days_in_month (pos d.year) d.month ≤ d.day) × (12 ≤ d.month) × (next_day d ≡ civil_day (d.year + 1) 1 1)))
-next_cases d = grind (arith, common_steps)
+next_cases d =
+    elim (chosen (nat_lt d.day (days_in_month (pos d.year) d.month)) (civil_day d.year d.month (d.day + 1)) (cond (nat_lt d.month 12) (civil_day d.year (d.month + 1) 1) (civil_day (d.year + 1) 1 1)) (next_day d) refl) [
+      | inl h ↦ inl (grind (arith, nat_tests, h.0), sym h.1)
+      | inr h ↦ elim (chosen (nat_lt d.month 12) (civil_day d.year (d.month + 1) 1) (civil_day (d.year + 1) 1 1) (next_day d) h.1) [
+        | inl k ↦ inr (inl (grind (arith, nat_tests, h.0), grind (arith, nat_tests, k.0), sym k.1))
+        | inr k ↦ inr (inr (grind (arith, nat_tests, h.0), grind (arith, nat_tests, k.0), sym k.1))
+      ]
+    ]
 
 pub next_civil : (d : CivilDay) → IsCivil d → IsCivil (next_day d)
-next_civil d h = grind (arith, common_steps)
+next_civil d h =
+    elim (next_cases d) [
+      | inl k ↦ rw k.1 (record { year = h.year; month = h.month; day = (omega arith, omega arith) })
+      | inr (inl k) ↦ rw k.2 (record { year = h.year; month = (omega arith, omega arith); day = (omega arith, omega (arith, days_in_month_bounds (pos d.year) (d.month + 1))) })
+      | inr (inr k) ↦ rw k.2 (record { year = omega arith; month = (omega arith, omega arith); day = (omega arith, omega (arith, days_in_month_bounds (pos (d.year + 1)) 1)) })
+    ]
 
 pub next_number : (d : CivilDay) → IsCivil d → day_number (next_day d) ≡ day_number d +ℤ pos 1
 next_number d h =
@@ -151,7 +164,10 @@ earlier_month d e h k lt =
     ]
 
 pub months_civil : (d : CivilDay) (n : ℕ) → IsDay d → IsCivil (months_after d n)
-months_civil d n h = grind (arith, common_steps)
+months_civil d n h =
+    let year : 1 ≤ (month_number d + n) / 12 = omega arith in
+    let long = days_in_month_bounds (pos ((month_number d + n) / 12)) ((month_number d + n) % 12 + 1) in
+    record { year = year; month = (omega arith, omega arith); day = (omega (arith, long), omega arith) }
 
 -- the target is the number of a day, or of the one after it
 abbrev pub IsTarget : ℤ → CivilDay → Type 0
@@ -165,7 +181,10 @@ reach d e n target h k lt is =
     elim is [ inl same ↦ omega (arith, signed_arith, later, same) | inr same ↦ omega (arith, signed_arith, later, same) ]
 
 months_day : (d e : CivilDay) (n : ℕ) → IsDay d → IsDay e → month_number d + n ≤ month_number e → IsDay (months_after d n)
-months_day d e n h k le = grind (arith, common_steps)
+months_day d e n h k le =
+    let civil = months_civil d n h in
+    let number = month_number-after d n h in
+    ((civil.year, omega arith), civil.month, civil.day)
 
 -- months that lead to no later month than its own stay within the years
 pub months_within : (d e : CivilDay) (n : ℕ) → IsDay d → IsDay e → month_number d + n ≤ month_number e → (months_after d n).year ≤ 9999
@@ -181,16 +200,34 @@ miss d e n target h k lt is =
 
 -- fewer steps than fit stay below
 pub few_steps : (from to step j : ℕ) → 1 ≤ step → from ≤ to → j < (to - from) / step → from + j * step < to
-few_steps from to step j some le lt = grind (arith, common_steps)
+few_steps from to step j some le lt =
+    let next : j + 1 ≤ (to - from) / step = omega arith in
+    let more = mul-le-mul_right step next in
+    let most = div-mul-le_self (to - from) step in
+    omega (arith, more, most)
 
 pub whole_steps : (from to step : ℕ) → from ≤ to → from + (to - from) / step * step ≤ to
 whole_steps from to step le = omega (arith, div-mul-le_self (to - from) step)
+
+-- where one step fits, the whole steps are one at least, and few
+pub whole_some : (from to step : ℕ) → 1 ≤ step → from + step ≤ to → 1 ≤ (to - from) / step
+whole_some from to step some le = le-div 1 (to - from) step some (omega (arith, le))
+
+pub whole_few : (e : CivilDay) (from to step : ℕ) → IsDay e → to ≡ month_number e → 1 ≤ step → (to - from) / step + 1 ≤ 2 ^ 20
+whole_few e from to step h is some =
+    let early : to < 2 ^ 20 - 1 = omega (arith, is, h.0.1, h.1.1) in
+    let few : (to - from) / step < 2 ^ 20 - 1 = div_below (to - from) step (2 ^ 20 - 1) some (omega (arith, early, some)) in
+    omega (arith, few)
 
 pub past_steps : (from to step : ℕ) → 1 ≤ step → from ≤ to → to < from + ((to - from) / step + 1) * step
 past_steps from to step some le = omega arith
 
 pub found_months : (d : CivilDay) (n : ℕ) (r : CivilDay) → Some r ≡ to_year_9999 (months_after d n) → r ≡ months_after d n
-found_months d n r e = grind (arith, common_steps)
+found_months d n r e =
+    elim (chosen (nat_le (months_after d n).year 9999) (Some (months_after d n)) None (Some r) (sym e)) [
+      | inl h ↦ let same : months_after d n ≡ r = cc in sym same
+      | inr h ↦ absurd (cc)
+    ]
 
 pub reached_at : (t : ℤ) (r e : CivilDay) → r ≡ e → t ≤ℤ day_number r → t ≤ℤ day_number e
 reached_at t r e same h = subst (λ (d : CivilDay). t ≤ℤ day_number d) same h

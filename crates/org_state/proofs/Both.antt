@@ -1,5 +1,5 @@
 -- Two sections of one text edited, the later first.
-use Rattle.std.proofs.Common.{◌≡◌, eqb, ℕ, zero, suc, ◌+◌, ◌-◌, ◌<◌, ◌≤◌, ltb, true, false, Option, Some, Result, Ok, Err, List, [], ◌∷◌, ◌++◌, length, refl, sym, ap, subst, ◌∙◌, arith, inl, inr}
+use Rattle.std.proofs.Common.{◌≡◌, eqb, ℕ, zero, suc, ◌+◌, ◌-◌, ◌<◌, ◌≤◌, ltb, true, false, Option, Some, Result, Ok, Err, List, [], ◌∷◌, ◌++◌, length, refl, sym, ap, subst, ◌∙◌, arith, inl, inr, None}
 use Rattle.std.proofs.lemmas.Grind.{common_steps}
 use Rattle.std.specs.Prelude.{◌≢◌, ◌⊎◌}
 use Rattle.std.specs.Result.{result_map_both}
@@ -117,6 +117,9 @@ module _ (d : Document) (m : ℕ) (r : List ℕ) (s : List (List ℕ)) where
 
 not_same : (i from : ℕ) → i ≢ from → eqb i from ≡ false
 not_same i from other = elim (cases_Bool (eqb i from)) [ inl e ↦ absurd (other (eqb-true i from e)) | inr e ↦ e ]
+
+pub switched_none : (now : Moment) (from : ℕ) (d : Document) (i : ℕ) → i ≡ from → switched now from d i ≡ Ok None
+switched_none now from d i same = let yes : eqb i from ≡ true = grind (arith, nat_tests) in rw yes refl
 
 switched_by : (now : Moment) (from : ℕ) (d : Document) (i : ℕ) (r : Result Document Refusal) → i ≢ from → with_closed now from d ≡ r
     → switched now from d i ≡ result_map_both (λ terminated. Some (with_opened now i terminated)) (λ why. why) r

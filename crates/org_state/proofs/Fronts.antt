@@ -1,6 +1,5 @@
 -- The parts of a section before its rest.
 use Rattle.std.proofs.Common.{◌≡◌, ℕ, ◌-◌, ◌≤◌, List, [], ◌++◌, length, take, sym, ap, ◌∙◌, arith, append_assoc, length-append}
-use Rattle.std.proofs.lemmas.Grind.{common_steps}
 use Rattle.std.proofs.lemmas.List.{take_at, append-nil}
 use Rattle.org_splice.specs.Lines.{terminated, lines_of, print_lines}
 use Rattle.org_splice.proofs.Lines.{print_lines-append}
@@ -31,4 +30,6 @@ front_short ls =
     omega (arith, ap length whole, length-append (print_lines front) (print_lines p.rest))
 
 pub planning_short : (ls : List (List ℕ)) → length (print_lines (split ls).planning) ≤ length (print_lines ls)
-planning_short ls = grind (arith, common_steps)
+planning_short ls =
+    let p : SectionParts = split ls in
+    omega (arith, front_short ls, ap length (print_lines-append p.planning p.drawer), length-append (print_lines p.planning) (print_lines p.drawer))

@@ -1,6 +1,5 @@
 -- A search of a part of a text's headings, and what is known of its clocks.
 use Rattle.std.proofs.Common.{◌≡◌, ℕ, zero, suc, ◌+◌, ◌-◌, ◌<◌, ◌≤◌, true, false, Bool, ◌||◌, ltb, Option, Some, None, List, [], ◌∷◌, ◌++◌, length, get_or, refl, sym, ap, subst, ◌∙◌, arith, inl, inr}
-use Rattle.std.proofs.lemmas.Grind.{common_steps}
 use Rattle.std.specs.Prelude.{is_some, map}
 use Rattle.std.specs.List.{AllByRecursion, position, prefix_len}
 use Rattle.std.specs.Option.{option_map}
@@ -146,7 +145,10 @@ or_true true = refl
 or_true false = refl
 
 quiet_with : (o : Option ℕ) (below : Bool) (at : ℕ) (l : List ℕ) (d : Document) → level_of l ≡ o → (below ≡ true → o ≡ None → is_open l ≡ false) → Quiet (below || is_some o) (at + length l + 1) d → Quiet below at (with_line o l d)
-quiet_with None below at l d e own q = grind (arith, common_steps)
+quiet_with None below at l d e own q = record {
+  preamble = λ is. (own is refl, q.preamble (or_false below ∙ is));
+  nodes = subst NoneRuns (sym (nodes-with_line None at l d e)) q.nodes;
+}
 quiet_with (Some n) below at l d e own q = record {
   preamble = λ is. tt;
   nodes = subst NoneRuns (sym (nodes-with_line (Some n) at l d e)) (runs_unless d.preamble (q.preamble (or_true below)), q.nodes);
@@ -158,7 +160,13 @@ quiet_tree below at (l ∷ ls) q =
     quiet_with (level_of l) below at l (tree_of_lines ls) refl q.0 (quiet_tree (below || is_some (level_of l)) (at + length l + 1) ls q.1)
 
 quiet_without : (o : Option ℕ) (below : Bool) (at : ℕ) (l : List ℕ) (d : Document) → level_of l ≡ o → Quiet below at (with_line o l d) → (below ≡ true → o ≡ None → is_open l ≡ false) × Quiet (below || is_some o) (at + length l + 1) d
-quiet_without None below at l d e q = grind (arith, common_steps)
+quiet_without None below at l d e q = (
+  λ is none. (q.preamble is).0,
+  record {
+    preamble = λ is. (q.preamble (sym (or_false below) ∙ is)).1;
+    nodes = subst NoneRuns (nodes-with_line None at l d e) q.nodes;
+  },
+)
 quiet_without (Some n) below at l d e q =
     let all : NoneRuns (with_node (Some n) at l d (nodes_at (at + length l + 1) d)) = subst NoneRuns (nodes-with_line (Some n) at l d e) q.nodes in (
       λ is none. absurd (cc),
@@ -181,7 +189,9 @@ text_quiet t q = none_runs (tree t) (subst NoneRuns (nodes_at-start t) (quiet_tr
 -- ---- texts put together
 
 clockless_parts : (a b : List ℕ) → terminated a ≡ a → running_in (tree (a ++ b)) ≡ None → (running_in (tree a) ≡ None) × (running_in (tree b) ≡ None)
-clockless_parts a b whole is = grind (arith, common_steps, lines_of-both, quiet_text, text_quiet, quiet_front, quiet_back)
+clockless_parts a b whole is =
+    let q = subst (IsQuiet false) (lines_of-both a b whole) (quiet_text (a ++ b) is) in
+    (text_quiet a (quiet_front false (lines_of a) (lines_of b) q), text_quiet b (quiet_back false (lines_of a) (lines_of b) q))
 
 is_none : {X : Type 0} (o : Option X) → is_some o ≡ false → o ≡ None
 is_none None e = refl
@@ -241,7 +251,20 @@ cut_with None at k l ls e less cut =
       count = ap length own ∙ c.count;
       preamble = ap (λ (x : Document). x.preamble) whole ∙ ap (λ (x : List (List ℕ)). l ∷ x) c.preamble ∙ ap (λ (x : Document). x.preamble) (sym part);
     }
-cut_with (Some n) at zero l ls e less cut = grind (arith, common_steps, nodes-with_line)
+cut_with (Some n) at zero l ls e less cut =
+    let d = tree_of_lines ls in
+    let whole : tree_of_lines (l ∷ ls) ≡ with_line (Some n) l d = ap (λ (o : Option ℕ). with_line o l d) e in
+    let all = ap (nodes_at at) whole ∙ nodes-with_line (Some n) at l d e in
+    let none : at ≡ at + 0 = omega arith in
+    record {
+      xs = [];
+      ys = l ∷ ls;
+      lines = refl;
+      place = ap (λ (ps : List Placed). (get_or ps 0 no_node).at) all ∙ none;
+      runs = ap (λ (n : ℕ). marks n (l ∷ ls)) none;
+      count = refl;
+      preamble = ap (λ (x : Document). x.preamble) whole;
+    }
 cut_with (Some n) at (suc k) l ls e less cut =
     let d = tree_of_lines ls in
     let next = at + length l + 1 in

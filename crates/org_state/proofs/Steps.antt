@@ -102,6 +102,14 @@ section_bounds t i s stays_terminated lt is =
     let own : length (print_lines (line ∷ n.section)) ≡ length line + (1 + length (print_lines n.section)) = length-append line (10 ∷ print_lines n.section) ∙ omega arith in
     (omega (arith, is.start, is.end, own), omega (arith, is.end, own, long, room i n.rest n.section d lt, ap length whole))
 
+-- how long a section is
+pub section_long : (t : List ℕ) (i : ℕ) (s : Span) → IsSection t (node_at (tree t) i) s → s.end ≡ s.start + length (print_lines (node_at (tree t) i).node.section)
+section_long t i s is =
+    let n : Node = (node_at (tree t) i).node in
+    let line : List ℕ = heading_line n.level n.rest in
+    let own : length (print_lines (line ∷ n.section)) ≡ length line + (1 + length (print_lines n.section)) = length-append line (10 ∷ print_lines n.section) ∙ omega arith in
+    omega (arith, is.start, is.end, own)
+
 -- where the rest of the heading line stands before its section
 pub record RestBefore (t : List ℕ) (i : ℕ) (s : Span) (rest : List ℕ) : Type 0 where
   pub some : 1 ≤ s.start

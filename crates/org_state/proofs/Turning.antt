@@ -1,6 +1,5 @@
 -- What the edits of a change make is what is defined.
 use Rattle.std.proofs.Common.{◌≡◌, ℕ, ◌+◌, ◌<◌, ◌≤◌, Bool, true, false, true≢false, append_assoc, Option, Some, None, Ok, Err, List, [], ◌∷◌, ◌++◌, length, refl, sym, ap, subst, ◌∙◌, arith, codes, inl, inr}
-use Rattle.std.proofs.lemmas.Grind.{common_steps}
 use Rattle.std.specs.Prelude.{◌≢◌, IfOk, IfErr, Result, Vec}
 use Rattle.std.specs.Result.{result_map_both}
 use Rattle.std.specs.Str.{bytes_eq}
@@ -17,6 +16,7 @@ use Rattle.org_outline.specs.States.{Keywords}
 use Rattle.org_outline.specs.Paths.{find_path}
 use Rattle.org_outline.specs.Tree.{Document, print, tree, node_at, node_count}
 use Rattle.org_fault.specs.declared.refusal.Refusal.{Refusal}
+use Rattle.org_fault.specs.declared.refusal.Refusal.TheVariants.{OddPlanning}
 use Rattle.org_fault.specs.declared.fault.Fault.{Fault}
 use Rattle.org_fault.specs.declared.fault.Fault.TheVariants.{OutOfMemory, Refused}
 use Rattle.org_fault.specs.Faults.{IfRefusal}
@@ -24,15 +24,15 @@ use Rattle.org_fault.proofs.Faults.{refused_as, no_memory}
 use Rattle.org_meta.specs.Edits.{Rewrites, RewritesParts}
 use Rattle.org_meta.specs.Moments.{moment_text}
 use Rattle.org_meta.specs.Notes.{note_line, with_note}
-use Rattle.org_meta.specs.Planning.{PlanningLine, AreRepeated}
+use Rattle.org_meta.specs.Planning.{PlanningLine, planning_of, has_repeater, AreRepeated, set_closed}
 use Rattle.org_meta.specs.Replans.{RewritesOk, HasNoRepeater, RewritesRepeated, RewritesRepeatedIn, IsRefusedRepeat, repeated_line}
-use Rattle.org_meta.specs.Sections.{SectionParts, split, joined, parts_of, put}
+use Rattle.org_meta.specs.Sections.{SectionParts, split, joined, parts_of, put, planning_size}
 use Rattle.org_meta.proofs.Puts.{joined_split}
 use Rattle.org_splice.proofs.AllLines.{AllByRecursion-take}
 use Rattle.org_meta.proofs.Resplit.{split_planning, split_front}
 use Rattle.org_state.specs.Keyword.{is_state, keyword_in, with_keyword}
 use Rattle.org_state.specs.Edits.{section_start, moved, EditsRest}
-use Rattle.org_state.specs.Todo.{Own, own_at, with_own_at, with_lines, changed, first_active, if_repeating, repeating, repeated_parts, TurnsDone, Turns, IsChanged, is_done, IsTodo, heading_asked, heading_to_change}
+use Rattle.org_state.specs.Todo.{Own, own_at, with_own_at, with_lines, changed, first_active, if_repeating, repeating, repeated_parts, TurnsDone, Turns, IsChanged, is_done, IsTodo, IsTodoAt, heading_asked, heading_to_change}
 use Rattle.org_state.specs.Answers.{AnswersOwn, AnswersTodo}
 use Rattle.org_state.proofs.Fronts.{front_short, planning_short}
 use Rattle.org_state.proofs.Steps.{repeat_lines, four_made, section_is_lines}
@@ -54,11 +54,21 @@ ok_parts (Err fault) section e g = absurd g
 pub replanned_within : (r : Result SectionParts Refusal) (section bytes : List ℕ) (e : Edit) → section ≡ bytes → RewritesOk r section e → e.at + e.removed ≤ length bytes
 replanned_within r section bytes e is g = let parts = ok_parts r section e g in omega (arith, parts.2.within, ap length is)
 
+pub replanned_refused : (plan : SectionParts → Result SectionParts Refusal) (states : Keywords) (word : List ℕ) (own : Own) (section : List ℕ) (fault : Fault Refusal) → lines_of section ≡ own.section
+    → IfRefusal fault (λ why. plan (parts_of section) ≡ Err why) → IfRefusal fault (λ why. Err why ≡ changed states word own (plan (split own.section)))
+replanned_refused plan states word own section fault lines =
+    refused_as fault _ _ (λ why is. sym (ap (changed states word own) (ap (λ (ls : List (List ℕ)). plan (split ls)) (sym lines) ∙ is)))
+
 pub replanned_answers : (plan : SectionParts → Result SectionParts Refusal) (states : Keywords) (word t : List ℕ) (i : ℕ) (section : List ℕ) (e : Edit) (result : Result (Vec Edit Global) (Fault Refusal))
     → section ≡ print_lines (node_at (tree t) i).node.section → lines_of section ≡ (node_at (tree t) i).node.section → RewritesOk (plan (parts_of section)) section e
     → ((new : List (List ℕ)) → Rewrites e (print_lines (own_at (tree t) i).section) new → AnswersOwn (λ r. r ≡ Ok (with_lines states word (own_at (tree t) i) new)) t i result)
     → AnswersOwn (λ r. r ≡ changed states word (own_at (tree t) i) (plan (split (own_at (tree t) i).section))) t i result
-replanned_answers plan states word t i section e result bytes lines g made = grind (arith, common_steps, ok_parts, parts_of, split, joined, changed)
+replanned_answers plan states word t i section e result bytes lines g made =
+    let own : Own = own_at (tree t) i in
+    let parts = ok_parts (plan (parts_of section)) section e g in
+    let is : plan (split own.section) ≡ Ok parts.0 = ap (λ (ls : List (List ℕ)). plan (split ls)) (sym lines) ∙ parts.1 in
+    let gives : Rewrites e (print_lines own.section) (joined parts.0) = subst (λ (s : List ℕ). Rewrites e s (joined parts.0)) bytes parts.2 in
+    subst (λ (x : Result Own Refusal). AnswersOwn (λ r. r ≡ x) t i result) (sym (ap (changed states word own) is)) (made (joined parts.0) gives)
 
 -- ---- repetition
 
@@ -70,7 +80,10 @@ none_repeats (l ∷ ls) none = ap if_repeating none.1 ∙ (let no : if_repeating
 -- the planning of a section, alone
 pub planning_alone : (ls : List (List ℕ)) (line : List ℕ) → AllByRecursion IsLine ls → line ≡ print_lines (split ls).planning
     → parts_of line ≡ record { planning = (split ls).planning; drawer = []; rest = [] }
-planning_alone ls line all is = grind (arith, common_steps, split, lines_of-print_lines, AllByRecursion-take, split_planning)
+planning_alone ls line all is =
+    let lines : lines_of line ≡ (split ls).planning =
+    ap lines_of is ∙ lines_of-print_lines (split ls).planning (AllByRecursion-take IsLine (planning_size ls) ls all) in
+    ap split lines ∙ split_planning ls
 
 -- a planning line that was repeated, and what it was
 pub record IsRepeating (now : Moment) (ls : List (List ℕ)) (e : Edit) : Type 0 where
@@ -80,20 +93,37 @@ pub record IsRepeating (now : Moment) (ls : List (List ℕ)) (e : Edit) : Type 0
   pub are : AreRepeated line.entries now (Ok text)
   pub gives : Rewrites e (print_lines ls) (repeated_line line text ∷ [])
 
+repeating_some : (l : List ℕ) (ls : List (List ℕ)) (p : PlanningLine) → planning_of l ≡ Some p → has_repeater p.entries ≡ true → repeating (l ∷ ls) ≡ Some p
+repeating_some l ls p is some = ap if_repeating is ∙ (let yes : if_repeating (Some p) ≡ Some p = rw some refl in yes)
+
 repeated_in : (now : Moment) (ls all : List (List ℕ)) (e : Edit) → RewritesRepeatedIn now (record { planning = all; drawer = []; rest = [] }) (print_lines ls) e ls → IsRepeating now ls e
 repeated_in now [] all e g = absurd g
-repeated_in now (l ∷ ls) all e g = grind (arith, common_steps)
+repeated_in now (l ∷ ls) all e g = record {
+  line = g.planning;
+  text = g.text;
+  is = repeating_some l ls g.planning g.well_formed g.repeats;
+  are = g.are;
+  gives = g.gives;
+}
 
 pub repeated_alone : (now : Moment) (ls : List (List ℕ)) (e : Edit) → AllByRecursion IsLine ls
     → RewritesRepeated now (parts_of (print_lines (split ls).planning)) (print_lines (split ls).planning) (Some e) → IsRepeating now (split ls).planning e
-repeated_alone now ls e all g = grind (arith, common_steps, split, repeated_in, planning_alone)
+repeated_alone now ls e all g =
+    let P : SectionParts → Type 0 = λ parts. RewritesRepeated now parts (print_lines (split ls).planning) (Some e) in
+    repeated_in now (split ls).planning (split ls).planning e (subst P (planning_alone ls (print_lines (split ls).planning) all refl) g)
 
 -- why a planning line can't be repeated
 repeat_faults : (states : Keywords) (state : List ℕ) (now : Moment) (own : Own) (parts : SectionParts) (ls : List (List ℕ)) (why : Refusal)
     → split own.section ≡ record parts { planning = ls } → IsRefusedRepeat now ls why → TurnsDone states state now own (repeating ls) (Err why)
 repeat_faults states state now own parts [] why is wrong = absurd wrong
-repeat_faults states state now own parts (l ∷ ls) why is (inl odd) = grind (arith, common_steps)
-repeat_faults states state now own parts (l ∷ ls) why is (inr wrong) = grind (arith, common_steps)
+repeat_faults states state now own parts (l ∷ ls) why is (inl odd) =
+    let none : repeating (l ∷ ls) ≡ None = ap if_repeating odd.1 in
+    let P : Option PlanningLine → Type 0 = λ o. TurnsDone states state now own o (Err why) in
+    let refused : set_closed now (split own.section) ≡ Err OddPlanning = ap (set_closed now) is ∙ rw odd.1 refl in
+    subst P (sym none) (ap (λ (f : Refusal). changed states state own (Err f)) odd.0 ∙ sym (ap (changed states state own) refused))
+repeat_faults states state now own parts (l ∷ ls) why is (inr wrong) =
+    let P : Option PlanningLine → Type 0 = λ o. TurnsDone states state now own o (Err why) in
+    subst P (sym (repeating_some l ls wrong.0 wrong.1 wrong.2)) (Err why, wrong.3, refl)
 
 -- the planning line that the code asks is that of the section
 planning_is : (ls : List (List ℕ)) (line : List ℕ) → AllByRecursion IsLine ls → line ≡ print_lines (split ls).planning → (parts_of line).planning ≡ (split ls).planning
@@ -102,17 +132,24 @@ planning_is ls line all is = ap (λ (p : SectionParts). p.planning) (planning_al
 pub repeat_refused : (states : Keywords) (state : List ℕ) (now : Moment) (own : Own) (line : List ℕ) (fault : Fault Refusal) → AllByRecursion IsLine own.section → line ≡ print_lines (split own.section).planning
     → IfRefusal fault (IsRefusedRepeat now (parts_of line).planning)
     → IfRefusal fault (λ why. TurnsDone states state now own (repeating (split own.section).planning) (Err why))
-repeat_refused states state now own line fault all is = grind (arith, common_steps, refused_as, repeat_faults, split, planning_is)
+repeat_refused states state now own line fault all is = refused_as fault _ _ (λ why wrong.
+    let P : List (List ℕ) → Type 0 = λ ls. IsRefusedRepeat now ls why in
+    repeat_faults states state now own (split own.section) (split own.section).planning why refl (subst P (planning_is own.section line all is) wrong))
 
 -- where nothing repeats, the entry is closed
 pub nothing_repeats : (now : Moment) (ls : List (List ℕ)) (line : List ℕ) (made : Option Edit) → AllByRecursion IsLine ls → line ≡ print_lines (split ls).planning
     → RewritesRepeated now (parts_of line) line made → made ≡ None → repeating (split ls).planning ≡ None
-nothing_repeats now ls line made all is gives none = grind (arith, common_steps, parts_of, none_repeats, split, planning_is)
+nothing_repeats now ls line made all is gives none =
+    let P : Option Edit → Type 0 = λ made. RewritesRepeated now (parts_of line) line made in
+    let Q : List (List ℕ) → Type 0 = HasNoRepeater in
+    none_repeats (split ls).planning (subst Q (planning_is ls line all is) (subst P none gives))
 
 -- the property is put before the rest, and the planning line before that
 pub property_within : (ls : List (List ℕ)) (front bytes : List ℕ) (p : SectionParts) (e : Edit) → front ≡ print_lines (joined (record (split ls) { rest = [] })) → bytes ≡ print_lines ls
     → RewritesParts e front p → e.at + e.removed ≤ length bytes
-property_within ls front bytes p e is whole g = grind (arith, common_steps, split, append-nil, front_short)
+property_within ls front bytes p e is whole g =
+    let all : front ≡ print_lines ((split ls).planning ++ (split ls).drawer) = is ∙ ap (λ (d : List (List ℕ)). print_lines ((split ls).planning ++ d)) (append-nil (split ls).drawer) in
+    omega (arith, g.within, front_short ls, ap length all, ap length whole)
 
 pub planning_within : (now : Moment) (ls : List (List ℕ)) (e : Edit) → AllByRecursion IsLine ls
     → RewritesRepeated now (parts_of (print_lines (split ls).planning)) (print_lines (split ls).planning) (Some e) → e.at + e.removed ≤ length (print_lines ls)
@@ -186,7 +223,9 @@ kept false true states state now own t i result e answers = absurd (true≢false
 pub turned : (was is : Bool) (states : Keywords) (state : List ℕ) (now : Moment) (own : Own) (t : List ℕ) (i : ℕ) (result : Result (Vec Edit Global) (Fault Refusal))
     → is_done states (keyword_in states own.rest) ≡ was → is_done states state ≡ is → AnswersOwn (Turns was is states state now own) t i result
     → AnswersOwn (IsChanged states state now own) t i result
-turned was is states state now own t i result was_is is_is answers = grind (arith, common_steps)
+turned was is states state now own t i result was_is is_is answers =
+    let P : Bool → Bool → Type 0 = λ w s. AnswersOwn (Turns w s states state now own) t i result in
+    subst (λ (w : Bool). P w (is_done states state)) (sym was_is) (subst (P was) (sym is_is) answers)
 
 -- ---- a document
 
@@ -203,7 +242,9 @@ todo_answers states path state now t i result found known other answers = by_res
 
     todo_is : (r : Result Own Refusal) → IsChanged states state now (own_at (tree t) i) r
         → IsTodo states path state now (tree t) (result_map_both (λ own. Some (with_own_at i (tree t) own)) (λ why. why) r)
-    todo_is r is = grind (arith, common_steps, asked)
+    todo_is r is =
+        let P : Result (Option ℕ) Refusal → Type 0 = λ a. IsTodoAt states state now (tree t) a (result_map_both (λ own. Some (with_own_at i (tree t) own)) (λ why. why) r) in
+        subst P (sym asked) (r, is, refl)
 
     by_result : (result : Result (Vec Edit Global) (Fault Refusal)) → AnswersOwn (IsChanged states state now (own_at (tree t) i)) t i result → AnswersTodo states path state now t result
     by_result (Ok edits) a = (Some (with_own_at i (tree t) a.0), todo_is (Ok a.0) a.1, a.2)

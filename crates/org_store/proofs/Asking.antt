@@ -1,8 +1,8 @@
 -- A command that is to settle what was accepted is `settle`; and where the group is all commands up
 -- to the next settling, nothing else settles.
-use Rattle.std.proofs.Common.{arith, ◌≡◌, ◌⊎◌, inl, inr, ⊎_elim, ℕ, ◌+◌, ◌-◌, ◌^◌, ◌==◌, Bool, true, false, if◌then◌else◌, List, [], ◌∷◌, map, Option, Some, None, Result, Ok, Err, refl, sym, ap, ◌∙◌}
-use Rattle.std.proofs.lemmas.Grind.{common_steps}
+use Rattle.std.proofs.Common.{◌≡◌, ◌⊎◌, inl, inr, ⊎_elim, ℕ, ◌+◌, ◌-◌, ◌^◌, ◌==◌, Bool, true, false, if◌then◌else◌, List, [], ◌∷◌, map, Option, Some, None, Result, Ok, Err, refl, sym, ap, ◌∙◌}
 use Rattle.std.specs.Option.{unwrap_or}
+use Rattle.std.specs.Str.{bytes_eq}
 use Rattle.std.proofs.lemmas.Bool.{false≢true}
 use Rattle.org_outline.specs.declared.steps.Step.{Step as PathStep}
 use Rattle.org_outline.specs.declared.moves.Place.{Place}
@@ -13,7 +13,9 @@ use Rattle.org_splice.specs.Replaced.{replaced}
 use Rattle.org_stamp.specs.Calendar.{Moment}
 use Rattle.org_capture.specs.declared.target.Target.{Target}
 use Rattle.org_capture.specs.Capture.{captured}
+use Rattle.org_move.specs.Archive.{archive_across, archive_within}
 use Rattle.org_move.specs.Location.{Destination, location}
+use Rattle.org_move.specs.Refile.{Moved, refile_across, refile_within}
 use Rattle.org_state.specs.declared.run.Running.{Running}
 use Rattle.org_state.specs.Clock.{clocked_at}
 use Rattle.org_state.specs.Todo.{todo as in_state}
@@ -30,13 +32,14 @@ use Rattle.org_commands.specs.declared.tally.Group.TheVariants.{Whole}
 use Rattle.org_commands.specs.Groups.{are_group}
 use Rattle.org_commands.specs.Capture.{new_entry}
 use Rattle.org_commands.specs.Clocks.{running_over}
-use Rattle.org_commands.specs.Clocking.{clocked_in, clocked_out}
+use Rattle.org_commands.specs.Clocking.{clocked_in, clocked_out, clock_moved}
 use Rattle.org_commands.specs.Files.{has_large}
 use Rattle.org_commands.specs.InOrder.{text_at, with_all}
+use Rattle.org_commands.specs.Refile.{text_within, texts_across}
 use Rattle.org_store.specs.Left.{PutsOnDisk}
 use Rattle.org_commands.specs.Session.{Session}
 use Rattle.org_commands.specs.Step.{Step, done, fills}
-use Rattle.org_commands.specs.Outcome.{Accepts, AsksToSettle, Outcome, Refuses, Shows, Tells, changed, with_document, with_entry, capture, refile, with_minutes, with_replaced, with_state, time, todo, edit, clock_in_beside, clock_in, clock_out, archive_to, archive_at, archive, show, outcome}
+use Rattle.org_commands.specs.Outcome.{Accepts, AsksToSettle, Outcome, Refuses, Shows, Tells, changed, with_document, with_entry, capture, refile, with_moved, with_minutes, with_replaced, with_state, time, todo, edit, with_clock_moved, clock_in_beside, clock_in, clock_out, archive_to, archive_at, archive, show, outcome}
 
 -- it isn't to settle
 abbrev IsElse : Outcome → Type 0
@@ -67,10 +70,21 @@ capture_else : (s : Session) (name : List ℕ) (target : Target) (place : Place)
 capture_else s name target place moment template initial None asks = absurd (cc)
 capture_else s name target place moment template initial (Some text) asks = entry_else s name target place moment (new_entry moment template initial) text asks
 
+within_else : (s : Session) (name : List ℕ) (made : Result Document Refusal) → IsElse (with_moved s (text_within name) made)
+within_else s name (Err why) asks = absurd (cc)
+within_else s name (Ok new) asks = changed_else s (text_within name new) asks
+
+across_else : (s : Session) (name to_file : List ℕ) (made : Result Moved Refusal) → IsElse (with_moved s (texts_across name to_file) made)
+across_else s name to_file (Err why) asks = absurd (cc)
+across_else s name to_file (Ok new) asks = changed_else s (texts_across name to_file new) asks
+
 refile_else : (s : Session) (name : List ℕ) (path : List PathStep) (to_file : List ℕ) (to : List PathStep) (place : Place) (old into : Option (List ℕ)) → IsElse (refile s name path to_file to place old into)
 refile_else s name path to_file to place None into asks = absurd (cc)
 refile_else s name path to_file to place (Some text) None asks = absurd (cc)
-refile_else s name path to_file to place (Some text) (Some target) asks = grind (arith, common_steps)
+refile_else s name path to_file to place (Some text) (Some target) asks =
+    let within = refile_within s.states path to place (tree text) in
+    let across = refile_across s.states path (tree text) s.states to (tree target) place in
+    either (bytes_eq name to_file) (with_moved s (text_within name) within) (with_moved s (texts_across name to_file) across) (within_else s name within) (across_else s name to_file across) asks
 
 state_else : (s : Session) (name : List ℕ) (made : Result (Option Document) Refusal) → IsElse (with_state s name made)
 state_else s name (Err why) asks = absurd (cc)
@@ -83,7 +97,10 @@ todo_else s name path state moment (Some text) asks = state_else s name (in_stat
 
 archive_to_else : (s : Session) (name : List ℕ) (path : List PathStep) (moment : Moment) (text : List ℕ) (to : Destination) (into : Option (List ℕ)) → IsElse (archive_to s name path moment text to into)
 archive_to_else s name path moment text to None asks = absurd (cc)
-archive_to_else s name path moment text to (Some target) asks = grind (arith, common_steps)
+archive_to_else s name path moment text to (Some target) asks =
+    let within = archive_within s.states name path moment to (tree text) in
+    let across = archive_across s.states name path moment (tree text) s.states to (tree target) in
+    either (bytes_eq name to.file) (with_moved s (text_within name) within) (with_moved s (texts_across name to.file) across) (within_else s name within) (across_else s name to.file across) asks
 
 archive_at_else : (s : Session) (name : List ℕ) (path : List PathStep) (moment : Moment) (text : List ℕ) (to : Result Destination Refusal) → IsElse (archive_at s name path moment text to)
 archive_at_else s name path moment text (Err why) asks = absurd (cc)
@@ -93,9 +110,16 @@ archive_else : (s : Session) (name : List ℕ) (path : List PathStep) (moment : 
 archive_else s name path moment None asks = absurd (cc)
 archive_else s name path moment (Some text) asks = archive_at_else s name path moment text (location s.states name path text) asks
 
+clock_moved_else : (s : Session) (other name : List ℕ) (made : Result Moved Refusal) → IsElse (with_clock_moved s other name made)
+clock_moved_else s other name (Err why) asks = absurd (cc)
+clock_moved_else s other name (Ok new) asks = changed_else s (texts_across other name new) asks
+
 clock_in_beside_else : (s : Session) (name : List ℕ) (moment : Moment) (d : Document) (found : Result ℕ PathFault) (clock : Option (List ℕ × Running)) → IsElse (clock_in_beside s name moment d found clock)
 clock_in_beside_else s name moment d found None asks = state_else s name (clocked_in moment None d found) asks
-clock_in_beside_else s name moment d found (Some clock) asks = grind (arith, common_steps)
+clock_in_beside_else s name moment d found (Some clock) asks =
+    let within = clocked_in moment (Some clock.1) d found in
+    let across = clock_moved moment clock.1 (tree (unwrap_or (text_at s.names s.files clock.0) [])) d found in
+    either (bytes_eq clock.0 name) (with_state s name within) (with_clock_moved s clock.0 name across) (state_else s name within) (clock_moved_else s clock.0 name across) asks
 
 clock_in_else : (s : Session) (name : List ℕ) (path : List PathStep) (moment : Moment) (old : Option (List ℕ)) → IsElse (clock_in s name path moment old)
 clock_in_else s name path moment None asks = absurd (cc)
@@ -165,7 +189,13 @@ acknowledges old new command (Ok (reply.Safe n)) whole step = inr (step.1, ap (�
 acknowledges old new command (Err (Refused why)) whole step = inl (ap (λ (s : Session). s.acknowledged) step.2)
 acknowledges old new command (Err OutOfMemory) whole step = inl (ap (λ (s : Session). s.acknowledged) step.1)
 acknowledges old new command (Err Broken) whole step = inl (ap (λ (s : Session). s.acknowledged) step.1)
-acknowledges old new command (Err Device) whole step = grind (arith, common_steps)
+acknowledges old new command (Err Device) whole step = elim step.1 [
+  | inl in_read ↦ inl (ap (λ (s : Session). s.acknowledged) in_read)
+  | inr torn ↦ elim torn [
+    | inl fell ↦ inl (ap (λ (s : Session). s.acknowledged) fell.5)
+    | inr between ↦ inl (ap (λ (s : Session). s.acknowledged) between.3)
+  ]
+]
 
 -- .. so what is acknowledged rises by `settle` alone
 pub settle_acknowledges : (old new : Session) (command : Command) (answer : Result Reply RunFault) → old.group ≡ Whole → Step old command answer new

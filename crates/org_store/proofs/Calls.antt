@@ -1,12 +1,13 @@
 -- Runs of all the calls of a store: a settling goes on as the command to settle does.
 use Rattle.std.proofs.Common.{◌≡◌, ◌⊎◌, inl, inr, ⊎_elim, ℕ, ◌≤◌, true, false, List, [], ◌∷◌, Result, Ok, Err, refl, sym, ◌∙◌, ap, subst, arith}
-use Rattle.std.proofs.lemmas.Grind.{common_steps}
 use Rattle.org_disk.specs.declared.disk.Disk.{Ghosts}
-use Rattle.std.specs.Prelude.{slice_get, Some}
+use Rattle.std.specs.Prelude.{slice_get, Some, IsErrOf}
 use Rattle.std.proofs.lemmas.Bool.{cases_Bool, false≢true}
 use Rattle.org_disk.specs.Disk.{AreImages, LeavesOnly}
+use Rattle.org_disk.proofs.Moments.{passes_as}
 use Rattle.org_journal.specs.Recovered.{Image, IsRecoverable, contents}
 use Rattle.org_fileset.specs.Replay.{IsAtRest}
+use Rattle.org_fileset.proofs.Writes.{alone_fewer}
 use Rattle.org_commands.specs.declared.command.Command.TheVariants.{Settle}
 use Rattle.org_commands.specs.declared.command.Reply.{Reply}
 use Rattle.org_commands.specs.declared.command.Reply.TheVariants.{Safe}
@@ -15,13 +16,16 @@ use Rattle.org_commands.specs.declared.command.RunFault.TheVariants.{Refused, Ou
 use Rattle.org_store.specs.Calls.{Call, grouped, MakesAll, MakesOver, Traces, traces}
 use Rattle.org_store.specs.Calls.Call.{Ran, Settled, Grouped}
 use Rattle.org_store.specs.History.{Trace, Lists, HoldsPrefix}
-use Rattle.org_commands.specs.Outcome.{outcome}
+use Rattle.org_store.specs.Left.{IsLeftAlone, MayHaveWritten}
+use Rattle.org_commands.specs.Outcome.{AsksToSettle, outcome}
 use Rattle.org_store.specs.Runs.{RunsOver, SettlesOver, IsOnDisk}
 use Rattle.org_commands.specs.declared.tally.Group.{Group}
 use Rattle.org_commands.specs.Session.{Session, StoreView, Holds}
 use Rattle.org_commands.specs.Step.{Step, Settles}
-use Rattle.org_store.proofs.History.{Begin, Counts, adds, begin_adds, further, lists_settling, lists_step, same_or_sound, texts_after, torn}
-use Rattle.org_store.proofs.Runs.{Course, course_none, course_run, course_leaves, falls, leaves_as, no_settling, settling_ends}
+use Rattle.org_store.specs.Dirty.{DirtyAfter, DirtyAfterSettled}
+use Rattle.org_store.proofs.History.{Begin, Counts, adds, begin_adds, further, lists_settling, lists_step, none_added, same_or_sound, texts_after, torn}
+use Rattle.org_store.proofs.Keeping.{left_as}
+use Rattle.org_store.proofs.Runs.{Course, answers_broken, course_none, course_run, course_leaves, falls, leaves_as, no_settling, settling_ends}
 
 -- A settling, and the command to settle.
 
@@ -29,12 +33,20 @@ abbrev pub reply_of : ℕ → Result (Unit {0}) RunFault → Result Reply RunFau
 reply_of n (Ok _) = Ok (Safe n)
 reply_of n (Err fault) = Err fault
 
+fault_of_reply : (n : ℕ) (answer : Result (Unit {0}) RunFault) (fault : RunFault) → IsErrOf (reply_of n answer) fault → IsErrOf answer fault
+fault_of_reply n (Ok _) fault is = absurd (cc)
+fault_of_reply n (Err found) fault is = let same : found ≡ fault = cc in ap (λ (f : RunFault). Err f) same
+
 pub settle_steps : (old new : Session) (answer : Result (Unit {0}) RunFault) → Settles old answer new → Step old Settle (reply_of old.accepted answer) new
 settle_steps old new (Ok _) step = (step.0, refl, refl, step.1)
 settle_steps old new (Err (Refused why)) step = absurd step
 settle_steps old new (Err OutOfMemory) step = step
 settle_steps old new (Err Device) step = (step.0, inr (inr (step.1.0, step.1.1, refl, step.1.2)))
 settle_steps old new (Err Broken) step = step
+
+settle_wrote : (n : ℕ) (answer : Result (Unit {0}) RunFault) → MayHaveWritten answer → MayHaveWritten (reply_of n answer)
+settle_wrote n (Ok _) wrote = wrote
+settle_wrote n (Err fault) wrote = wrote
 
 module _ {D : Type 0} (g : Ghosts D) where
   abbrev Goes : StoreView D → StoreView D → (Session → Type 0) → Type 0
@@ -46,9 +58,32 @@ module _ {D : Type 0} (g : Ghosts D) where
   abbrev AllMade : Trace D → List Call → Trace D → Type 0
   AllMade old calls new = MakesAll (traces g) old calls new
 
+  dirty_settled : (old new : StoreView D) (n : ℕ) (answer : Result (Unit {0}) RunFault) → DirtyAfterSettled old.dirty answer new.dirty → DirtyAfter old AsksToSettle (reply_of n answer) new
+  dirty_settled old new n (Ok done) dirty_files = dirty_files
+  dirty_settled old new n (Err fault) dirty_files = dirty_files
+
   pub settling_runs : (old new : StoreView D) (answer : Result (Unit {0}) RunFault) → SettlesOver g old answer new
       → RunsOver g old Settle (reply_of old.session.accepted answer) new
-  settling_runs old new answer ran = grind (arith, common_steps)
+  settling_runs old new answer ran =
+      let n = old.session.accepted in
+      record {
+        step = settle_steps old.session new.session answer ran.step;
+        disk = record {
+          any_moment = λ rest. leaves_as (ran.disk.any_moment rest)
+              (λ image left. left_as old.session (contents (g.files old.disk)) AsksToSettle answer (reply_of n answer) new.session.accepted image (settle_wrote n answer) left);
+          others = λ fine. ran.disk.others (λ failed. fine (ap (reply_of n) failed));
+          rest = λ fine. ran.disk.rest (λ failed. fine (ap (reply_of n) failed));
+          recoverable = ran.disk.recoverable;
+          alone = alone_fewer g (IsLeftAlone old.session old.dirty AsksToSettle (reply_of n answer) new.session.accepted) (IsLeftAlone old.session old.dirty AsksToSettle answer new.session.accepted)
+              old.disk new.disk ran.disk.alone (λ name this wrote. this (settle_wrote n answer wrote));
+        };
+        dirty_files = dirty_settled old new n answer ran.dirty_files;
+        idle = record {
+          untouched = λ broken. ran.idle.untouched (fault_of_reply n answer Broken broken);
+          nothing = λ is. ran.idle.nothing tt;
+          unneeded = λ is. ran.idle.unneeded tt;
+        };
+      }
 
   -- The list goes on with each call.
 
@@ -64,7 +99,9 @@ module _ {D : Type 0} (g : Ghosts D) where
   pub call_lists : (old new : Trace D) (call : Call) → Made old call new → Lists old.store.session old.texts → Lists new.store.session new.texts
   call_lists old new (Ran command answer) made lists = lists_step old.store.session new.store.session command answer old.texts new.texts made.0.step made.1 lists
   call_lists old new (Settled answer) made lists = subst (Lists new.store.session) (sym made.1) (lists_settling old.store.session new.store.session answer old.texts made.0.step lists)
-  call_lists old new (Grouped group) made lists = grind (arith, common_steps)
+  call_lists old new (Grouped group) made lists =
+      subst (λ (k : StoreView D). Lists k.session new.texts) (sym made.0)
+      (subst (Lists (grouped group old.store).session) (sym made.1) (record { size = lists.size; order = lists.order; files = lists.files; settled = lists.settled }))
 
   pub calls_list : (old new : Trace D) (calls : List Call) → Lists old.store.session old.texts → AllMade old calls new → Lists new.store.session new.texts
   calls_list old new [] lists run = subst (λ (p : Trace D). Lists p.store.session p.texts) (sym run) lists
@@ -86,13 +123,19 @@ module _ {D : Type 0} (g : Ghosts D) where
     pub texts : new.texts ≡ old.texts
 
   keeps_same : (old new : Trace D) → new.store ≡ old.store → new.texts ≡ old.texts → Keeps old new
-  keeps_same old new same texts = grind (arith, common_steps)
+  keeps_same old new same texts = record {
+    store = subst (λ (k : StoreView D). k ≡ grouped k.session.group old.store) (sym same) refl;
+    texts = texts;
+  }
 
   kept_broken : (old new : Trace D) → Keeps old new → new.store.session.broken ≡ old.store.session.broken
   kept_broken old new keeps = ap (λ (k : StoreView D). k.session.broken) keeps.store
 
   broken_call : (old new : Trace D) (call : Call) → old.store.session.broken ≡ true → Made old call new → Keeps old new
-  broken_call old new (Ran command answer) fell made = grind (arith, common_steps)
+  broken_call old new (Ran command answer) fell made =
+      let same = made.0.idle.untouched (answers_broken old.store.session new.store.session command answer made.0.step fell) in
+      keeps_same old new same
+      (none_added (outcome old.store.session command) old.store.session.accepted new.store.session.accepted old.texts new.texts made.1 (ap (λ (k : StoreView D). k.session.accepted) same))
   broken_call old new (Settled answer) fell made =
       keeps_same old new (made.0.idle.untouched ((settling_ends old.store.session new.store.session answer made.0.step).2 fell)) made.1
   broken_call old new (Grouped group) fell made =
@@ -108,7 +151,10 @@ module _ {D : Type 0} (g : Ghosts D) where
   -- What the disk is after the calls.
 
   rest_call : (old new : Trace D) (call : Call) → new.store.session.broken ≡ false → IsAtRest (g.files old.store.disk) → Made old call new → IsAtRest (g.files new.store.disk)
-  rest_call old new (Ran command answer) sound rest made = grind (arith, common_steps)
+  rest_call old new (Ran command answer) sound rest made =
+      made.0.disk.rest
+      (λ failed. false≢true (sym sound ∙ falls old.store.session new.store.session command (subst (λ a. Step old.store.session command a new.store.session) failed made.0.step)))
+      rest
   rest_call old new (Settled answer) sound rest made = made.0.disk.rest ((settling_ends old.store.session new.store.session answer made.0.step).1 sound).0 rest
   rest_call old new (Grouped group) sound rest made = subst (λ (k : StoreView D). IsAtRest (g.files k.disk)) (sym made.0) rest
 
@@ -136,7 +182,18 @@ module _ {D : Type 0} (g : Ghosts D) where
 
   -- the group is set, and a run after it
   course_group : (old new : StoreView D) (group : Group) (P Later : Session → Type 0) → old.session.broken ≡ false → Goes (grouped group old) new Later → ((s : Session) → Later s → P s) → Goes old new P
-  course_group old new group P Later sound course later = grind (arith, common_steps)
+  course_group old new group P Later sound course later = record {
+    passes = λ rest disk ok. passes_as (course.passes rest disk ok) (λ image left. ⊎_elim
+        (λ held. inl held)
+        (λ reached. inr (reached.0, (reached.1.0, record { no_fewer = reached.1.1.no_fewer; no_more = reached.1.1.no_more }, later reached.0 reached.1.2), reached.2))
+        left);
+    rest = course.rest;
+    recoverable = course.recoverable;
+    others = course.others;
+    onward = λ ok. let on = course.onward ok in record { names = on.names; broken = on.broken; settled = on.settled; texts = on.texts };
+    stays = λ fell. absurd (false≢true (sym sound ∙ fell));
+    rises = course.rises;
+  }
 
   -- A run of calls as far as a call at which the disk failed; behind it the disk stays.
   pub record CourseTo (old new : Trace D) : Type 0 where
@@ -211,7 +268,12 @@ module _ {D : Type 0} (g : Ghosts D) where
     IsLeftOf image = Holds first.store.session others first.store.session.settled image ⊎ HoldsPrefix first.store.session others last.texts first.store.session.accepted image
 
     stands : (s : Session) → Counts last first s → s.accepted ≤ last.store.session.accepted → slice_get last.texts s.accepted ≡ Some s.files
-    stands s counts within = grind (arith, common_steps, begin_calls)
+    stands s counts within = ⊎_elim
+        (λ same.
+        subst (λ (t : Session). slice_get last.texts t.accepted ≡ Some t.files) (sym same)
+        (begin_calls first last calls run first.store.session.accepted first.store.session.files (lists.files sound)))
+        (λ more. ⊎_elim (λ is. is) (λ past. absurd (omega (arith, past, within))) more)
+        counts
 
     pub calls_leave : ((image : Image) → g.left_since first.store.disk (g.instant first.store.disk) image → AreImages (g.files first.store.disk) image) → IsAtRest (g.files first.store.disk)
         → IsOnDisk first.store.session others → LeavesOnly (g.instant first.store.disk) (g.instant last.store.disk) (g.left_since first.store.disk) (g.left_since last.store.disk) IsLeftOf

@@ -1,6 +1,5 @@
 -- What calls over a store's files do, said of the store.
-use Rattle.std.proofs.Common.{rules, arith, ◌≡◌, ◌⊎◌, inl, inr, ⊎_elim, ℕ, ◌+◌, Bool, false, true, List, Result, Ok, Err, refl, sym, ◌∙◌, ap, subst}
-use Rattle.std.proofs.lemmas.Grind.{common_steps}
+use Rattle.std.proofs.Common.{◌≡◌, ◌⊎◌, inl, inr, ⊎_elim, ℕ, ◌+◌, Bool, false, true, List, Result, Ok, Err, refl, sym, ◌∙◌, ap, subst}
 use Rattle.std.specs.Prelude.{◌↔◌, IsErrOf, IsTrue}
 use Rattle.std.proofs.lemmas.Bool.{false≢true}
 use Rattle.org_disk.specs.declared.disk.Disk.{Ghosts}
@@ -36,7 +35,7 @@ use Rattle.org_commands.proofs.Faults.{accounts_as, accounts_behind, accounts_me
 use Rattle.org_store.specs.Counts.{Counts, SameCounts}
 use Rattle.org_store.specs.Dirty.{Dirties, DirtyAfter}
 use Rattle.org_store.specs.Executing.{Executes, SettlesPending}
-use Rattle.org_store.specs.Left.{IsLeft, IsLeftAlone, MayHaveWritten}
+use Rattle.org_store.specs.Left.{IsLeft, IsLeftAlone, IsSpared, MayHaveWritten, PutsOnDisk}
 use Rattle.org_store.specs.Runs.{LeavesDisk, RunsOver, SaysBroken, StaysWhereNeedless}
 use Rattle.org_store.proofs.Dirty.{dirties_none, dirty_from, dirty_stays, other_joined}
 use Rattle.org_store.proofs.Keeping.{refuses_large}
@@ -68,7 +67,10 @@ counts_from old mid new same (Err Broken) counts = still old mid new same counts
 
 -- a call of a store that wasn't broken
 pub says_broken : {A : Type 0} (old new : Session) (answer : Result A RunFault) → old.broken ≡ false → (IsErrOf answer Broken → ⊥) → IsErrOf answer Device ↔ IsTrue new.broken → SaysBroken old answer new
-says_broken old new answer unbroken works breaks = grind (arith, common_steps)
+says_broken old new answer unbroken works breaks = record {
+  before = (λ broken. absurd (works broken), λ broken. absurd (false≢true (sym unbroken ∙ broken)));
+  behind = (λ broken. inr (breaks.1 broken), ⊎_elim (λ broken. absurd (false≢true (sym unbroken ∙ broken))) breaks.0);
+}
 
 module _ {D : Type 0} (g : Ghosts D) (old : StoreView D)
     (start : g.honest old.disk → (image : Image) → g.left_since old.disk (g.instant old.disk) image → AreImages (g.files old.disk) image)
@@ -141,7 +143,15 @@ module _ {D : Type 0} (g : Ghosts D) (old : StoreView D)
         → (MayHaveWritten given → MayHaveWritten answer) → (IsErrOf given Device → IsErrOf answer Device)
         → LeavesDisk g pending new (IsLeft pending.session (contents (g.files old.disk)) AsksToSettle given new.session.accepted) (IsLeftAlone pending.session dirty AsksToSettle given new.session.accepted) (IsErrOf given Device)
         → LeavesDisk g old new (IsLeft old.session (contents (g.files old.disk)) outcome answer new.session.accepted) (IsLeftAlone old.session old.dirty outcome answer new.session.accepted) (IsErrOf answer Device)
-    leaves_filled given answer new full counted wrote failed leaves = search (rules, arith, leaves_as, alone_fewer, other_joined)
+    leaves_filled given answer new full counted wrote failed leaves = record {
+      any_moment = λ rest. leaves_as (leaves.any_moment rest) (λ image left. ⊎_elim (λ held. inl held)
+          (λ put. inr (wrote put.0, (put.1.0, subst (λ (o : Outcome). PutsOnDisk old.session o new.session.accepted put.1.0) (sym accepts) (put.1.1, full, counted), put.1.2))) left);
+      others = λ fine. leaves.others (λ fell. fine (failed fell));
+      rest = λ fine. leaves.rest (λ fell. fine (failed fell));
+      recoverable = leaves.recoverable;
+      alone = alone_fewer g (IsLeftAlone old.session old.dirty outcome answer new.session.accepted) (IsLeftAlone pending.session dirty AsksToSettle given new.session.accepted) old.disk new.disk leaves.alone
+          (λ name this writing. other_joined old.dirty names dirty dirties name (subst (λ (o : Outcome). IsSpared old.session old.dirty o new.session.accepted name) accepts (this (wrote writing)) full counted));
+    }
 
     pub executes_filled : fills old.session ≡ true → (new : StoreView D) → SettlesPending g pending (Ok (tt {0})) new → Executes g old outcome (Ok (Done (old.session.accepted + 1))) new
     executes_filled full new settles =
@@ -244,7 +254,11 @@ no_settling_asks (question.Show file) is = absurd (cc)
 module _ {D : Type 0} (g : Ghosts D) (old new : StoreView D) (command : Command) (answer : Result Reply RunFault) (unbroken : old.session.broken ≡ false) (apart : command ≡ Settle → ⊥)
     (executes : Executes g old (outcome old.session command) answer new) where
   pub runs_idle : StaysWhereNeedless (command ≡ Settle) old answer new
-  runs_idle = grind (arith, common_steps)
+  runs_idle = record {
+    untouched = λ broken. absurd (false≢true (sym unbroken ∙ executes.broken.before.0 broken));
+    nothing = λ asks none. absurd (apart asks);
+    unneeded = λ asks none. absurd (apart asks);
+  }
 
   pub ran : g.honest new.disk → RunsOver g old command answer new
   ran honest = record { step = executes.step honest; disk = executes.disk honest; dirty_files = executes.dirty_files honest; idle = runs_idle }

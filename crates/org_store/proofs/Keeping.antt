@@ -1,5 +1,5 @@
 -- What the calls of a store do to its session, and what a crash may leave.
-use Rattle.std.proofs.Common.{◌≡◌, ℕ, true, false, List, map, refl, sym, subst}
+use Rattle.std.proofs.Common.{◌≡◌, ℕ, true, false, List, map, refl, sym, subst, inl, inr, ⊎_elim, Result}
 use Rattle.org_disk.specs.Disk.{FileState, AreImages}
 use Rattle.org_journal.specs.Recovered.{Image, SameFiles, contents}
 use Rattle.org_fileset.specs.Replay.{IsAtRest}
@@ -8,8 +8,10 @@ use Rattle.org_fault.specs.declared.refusal.Refusal.TheVariants.{TooLarge}
 use Rattle.org_commands.specs.Files.{has_large}
 use Rattle.org_commands.specs.InOrder.{texts_of, with_all, with_texts}
 use Rattle.org_commands.specs.Session.{Session, Holds}
-use Rattle.org_commands.specs.Outcome.{Refuses, changed, counted}
+use Rattle.org_commands.specs.Outcome.{Refuses, changed, counted, Outcome}
 use Rattle.org_commands.proofs.InOrder.{told_by_texts, holds_told}
+use Rattle.org_commands.specs.declared.command.RunFault.{RunFault}
+use Rattle.org_store.specs.Left.{IsLeft, MayHaveWritten}
 
 -- what a crash leaves of files at rest
 pub at_rest_holds : (s : Session) (files : List ℕ → FileState) → IsAtRest files → (image : Image) → AreImages files image → Holds s (contents files) (texts_of (contents files) s.names) image
@@ -27,6 +29,11 @@ others_unwritten names settled old new own same =
 -- what a crash leaves of the files of a store at rest
 pub left_at_rest : (s : Session) (files : List ℕ → FileState) → s.settled ≡ texts_of (contents files) s.names → IsAtRest files → (image : Image) → AreImages files image → Holds s (contents files) s.settled image
 left_at_rest s files own rest image left = subst (λ texts. Holds s (contents files) texts image) (sym own) (at_rest_holds s files rest image left)
+
+-- the same is left of a call that wrote, if at all, where this one did
+pub left_as : {A B : Type 0} (s : Session) (others : Image) (outcome : Outcome) (answer : Result A RunFault) (given : Result B RunFault) (accepted : ℕ) (image : Image) → (MayHaveWritten answer → MayHaveWritten given)
+    → IsLeft s others outcome answer accepted image → IsLeft s others outcome given accepted image
+left_as s others outcome answer given accepted image wrote left = ⊎_elim (λ held. inl held) (λ put. inr (wrote put.0, put.1)) left
 
 -- texts that are put, and what is refused of them
 pub counts_small : (s : Session) (changes : List (List ℕ × List ℕ)) → has_large changes ≡ false → changed s changes ≡ counted s (map (λ change. change.0) changes) (with_all s.names s.files changes)

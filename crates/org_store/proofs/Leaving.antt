@@ -1,10 +1,9 @@
 -- What the calls of a store leave of its disk.
-use Rattle.std.proofs.Common.{arith, ◌≡◌, ℕ, List, sym, ap, subst}
-use Rattle.std.proofs.lemmas.Grind.{common_steps}
+use Rattle.std.proofs.Common.{◌≡◌, inl, ℕ, List, sym, ap, subst}
 use Rattle.org_disk.specs.declared.disk.Disk.{Ghosts}
 use Rattle.org_disk.specs.Disk.{FileState, AreImages, Passes}
 use Rattle.org_disk.proofs.Moments.{passes_none, passes_as, passes_then, leaves_only}
-use Rattle.org_journal.specs.Recovered.{Image, SameFiles, contents}
+use Rattle.org_journal.specs.Recovered.{Image, SameFiles, IsRecoverable, contents}
 use Rattle.org_fileset.specs.Replay.{IsAtRest}
 use Rattle.org_fileset.proofs.Writes.{alone_fewer, alone_looks, alone_then}
 use Rattle.org_commands.specs.InOrder.{texts_of, with_texts}
@@ -23,7 +22,13 @@ module _ {D : Type 0} (g : Ghosts D) where
     -- a call that left the disk's files as they were
     pub leaves_same : (new : StoreView D) → Passes (g.instant old.disk) (g.instant new.disk) (g.left_since old.disk) (g.left_since new.disk) (AreImages (g.files old.disk)) → g.files new.disk ≡ g.files old.disk
         → new.session.settled ≡ texts_of (contents (g.files new.disk)) new.session.names → LeavesDisk g old new Left Alone Failed
-    leaves_same new passes same now = grind (arith, common_steps, leaves_only, passes_as, still, others_unwritten, alone_looks)
+    leaves_same new passes same now = record {
+      any_moment = λ rest. leaves_only (passes_as passes (still rest)) (λ image since. still rest image (start image since));
+      others = λ fine. others_unwritten new.session.names new.session.settled (g.files old.disk) (g.files new.disk) now same;
+      rest = λ fine rest. subst IsAtRest (sym same) rest;
+      recoverable = λ rest. subst IsRecoverable (sym same) (inl (λ name not. rest.stable name));
+      alone = alone_looks g Alone old.disk new.disk (record { same = same; time = passes });
+    }
 
     -- a call that made no call of the disk
     pub leaves_unwritten : (new : StoreView D) → new.disk ≡ old.disk → new.session.settled ≡ texts_of (contents (g.files new.disk)) new.session.names → LeavesDisk g old new Left Alone Failed

@@ -1,6 +1,5 @@
 -- Refiles keep how often each node is there over all files of a store.
-use Rattle.std.proofs.Common.{rules, ◌≡◌, ◌≢◌, inl, inr, ℕ, ◌+◌, ◌-◌, ◌^◌, ◌==◌, Bool, true, false, List, [], ◌∷◌, length, map, Option, Some, None, Result, Ok, Err, refl, sym, ap, subst, if◌then◌else◌, arith}
-use Rattle.std.proofs.lemmas.Grind.{common_steps}
+use Rattle.std.proofs.Common.{◌≡◌, ◌≢◌, inl, inr, ℕ, ◌+◌, ◌-◌, ◌^◌, ◌==◌, Bool, true, false, List, [], ◌∷◌, length, map, Option, Some, None, Result, Ok, Err, refl, sym, ◌∙◌, ap, subst, if◌then◌else◌, arith}
 use Rattle.std.specs.List.{AllByRecursion, IsDistinct, sum_by}
 use Rattle.std.specs.Str.{bytes_eq}
 use Rattle.std.proofs.lemmas.Bool.{false≢true}
@@ -27,7 +26,12 @@ use Rattle.org_commands.specs.Session.{Session}
 
 pub not_again : (one : List ℕ) (names : List (List ℕ)) → AllByRecursion (λ other. bytes_eq one other ≡ false) names → is_name names one ≡ false
 not_again one [] apart = refl
-not_again one (other ∷ names) apart = grind (arith, common_steps, name_cases, false≢true, same_name, not_again one names apart.1)
+not_again one (other ∷ names) apart = elim (name_cases other one) [
+  | inl is ↦
+      let no : bytes_eq one one ≡ false = subst (λ (n : List ℕ). bytes_eq one n ≡ false) is.0 apart.0 in
+      absurd (false≢true (sym no ∙ same_name one))
+  | inr not ↦ let f = not.1 in rw f (not_again one names apart.1)
+]
 
 untouched : (names texts : List (List ℕ)) (name new : List ℕ) → length texts ≡ length names → is_name names name ≡ false → with_text names texts name new ≡ texts
 untouched [] [] name new same out = refl
@@ -61,7 +65,15 @@ sum_put weight (one ∷ names) (text ∷ texts) name old new apart same at = eli
 pub still_at : (names texts : List (List ℕ)) (name other new : List ℕ) → name ≢ other → text_at names (with_text names texts name new) other ≡ text_at names texts other
 still_at [] texts name other new apart = refl
 still_at (one ∷ names) [] name other new apart = refl
-still_at (one ∷ names) (text ∷ texts) name other new apart = grind (arith, common_steps, name_cases, still_at names texts name other new apart)
+still_at (one ∷ names) (text ∷ texts) name other new apart = elim (name_cases one other) [
+  | inl is ↦
+      let t = is.1 in
+      elim (name_cases one name) [
+        | inl same ↦ absurd (apart (sym same.0 ∙ is.0))
+        | inr not ↦ let f = not.1 in rw (t, f) refl
+      ]
+  | inr not ↦ let f = not.1 in rw f (still_at names texts name other new apart)
+]
 
 pub still_long : (names texts : List (List ℕ)) (name new : List ℕ) → length texts ≡ length names → length (with_text names texts name new) ≡ length names
 still_long [] texts name new same = refl
@@ -88,16 +100,39 @@ module _ (s : Session) (apart : IsDistinct bytes_eq s.names) (each : length s.fi
   within_keeps : (file : List ℕ) (path to : List Step) (place : Place) (text : List ℕ) {touched : List (List ℕ)} (files : List (List ℕ)) (said : Result Document Refusal) → text_at s.names s.files file ≡ Some text
       → refile_within s.states path to place (tree text) ≡ said → with_moved s (text_within file) said ≡ Accepts touched files → count_over rest section files ≡ count_over rest section s.files
   within_keeps file path to place text files (Err why) at is accepts = absurd (cc)
-  within_keeps file path to place text files (Ok new) at is accepts = search (rules, arith, accepted_are, text_within, sum_put, again, within_valid, tree-is, within_counts)
+  within_keeps file path to place text files (Ok new) at is accepts =
+      let made : with_text s.names s.files file (print new) ≡ files = accepted_are s (text_within file new) files accepts in
+      omega (
+        arith,
+        ap (sum_by weight) made,
+        sum_put weight s.names s.files file text (print new) apart each at,
+        again new (within_valid s.states path to place (tree text) new is (tree-is text).valid),
+        within_counts s.states path to place (tree text) new is rest section,
+      )
 
   across_keeps : (file : List ℕ) (path : List Step) (to_file : List ℕ) (to : List Step) (place : Place) (text target : List ℕ) {touched : List (List ℕ)} (files : List (List ℕ)) (said : Result Moved Refusal) → file ≢ to_file
       → text_at s.names s.files file ≡ Some text → text_at s.names s.files to_file ≡ Some target → refile_across s.states path (tree text) s.states to (tree target) place ≡ said
       → with_moved s (texts_across file to_file) said ≡ Accepts touched files → count_over rest section files ≡ count_over rest section s.files
   across_keeps file path to_file to place text target files (Err why) different at there is accepts = absurd (cc)
-  across_keeps file path to_file to place text target files (Ok new) different at there is accepts = search (rules, arith, accepted_are, across_valid, tree-is, sum_put, still_long, still_at, again, across_counts)
+  across_keeps file path to_file to place text target files (Ok new) different at there is accepts =
+      let left = with_text s.names s.files file (print new.source) in
+      let made : with_text s.names left to_file (print new.target) ≡ files = accepted_are s (texts_across file to_file new) files accepts in
+      let valid = across_valid s.states s.states path to place (tree text) (tree target) new is (tree-is text).valid (tree-is target).valid in
+      omega (
+        arith,
+        ap (sum_by weight) made,
+        sum_put weight s.names s.files file text (print new.source) apart each at,
+        sum_put weight s.names left to_file target (print new.target) apart (still_long s.names s.files file (print new.source) each) (still_at s.names s.files file to_file (print new.source) different ∙ there),
+        again new.source valid.0,
+        again new.target valid.1,
+        across_counts s.states s.states path to place (tree text) (tree target) new is rest section,
+      )
 
   pub refile_keeps : (file : List ℕ) (path : List Step) (to_file : List ℕ) (to : List Step) (place : Place) (old into : Option (List ℕ)) {touched : List (List ℕ)} (files : List (List ℕ)) → text_at s.names s.files file ≡ old
       → text_at s.names s.files to_file ≡ into → refile s file path to_file to place old into ≡ Accepts touched files → count_over rest section files ≡ count_over rest section s.files
   refile_keeps file path to_file to place None into files at there accepts = absurd (cc)
   refile_keeps file path to_file to place (Some text) None files at there accepts = absurd (cc)
-  refile_keeps file path to_file to place (Some text) (Some target) files at there accepts = grind (arith, common_steps, name_cases, within_keeps, across_keeps)
+  refile_keeps file path to_file to place (Some text) (Some target) files at there accepts = elim (name_cases file to_file) [
+    | inl is ↦ let t = is.1 in within_keeps file path to place text files (refile_within s.states path to place (tree text)) at refl (rw t at accepts)
+    | inr not ↦ let f = not.1 in across_keeps file path to_file to place text target files (refile_across s.states path (tree text) s.states to (tree target) place) not.0 at there refl (rw f at accepts)
+  ]

@@ -1,11 +1,10 @@
 -- What an image that holds a store's texts has of each node, and what refiles make of it.
 use Rattle.std.proofs.Common.{◌≡◌, inl, inr, ℕ, ◌+◌, Bool, true, false, List, [], ◌∷◌, length, Option, Some, None, Result, Ok, Err, refl, sym, ◌∙◌, ap, subst, if◌then◌else◌, arith}
-use Rattle.std.proofs.lemmas.Grind.{common_steps}
 use Rattle.std.specs.Prelude.{IsSomeAnd}
 use Rattle.std.specs.List.{IsDistinct}
 use Rattle.std.specs.List.Sorted.{IsStrictlySortedBy}
 use Rattle.std.specs.Cmp.Lexicographic.{slice_cmp}
-use Rattle.std.specs.Ordering.{nat_cmp}
+use Rattle.std.specs.Ordering.{nat_cmp, eq_by_cmp}
 use Rattle.std.specs.Str.{bytes_eq}
 use Rattle.std.proofs.lemmas.Bool.{cases_Bool, false≢true}
 use Rattle.std.proofs.lemmas.Map.Keys.{IsDistinct-from_sorted, IsDistinct-head, IsDistinct-tail}
@@ -19,9 +18,9 @@ use Rattle.org_commands.specs.declared.command.Reply.{Reply}
 use Rattle.org_commands.specs.declared.command.Reply.TheVariants.{Done, Safe, Text, Time}
 use Rattle.org_commands.specs.declared.command.RunFault.{RunFault}
 use Rattle.org_commands.specs.declared.command.RunFault.TheVariants.{Refused, OutOfMemory, Device, Broken}
-use Rattle.org_commands.specs.InOrder.{is_name, texts_of, with_texts}
+use Rattle.org_commands.specs.InOrder.{is_name, text_at, texts_of, with_texts}
 use Rattle.org_store.specs.OnePlace.{HaveSameNodes, HasNodesOf, IsSessionOf, IsRefile, MayBeAccepted, OnlyRefiles}
-use Rattle.org_commands.specs.Outcome.{IsAccepted, outcome}
+use Rattle.org_commands.specs.Outcome.{IsAccepted, Accepts, outcome}
 use Rattle.org_store.specs.Reopening.{AreSmall}
 use Rattle.org_commands.specs.Session.{Session, Holds}
 use Rattle.org_commands.specs.Step.{Step, Run, done, fills, settled}
@@ -33,7 +32,9 @@ use Rattle.org_store.proofs.Runs.{falls}
 -- ---- the files of a store's names
 
 pub distinct : (names : List (List ℕ)) → IsStrictlySortedBy (slice_cmp nat_cmp) names → IsDistinct bytes_eq names
-distinct names sorted = grind (arith, common_steps, is_eq-slice_cmp, IsDistinct-from_sorted)
+distinct names sorted =
+    let same : eq_by_cmp (slice_cmp nat_cmp) ≡ bytes_eq = λ i x y. is_eq-slice_cmp x y i in
+    subst (λ (e : List ℕ → List ℕ → Bool). IsDistinct e names) same (IsDistinct-from_sorted (slice_cmp nat_cmp) names sorted)
 
 pub texts_back : (names texts : List (List ℕ)) (others : Image) → IsDistinct bytes_eq names → length texts ≡ length names → texts_of (with_texts names texts others) names ≡ texts
 texts_back [] [] others apart size = refl
@@ -57,7 +58,9 @@ over_some P Q None weaker has = absurd has
 over_some P Q (Some a) weaker has = weaker a has
 
 pub nodes_as : (names texts others : List (List ℕ)) (image : Image) → HaveSameNodes texts others → HasNodesOf names texts image → HasNodesOf names others image
-nodes_as names texts others image same = grind (arith, common_steps)
+nodes_as names texts others image same =
+    over_some (λ (files : Image). HaveSameNodes (texts_of files names) texts) (λ (files : Image). HaveSameNodes (texts_of files names) others) (recovered image)
+    (λ files has rest section. has rest section ∙ same rest section)
 
 module _ (given : List (List ℕ)) (s : Session) (of : IsSessionOf given s) where
   pub names_apart : IsDistinct bytes_eq s.names
@@ -75,7 +78,10 @@ module _ (given : List (List ℕ)) (s : Session) (of : IsSessionOf given s) wher
 
 pub accepted_keeps : (s : Session) (command : Command) (files : List (List ℕ)) → IsDistinct bytes_eq s.names → AreSmall s.names s.files → IsRefile command → IsAccepted (outcome s command) files
     → HaveSameNodes files s.files
-accepted_keeps s command files apart small is accepts rest section = grind (arith, common_steps, refile_keeps)
+accepted_keeps s command files apart small is accepts rest section =
+    let it = is.0 in
+    let told = subst (λ (c : Command). outcome s c ≡ Accepts accepts.0 files) is.1 accepts.1 in
+    refile_keeps s apart small.one_each rest section it.file it.path it.to_file it.to_path it.place (text_at s.names s.files it.file) (text_at s.names s.files it.to_file) files refl refl told
 
 then_keeps : (old mid new : Session) → HaveSameNodes new.files mid.files → HaveSameNodes mid.files old.files → HaveSameNodes new.files old.files
 then_keeps old mid new later first rest section = later rest section ∙ first rest section
@@ -107,7 +113,11 @@ keeps_step old new command (Ok (Done n)) apart small is whole step =
     (step_small old new command (Ok (Done n)) small whole step, keeps_done old new command step.1.0 apart small (is tt) step.1.1 step.1.3)
 keeps_step old new command (Ok (Text text)) apart small is whole step = (step_small old new command (Ok (Text text)) small whole step, keeps_none old new step.2)
 keeps_step old new command (Ok (Time minutes)) apart small is whole step = (step_small old new command (Ok (Time minutes)) small whole step, keeps_none old new step.2)
-keeps_step old new command (Ok (Safe n)) apart small is whole step = grind (arith, common_steps)
+keeps_step old new command (Ok (Safe n)) apart small is whole step = (
+  step_small old new command (Ok (Safe n)) small whole step,
+  let goes : new ≡ settled old = step.3 in
+      subst (KeepsNodes old) (sym goes) (λ rest section. refl, λ same rest section. refl),
+)
 keeps_step old new command (Err (Refused why)) apart small is whole step = (step_small old new command (Err (Refused why)) small whole step, keeps_none old new step.2)
 keeps_step old new command (Err OutOfMemory) apart small is whole step = (step_small old new command (Err OutOfMemory) small whole step, keeps_none old new step.1)
 keeps_step old new command (Err Device) apart small is whole step = absurd (false≢true (sym whole ∙ falls old new command step))

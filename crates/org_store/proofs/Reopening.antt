@@ -1,6 +1,5 @@
 -- An image that recovers to small files is opened again.
-use Rattle.std.proofs.Common.{rules, ◌≡◌, ◌≢◌, ◌⊎◌, inl, inr, ⊎_elim, ℕ, ◌+◌, ◌≤◌, nat_lt, Bool, true, false, List, [], ◌∷◌, length, Option, Some, None, Result, Ok, Err, refl, sym, ◌∙◌, ap, subst, if◌then◌else◌, arith}
-use Rattle.std.proofs.lemmas.Grind.{common_steps}
+use Rattle.std.proofs.Common.{◌≡◌, ◌≢◌, ◌⊎◌, inl, inr, ⊎_elim, ℕ, ◌+◌, ◌≤◌, nat_lt, Bool, true, false, List, [], ◌∷◌, length, Option, Some, None, Result, Ok, Err, refl, sym, ◌∙◌, ap, subst, if◌then◌else◌, arith}
 use Rattle.std.specs.Prelude.{IsSomeAnd}
 use Rattle.std.specs.List.{All, AllByRecursion, Contains}
 use Rattle.std.specs.Str.{bytes_eq}
@@ -14,7 +13,7 @@ use Rattle.org_fileset.specs.Names.{with_archives, AreSorted, AreFew, first_larg
 use Rattle.org_fileset.specs.Opening.{IsReason}
 use Rattle.org_fileset.specs.declared.open.OpenFault.{OpenFault}
 use Rattle.org_fileset.specs.declared.open.OpenFault.TheVariants.{TooManyFiles, BadJournal, TooLarge, Device, OutOfMemory}
-use Rattle.org_fileset.proofs.Elements.{no_member, cons_cases, cons_later}
+use Rattle.org_fileset.proofs.Elements.{no_member, cons_cases, cons_here, cons_later}
 use Rattle.org_fileset.proofs.Sorted.{all_sorted, archives_apart, archives_grow}
 use Rattle.org_commands.specs.declared.command.Command.{Command}
 use Rattle.org_commands.specs.declared.command.Reply.{Reply}
@@ -101,7 +100,10 @@ of_each P (one ∷ names) (text ∷ texts) others name size each there = elim (n
 
 none_large : (files : Image) (names : List (List ℕ)) → ((name : List ℕ) → Contains names name → length (files name) ≤ limit) → first_large files names ≡ None
 none_large files [] small = refl
-none_large files (name ∷ names) small = grind (arith, common_steps, none_large files names (λ one there. small one (cons_later name names one there)))
+none_large files (name ∷ names) small =
+    let here = small name (cons_here name names) in
+    let within : nat_lt limit (length (files name)) ≡ false = grind (arith, nat_tests, here) in
+    rw within (none_large files names (λ one there. small one (cons_later name names one there)))
 
 pub held_opens : (given : List (List ℕ)) (s : Session) (others image : Image) (texts : List (List ℕ)) → AreFew given → AreSorted (with_archives given) s.names → AreSmall s.names texts → Holds s others texts image
     → IsOpenable given image
@@ -132,7 +134,10 @@ length-texts_of files [] = refl
 length-texts_of files (name ∷ names) = let rest = length-texts_of files names in omega (arith, rest)
 
 pub opened_small : (files : Image) (names : List (List ℕ)) → first_large files names ≡ None → AreSmall names (texts_of files names)
-opened_small files names none = grind (arith, common_steps, length-texts_of, All-from_recursion, small_texts)
+opened_small files names none = record {
+  one_each = length-texts_of files names;
+  small = All-from_recursion (λ text. length text ≤ limit) (texts_of files names) (small_texts files names none);
+}
 
 -- one text in the place of another
 length-with_text : (names texts : List (List ℕ)) (name new : List ℕ) → length texts ≡ length names → length (with_text names texts name new) ≡ length names
@@ -150,7 +155,11 @@ all_with P (one ∷ names) (text ∷ texts) name new here each = (either (bytes_
     either false = each.0
 
 small_with : (names texts : List (List ℕ)) (name new : List ℕ) → length new ≤ limit → AreSmall names texts → AreSmall names (with_text names texts name new)
-small_with names texts name new here are = search (rules, arith, length-with_text, All-from_recursion, all_with, recursion_from_All)
+small_with names texts name new here are = record {
+  one_each = length-with_text names texts name new are.one_each;
+  small = All-from_recursion (λ text. length text ≤ limit) (with_text names texts name new)
+      (all_with (λ text. length text ≤ limit) names texts name new here (recursion_from_All (λ text. length text ≤ limit) texts are.small));
+}
 
 small_with_all : (names texts : List (List ℕ)) (changes : List (List ℕ × List ℕ)) → AreWithin changes → AreSmall names texts → AreSmall names (with_all names texts changes)
 small_with_all names texts [] each are = are

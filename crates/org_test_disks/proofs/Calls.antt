@@ -9,16 +9,17 @@ use Rattle.std.specs.Str.{bytes_eq}
 use Rattle.std.specs.declared.alloc.AllocError.{AllocError}
 use Rattle.std.specs.declared.alloc.Global.{Global}
 use Rattle.indexmap.specs.IndexMap.{get}
-use Rattle.org_disk.specs.Disk.{FileState, IsImage, AreImages, AreLeftBy, Changes, Passes, stable}
+use Rattle.org_disk.specs.Disk.{FileState, IsImage, AreImages, AreLeftBy, Changes, Passes, stable, IsCounted}
 use Rattle.org_disk.specs.declared.disk.DiskFault.{DiskFault}
 use Rattle.org_test_disks.specs.declared.memory.Effect.{Effect}
 use Rattle.org_test_disks.specs.declared.memory.Effect.TheVariants.{Set, Nothing}
 use Rattle.org_test_disks.specs.declared.memory.Call.{Call}
 use Rattle.org_test_disks.specs.Record.{effect_of, step, state_after, files_after, is_call, LeftSince, IsTried, call_of, Contents, content_in, items_or, Keeps}
 use Rattle.org_test_disks.specs.RecordLaws.{own_image}
-use Rattle.org_test_disks.specs.Memory.{HasNoEffect}
+use Rattle.org_test_disks.specs.Memory.{HasNoEffect, CountsDown, KeepsPlan, TakesTurn, is_due}
 use Rattle.org_test_disks.specs.declared.memory.MemoryDisk.{MemoryDisk}
 use Rattle.org_disk.proofs.Moments.{Image, passes_none}
+use Rattle.std.specs.Prelude.{IsFalse}
 
 abbrev pub done : Result (Unit {0}) DiskFault
 done = Ok tt
@@ -248,6 +249,31 @@ module _ (name : List ℕ) (copy : Vec ℕ Global) (calls later : List Call) whe
       → (other : List ℕ) → other ≢ name → files_after later other ≡ files_after calls other
   set_others (Ok tt) made same other apart = (changes_made calls later (call_of name (Set copy) false) made).others other apart
   set_others (Err e) made same other apart = ap (λ (cs : List Call). files_after cs other) same
+
+-- A call that failed: the record has it with its effect or with none, or has no memory for it.
+pub tried_recorded : (name : List ℕ) (effect made : Effect) (crashed : Bool) (calls later : List Call) → (made ≡ effect) ⊎ (made ≡ Nothing) → (r : Result (Unit {0}) AllocError)
+    → OnOk r (later ≡ calls ++ call_of name made crashed ∷ []) → OnErr r (later ≡ calls) → IsTried name effect calls later
+tried_recorded name effect made crashed calls later which (Err e) ok err = inl err
+tried_recorded name effect made crashed calls later (inl same) (Ok tt) ok err = inr (inl (crashed, ok ∙ ap (λ (e : Effect). calls ++ call_of name e crashed ∷ []) same))
+tried_recorded name effect made crashed calls later (inr none) (Ok tt) ok err = inr (inr (crashed, ok ∙ ap (λ (e : Effect). calls ++ call_of name e crashed ∷ []) none))
+
+-- .. from the turn of the call to the count of its failure
+pub tried_at : (name : List ℕ) (effect made : Effect) (crashed : Bool) (old turned recorded new : List Call) → turned ≡ old → new ≡ recorded → (made ≡ effect) ⊎ (made ≡ Nothing) → (r : Result (Unit {0}) AllocError)
+    → OnOk r (recorded ≡ turned ++ call_of name made crashed ∷ []) → OnErr r (recorded ≡ turned) → IsTried name effect old new
+tried_at name effect made crashed old turned recorded new begun counted which r ok err =
+    subst (λ (later : List Call). IsTried name effect old later) (sym counted)
+    (subst (λ (calls : List Call). IsTried name effect calls recorded) begun (tried_recorded name effect made crashed turned recorded which r ok err))
+
+-- the turn of a call that fails
+pub turn_failed : (old turned recorded new : MemoryDisk) (fault : DiskFault) → CountsDown old turned → turned.failures ≡ old.failures → KeepsPlan turned recorded → recorded.failures ≡ turned.failures → KeepsPlan recorded new → IsCounted recorded.failures new.failures
+    → (IsFalse (is_due old) → new.calls.items ≡ old.calls.items) → TakesTurn {A = Unit {0}} old new (Err fault)
+turn_failed old turned recorded new fault counts begun plan kept last count unasked = record {
+  due = λ due. refl;
+  unasked = unasked;
+  counts = record { fail_in = last.fail_in ∙ plan.fail_in ∙ counts.fail_in; crash = last.crash ∙ plan.crash ∙ counts.crash };
+  kept = tt;
+  counted = subst (λ (n : ℕ). IsCounted n new.failures) (kept ∙ begun) count;
+}
 
 -- The calls that are counted, one entry further on.
 module _ (entries calls : List Call) (same : entries ≡ calls) (i : ℕ) (call : Call) (within : i < length entries) (at : call ≡ get_or entries i call) where

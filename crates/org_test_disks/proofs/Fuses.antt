@@ -1,9 +1,8 @@
 -- The accounts of a fuse, of those of its disk.
-use Rattle.std.proofs.Common.{◌≡◌, ℕ, List, arith}
+use Rattle.std.proofs.Common.{◌≡◌, ℕ, arith}
 use Rattle.std.proofs.lemmas.Grind.{common_steps}
 use Rattle.std.specs.Prelude.{Result, Ok, Err}
 use Rattle.org_disk.specs.Calls.{AccountsOfCall}
-use Rattle.org_disk.specs.Disk.{FileState}
 use Rattle.org_test_disks.specs.Fuse.{fuse_failures}
 use Rattle.org_disk.specs.declared.disk.DiskFault.{DiskFault}
 use Rattle.org_test_disks.specs.declared.fuse.Fuse.{Fuse}

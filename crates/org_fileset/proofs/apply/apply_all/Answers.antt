@@ -4,13 +4,20 @@ use Rattle.org_disk.specs.Disk.{FileState}
 use Rattle.org_splice.specs.Patches.{Fit, patched}
 use Rattle.org_splice.specs.Texts.{pairs_of}
 use Rattle.org_journal.specs.Recovered.{contents, replayed}
-use Rattle.org_fileset.proofs.Going.{calls_on, goes_on}
+use Rattle.org_fileset.proofs.Going.{goes_none, calls_on, goes_on}
 use Rattle.org_fileset.proofs.Takes.{applicable_at}
 use Rattle.org_fileset.proofs.Recovers.{replayed-entry, replayed-other}
 use Rattle.org_fileset.proofs.Replaying.{texts_more, untouched_more, all_texts}
-use Rattle.org_disk.proofs.Accounting.{accounts_ok}
-use Rattle.org_journal.proofs.Accounted.{accounts_fine_test}
+use Rattle.org_disk.proofs.Accounting.{accounts_ok, accounts_then}
+use Rattle.org_journal.proofs.Accounted.{accounts_failed, accounts_fine_test}
 use Rattle.org_fileset.proofs.apply.apply_all.Goals as goal
+
+pub loop-entry-init : goal.loop-entry-init
+loop-entry-init g c = record {
+  goes = goes_none g.D.Disk c.args.entries.now c.args.disk.now;
+  have = λ honest j entry none is. absurd (omega arith);
+  untouched = λ honest j entry le is. refl;
+}
 
 pub apply_entry-requires : goal.apply_entry-requires
 apply_entry-requires g c h =
@@ -36,6 +43,9 @@ pub returns-in_err-apply_entry-clause-alone : goal.returns-in_err-apply_entry-cl
 returns-in_err-apply_entry-clause-alone g c =
     let is = slice_get_read c.args.entries.now (length c.args.entries.now) c.loop-entry.entry-index c.entry-item.result refl c.loop-entry-test.true c.entry-item.is in
     (calls_on g.D.Disk c.args.entries.now _ is (λ h. (c.requires h).applicable) c.loop-entry.invariant.goes c.apply_entry.new.disk c.apply_entry.ensures.accounts.was_honest c.apply_entry.ensures.applies c.apply_entry.ensures.alone).alone
+
+pub returns-in_err-apply_entry-clause-accounts : goal.returns-in_err-apply_entry-clause-accounts
+returns-in_err-apply_entry-clause-accounts g c = accounts_then c.loop-entry.invariant.goes.accounts (accounts_failed c.from_residual.ensures.0 c.in_err-apply_entry.ensures.accounts)
 
 pub loop-entry-preserved : goal.loop-entry-preserved
 loop-entry-preserved g c =

@@ -1,14 +1,21 @@
-use Rattle.std.proofs.Common.{inl, inr, ℕ, List, length, refl, sym, ◌∙◌, ap}
+use Rattle.std.proofs.Common.{inl, inr, ℕ, List, length, refl, sym, ◌∙◌, ap, arith}
 use Rattle.std.proofs.lemmas.Option.{slice_get_read}
 use Rattle.org_disk.specs.Disk.{FileState}
-use Rattle.org_disk.proofs.Accounting.{accounts_call_ok}
+use Rattle.org_disk.proofs.Accounting.{accounts_call, accounts_call_ok, accounts_then}
 use Rattle.org_disk.proofs.Images.{is_stable}
 use Rattle.org_disk.proofs.Names.{name_cases}
-use Rattle.org_journal.proofs.Accounted.{accounts_fine_test}
-use Rattle.org_fileset.proofs.Going.{calls_on, goes_on}
+use Rattle.org_journal.proofs.Accounted.{accounts_failed, accounts_fine_test}
+use Rattle.org_fileset.proofs.Going.{goes_none, calls_on, goes_on}
 use Rattle.org_fileset.proofs.Replaying.{applies_sync, stable_more, all_stable}
 use Rattle.org_fileset.proofs.Writes.{alone_called, alone_entry}
 use Rattle.org_fileset.proofs.apply.sync_all.Goals as goal
+
+pub loop-entry-init : goal.loop-entry-init
+loop-entry-init g c = record {
+  goes = goes_none g.D.Disk c.args.entries.now c.args.disk.now;
+  contents = λ honest name. refl;
+  stable = λ honest j entry none is. absurd (omega arith);
+}
 
 pub returns-in_err-sync-clause-replays : goal.returns-in_err-sync-clause-replays
 returns-in_err-sync-clause-replays g c =
@@ -22,6 +29,9 @@ returns-in_err-sync-clause-alone g c ended =
     let is = slice_get_read c.args.entries.now (length c.args.entries.now) c.loop-entry.entry-index c.entry-item.result refl c.loop-entry-test.true c.entry-item.is in
     alone_entry g.D.Disk c.args.entries.now c.loop-entry.entry-index c.entry-item.result c.args.disk.now c.loop-entry.disk c.sync.new.self is
     (c.loop-entry.invariant.goes.calls.alone (c.sync.ensures.accounts.was_honest ended)) (alone_called (c.sync.ensures.effect ended) (c.sync.ensures.time ended))
+
+pub returns-in_err-sync-clause-accounts : goal.returns-in_err-sync-clause-accounts
+returns-in_err-sync-clause-accounts g c = accounts_then c.loop-entry.invariant.goes.accounts (accounts_failed c.from_residual.ensures.0 (accounts_call _ c.in_err-sync.ensures.accounts))
 
 pub loop-entry-preserved : goal.loop-entry-preserved
 loop-entry-preserved g c =

@@ -6,7 +6,10 @@ use Rattle.org_fileset.specs.Recovery.{IsReopened}
 use Rattle.org_fileset.proofs.OpenGate.{on_ok_always}
 use Rattle.org_disk.specs.Names.{journal_name}
 use Rattle.org_fileset.specs.Writes.{IsUnconcerned}
+use Rattle.org_journal.proofs.Accounted.{accounts_after}
+use Rattle.org_fileset.proofs.Accounted.{accounts_opened}
 use Rattle.org_fileset.proofs.Sets.{passed_never}
+use Rattle.org_fileset.proofs.Sizes.{found_few, answer_found, answer_sized}
 use Rattle.org_fileset.proofs.Starting.{since_start}
 use Rattle.org_fileset.proofs.Writes.{alone_looks, alone_then}
 use Rattle.org_fileset.proofs.Recovering.{as_before}
@@ -40,3 +43,28 @@ returns-clause-reopens g c ended =
       alone = alone_then g.D.Disk (IsUnconcerned (contents old journal_name)) c.args.disk.now c.recover.new.disk c.check_sizes.new.disk made.alone
           (alone_looks g.D.Disk (IsUnconcerned (contents old journal_name)) c.recover.new.disk c.check_sizes.new.disk looks);
     }
+
+pub returns-in_err-recover-clause-accounts : goal.returns-in_err-recover-clause-accounts
+returns-in_err-recover-clause-accounts g c =
+    accounts_opened c.in_err-recover.field-0.0 c.from_residual.ensures.1 c.in_err-recover.ensures.accounts
+
+pub returns-clause-accounts : goal.returns-clause-accounts
+returns-clause-accounts g c = accounts_after c.in_ok-recover.ensures.accounts c.check_sizes.ensures.accounts
+
+pub returns-in_err-recover-clause-answer : goal.returns-in_err-recover-clause-answer
+returns-in_err-recover-clause-answer g c ended =
+    let files = g.D.Disk.files in
+    answer_found (contents (files c.args.disk.now)) (contents (files c.recover.new.disk)) c.args.names.now c.from_residual.result c.in_err-recover.field-0.0 c.from_residual.ensures.1 (λ bad. c.in_err-recover.ensures.bad bad ended)
+
+pub returns-in_err-recover-clause-not_too_many : goal.returns-in_err-recover-clause-not_too_many
+returns-in_err-recover-clause-not_too_many g c = found_few c.in_err-recover.field-0.0 c.from_residual.ensures.1
+
+pub returns-clause-answer : goal.returns-clause-answer
+returns-clause-answer g c ended =
+    let files = g.D.Disk.files in
+    let honest = c.check_sizes.ensures.accounts.was_honest ended in
+    answer_sized (files c.args.disk.now) (files c.recover.new.disk) (files c.check_sizes.new.disk) c.args.names.now c.check_sizes.result (c.in_ok-recover.ensures.reopens honest).done (c.check_sizes.ensures.looks ended).same
+    (c.check_sizes.ensures.sizes ended)
+
+pub returns-clause-not_too_many : goal.returns-clause-not_too_many
+returns-clause-not_too_many g c = c.check_sizes.ensures.not_too_many

@@ -5,6 +5,9 @@ use Rattle.byteorder.specs.Endian.{big_bytes}
 use Rattle.org_splice.specs.declared.patch.Patch.{Patch}
 use Rattle.org_journal.specs.Record.{patch_bytes}
 use Rattle.org_journal.proofs.Journal.{appended5}
+use Rattle.org_journal.proofs.Numbers.{patches_fit}
+use Rattle.org_journal.proofs.Spelled.{name_fits}
+use Rattle.org_splice.proofs.Failing.{not_ok}
 use Rattle.org_journal.proofs.encoding.put_entry.Goals as goal
 
 pub returns : goal.returns
@@ -22,3 +25,23 @@ returns c =
     (c.in_ok-put_u32.ensures ∙ ap (λ (x : List Patch). c.put_u64.new.out.items ++ big_bytes 4 (length x)) c.as_slice-patches.ensures)
     (written ∙ ap (λ (x : List Patch). before ++ flat_map patch_bytes x) c.as_slice-patches.ensures))
     c.put_patches.ensures
+
+pub returns-in_err-put_u16 : goal.returns-in_err-put_u16
+returns-in_err-put_u16 c = not_ok _ _ c.from_residual.ensures.0
+
+pub returns-in_err-extend_from_slice : goal.returns-in_err-extend_from_slice
+returns-in_err-extend_from_slice c = not_ok _ _ c.from_residual-in_err-extend_from_slice.ensures.0
+
+pub returns-in_err-put_u64 : goal.returns-in_err-put_u64
+returns-in_err-put_u64 c = not_ok _ _ c.from_residual-in_err-put_u64.ensures.0
+
+pub returns-in_err-put_u32 : goal.returns-in_err-put_u32
+returns-in_err-put_u32 c = not_ok _ _ c.from_residual-in_err-put_u32.ensures.0
+
+pub overflow_cast-name : goal.overflow_cast-name
+overflow_cast-name c =
+    let name = c.args.entry.now.name in
+    rw c.as_str-name.ensures.value (record { fits = name_fits name c.requires.name })
+
+pub overflow_cast-patches : goal.overflow_cast-patches
+overflow_cast-patches c = rw c.as_slice-patches.ensures (record { fits = patches_fit (length c.args.entry.now.patches) c.requires.few })

@@ -1,7 +1,7 @@
 use Rattle.org_disk.proofs.Accounting.{accounts_call}
 use Rattle.org_disk.proofs.Moments.{passes_as}
 use Rattle.org_journal.proofs.Accounted.{accounts_failed}
-use Rattle.org_journal.proofs.Gates.{behind_write, puts, puts_failed}
+use Rattle.org_journal.proofs.Gates.{behind_write, puts_failed}
 use Rattle.org_journal.proofs.gate.arm.Goals as goal
 
 pub returns-in_err-write_at : goal.returns-in_err-write_at

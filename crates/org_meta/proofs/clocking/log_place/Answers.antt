@@ -1,4 +1,5 @@
 use Rattle.std.proofs.Common.{sym, ◌∙◌, refl}
+use Rattle.org_meta.proofs.Walk.{rest_shorter}
 use Rattle.org_meta.proofs.Logs.{log_none, log_line, log_here, log_unended}
 use Rattle.org_meta.proofs.clocking.log_place.Goals as goal
 
@@ -14,3 +15,6 @@ returns-then-not-has_end-clause-none c = λ line. log_unended _ _ _ _ line c.loo
 pub returns-then-is_mark-clause-some : goal.returns-then-is_mark-clause-some
 returns-then-is_mark-clause-some c =
     log_here _ _ _ _ _ c.loop-line.invariant c.in-Some.rest.whole c.in-Some.ensures.some (sym c.is_mark.ensures ∙ c.if-is_mark.true) (sym c.has_end.ensures ∙ c.if-not-has_end.false) refl refl
+
+pub loop-line-smaller : goal.loop-line-smaller
+loop-line-smaller c = rest_shorter _ _ _ c.in-Some.ensures.some

@@ -8,7 +8,7 @@ use Rattle.org_splice.specs.declared.edit.Edit.{Edit}
 use Rattle.org_outline.specs.Tree.{Document, Node, print, print_node, tree}
 use Rattle.org_move.specs.Answers.{IsMadeAs}
 use Rattle.org_move.specs.Archive.{archive_within_at, archived, filled}
-use Rattle.org_move.proofs.Within.{archived_within, not_apart}
+use Rattle.org_move.proofs.Within.{archived_within, not_apart, starved}
 use Rattle.org_move.proofs.archiving.archive_within.Goals as goal
 
 -- a fault that is handed on
@@ -25,6 +25,14 @@ returns-in_err-up c =
     handed said Fits _ c.from_residual-in_err-up.result c.from_residual-in_err-up.ensures.1 (λ fault is. subst (λ (f : Fault Refusal). IsMadeAs said Fits (Err f)) (sym is)
     (not_apart outline.states c.args.name.now c.args.now c.args.to.now (tree outline.text) Fits _ c.args.node c.in_ok-target_heading.field-0 c.in_err-up.field-0.0
     c.target_heading.ensures.value c.in_ok-target_heading.was c.in_err-up.ensures.value))
+
+pub returns-in_err-lines : goal.returns-in_err-lines
+returns-in_err-lines c =
+    let outline = c.args.outline.now in
+    let Fits : Document → List Edit → Type 0 = λ new edits. AreEdits edits outline.text (print new) in
+    let said = archive_within_at outline.states c.args.name.now c.args.now c.args.to.now (tree outline.text) c.args.node in
+    handed said Fits _ c.from_residual-in_err-lines.result c.from_residual-in_err-lines.ensures.1 (λ fault is. starved outline.states c.args.name.now c.args.now c.args.to.now (tree outline.text) Fits _ c.args.node
+    c.in_ok-target_heading.field-0 c.in_ok-up.up fault c.target_heading.ensures.value c.in_ok-target_heading.was c.in_ok-up.ensures.value is)
 
 pub returns : goal.returns
 returns c =

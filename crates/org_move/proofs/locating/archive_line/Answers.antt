@@ -5,6 +5,17 @@ use Rattle.org_move.specs.Location.{has_archive_line}
 use Rattle.org_move.proofs.Lines.{first_known, found_known, no_line, none_known}
 use Rattle.org_move.proofs.locating.archive_line.Goals as goal
 
+pub returns-in-Nowhere-clause-line : goal.returns-in-Nowhere-clause-line
+returns-in-Nowhere-clause-line c =
+    let known = subst (λ (s : Searched). IsSearched has_archive_line s c.args.text.now) c.in-Nowhere.is c.requires.searched in
+    sym (no_line c.args.text.now known)
+
+pub returns-in-Nowhere-clause-searched : goal.returns-in-Nowhere-clause-searched
+returns-in-Nowhere-clause-searched c = subst (λ (s : Searched). IsSearched has_archive_line s c.args.text.now) c.in-Nowhere.is c.requires.searched
+
+pub invariant_of-first_archive_line : goal.invariant_of-first_archive_line
+invariant_of-first_archive_line c = record { whole = c.unknown_lines.ensures.terminated_lines }
+
 pub returns-in-None-clause-line : goal.returns-in-None-clause-line
 returns-in-None-clause-line c =
     let known = subst (λ (s : Searched). IsSearched has_archive_line s c.args.text.now) c.in-Ends.is c.requires.searched in

@@ -1,6 +1,6 @@
 use Rattle.std.proofs.Common.{List, ℕ, ap, ◌∙◌}
 use Rattle.org_meta.specs.Sections.{parts_of, put}
-use Rattle.org_move.proofs.Each.{good_value, value_more, none_more}
+use Rattle.org_move.proofs.Each.{good_value, value_more, none_more, each_all}
 use Rattle.org_move.proofs.properties.with_properties.Goals as goal
 use Rattle.org_move.proofs.properties.with_properties.Goals.{in-Some+in_ok-new-2, in_default}
 
@@ -27,3 +27,6 @@ loop-property-preserved c =
         stays_terminated = so_far.stays_terminated;
       })
     ]
+
+pub returns-clause-parts : goal.returns-clause-parts
+returns-clause-parts c = each_all c.args.properties.now c.loop-property.property-index _ _ c.loop-property.invariant.parts c.loop-property-test.false

@@ -1,11 +1,11 @@
-use Rattle.std.proofs.Common.{ℕ, List, ◌++◌, ◌∙◌, Option, Ok, inl, inr, refl}
+use Rattle.std.proofs.Common.{ℕ, List, [], ◌++◌, ◌∙◌, Option, Ok, inl, inr, refl}
 use Rattle.org_commands.specs.declared.tally.Group.{Group}
 use Rattle.org_commands.specs.declared.tally.Group.TheVariants.{Of, Whole}
 use Rattle.org_store.specs.Calls.{Machine}
 use Rattle.org_serve.specs.Pipes.{AppendsSome}
 use Rattle.org_serve.specs.Replies.{settled_text}
 use Rattle.org_serve.specs.Serving.{AnswersRest, EndsText, MayHaveSettled}
-use Rattle.org_serve.proofs.Joins.{Appends-append, some_first, some_then}
+use Rattle.org_serve.proofs.Joins.{Appends-append, Appends-none, some_first, some_then}
 use Rattle.org_serve.proofs.serving.finish.Goals as goal
 
 -- nothing was settled
@@ -30,6 +30,9 @@ returns-in-Err-clause-write g c = λ is. (
       some_rest c.args.group part rest.0 _ _ _ rest.1 rest.2.part,
 )
 
+pub returns-in-Err-clause-reported : goal.returns-in-Err-clause-reported
+returns-in-Err-clause-reported g c not = absurd (not refl)
+
 pub returns-in-Of-clause-reported : goal.returns-in-Of-clause-reported
 returns-in-Of-clause-reported g c = λ not.
     let reported = c.settle.ensures.reported not in (
@@ -48,3 +51,14 @@ returns-in-Of-clause-write g c = λ is.
           let rest = c.in_default.ensures.rest part stands in
           (rest.0 ++ tail, (rest.0, some.2, rest.1, refl), some_then _ _ _ rest.0 tail rest.2.ok some.3),
     )
+
+pub returns-in-Whole-clause-reported : goal.returns-in-Whole-clause-reported
+returns-in-Whole-clause-reported g c = λ not. (
+  c.in_default.ensures.counts.same,
+  λ part stands.
+      let rest = c.in_default.ensures.rest part stands in
+      rw c.in-Whole.is (rest.0, [], rest.1, (c.whole_end.ensures.value part stands, refl, refl), Appends-append _ _ _ rest.0 [] rest.2.ok (Appends-none (g.W.Sink.written c.answer_rest.new.writer))),
+)
+
+pub returns-in-Whole-clause-write : goal.returns-in-Whole-clause-write
+returns-in-Whole-clause-write g c is = absurd (c.whole_end.ensures.never.1 is)

@@ -1,18 +1,25 @@
 use Rattle.std.proofs.lemmas.List.{length-take}
-use Rattle.std.proofs.Common.{◌≡◌, ◌∙◌, arith, ◌<◌, ◌≤◌, ◌++◌, ℕ, List, length, take, inr, refl, subst}
+use Rattle.std.proofs.Common.{◌≡◌, ◌∙◌, arith, ◌<◌, ◌≤◌, ◌++◌, ℕ, List, length, take, inl, inr, refl, subst}
+use Rattle.org_serve.specs.declared.end.ServeEnd.TheVariants.{Write}
 use Rattle.org_serve.specs.Pipes.{AddsSome, HasRisenBy, HasRead}
 use Rattle.org_serve.specs.Lines.{cut}
 use Rattle.org_serve.specs.Serving.{most_read, EndsText, EndsWith, FeedsAll, FeedsSome, FeedsToEnd, MayHaveSettled, stores_while_honest}
 use Rattle.org_store.specs.Calls.{model}
 use Rattle.org_serve.specs.Writes.{exchange, output}
 use Rattle.org_serve.proofs.Cuts.{rest-free}
-use Rattle.org_serve.proofs.Inputs.{Served-more, Served-some, Served-some_wrote, Served-stop, Served-no_more, serves_read, serves_some, serves_stop, serves_end}
+use Rattle.org_serve.proofs.Inputs.{Served-none, Served-more, Served-some, Served-some_wrote, Served-stop, Served-no_more, serves_read, serves_some, serves_stop, serves_end}
 use Rattle.org_serve.proofs.Joins.{Consumes-kept}
-use Rattle.org_serve.proofs.Counting.{HasRisenBy-counted, within_counted, read_more, ended_read}
-use Rattle.org_serve.proofs.Breaking.{untouched_then, breaks_then, refused_told}
+use Rattle.org_serve.proofs.Counting.{HasRisenBy-counted, within_counted, within_all, read_none, read_more, ended_read, ended_otherwise}
+use Rattle.org_serve.proofs.Breaking.{untouched_then, breaks_then, accounts_still, refused_told}
 use Rattle.org_serve.proofs.Honest.{sound_end, sound_may, sound_runs, sound_served, sound_some, sound_stop, sound_stores}
 use Rattle.org_serve.proofs.Crashes.{ends_by, runs_finish, runs_keep, runs_read, runs_some, runs_stop, served_by, session_calls, settled_by, some_by, stop_by}
 use Rattle.org_serve.proofs.serving.serve.Goals as goal
+
+pub returns-in-Ok-eq0-clause-causes : goal.returns-in-Ok-eq0-clause-causes
+returns-in-Ok-eq0-clause-causes g c =
+    ended_otherwise (exchange g.R.Source g.W.Sink c.args.reader.now c.read.new.self c.args.writer.now c.finish.new.writer) c.finish.result c.finish.ensures.never
+    (within_all c.args.max_reads c.loop.counter (g.R.Source.reads c.args.reader.now) (g.R.Source.reads c.read.new.self) (within_counted c.loop.counter (g.R.Source.reads c.args.reader.now) (g.R.Source.reads c.loop.reader) (g.R.Source.reads c.read.new.self) c.loop.invariant.6 c.in-Ok-eq0.ensures.counted) (omega arith))
+    (c.in-Ok-eq0.ensures.ok ∙ c.loop.invariant.4) c.loop.invariant.5 (λ is. (c.finish.ensures.write is).1) (λ not. (c.finish.ensures.reported not).0)
 
 pub returns-in-Ok-eq0-clause-calls : goal.returns-in-Ok-eq0-clause-calls
 returns-in-Ok-eq0-clause-calls g c =
@@ -48,6 +55,12 @@ returns-in-Ok-eq0-clause-did g c = λ honest.
           (subst (λ k. MayHaveSettled k (stores_while_honest d) c.loop.store c.finish.new.store) c.group-group.ensures (c.finish.ensures.write e).0) honest)),
       runs_keep d (sound_runs d (returns-in-Ok-eq0-clause-calls g c).0 honest),
     )
+
+pub returns-in-Err-feed-clause-causes : goal.returns-in-Err-feed-clause-causes
+returns-in-Err-feed-clause-causes g c =
+    ended_otherwise (exchange g.R.Source g.W.Sink c.args.reader.now c.read.new.self c.args.writer.now c.feed.new.writer) Write (λ e. absurd (cc))
+    (within_all c.args.max_reads c.loop.counter (g.R.Source.reads c.args.reader.now) (g.R.Source.reads c.read.new.self) (within_counted c.loop.counter (g.R.Source.reads c.args.reader.now) (g.R.Source.reads c.loop.reader) (g.R.Source.reads c.read.new.self) c.loop.invariant.6 c.in-Ok.ensures.counted) (omega arith))
+    (c.in-Ok.ensures.ok ∙ c.loop.invariant.4) c.loop.invariant.5 (λ e. c.in-Err-feed.ensures.counts.counted) (λ not. absurd (not refl))
 
 pub returns-in-Err-feed-clause-calls : goal.returns-in-Err-feed-clause-calls
 returns-in-Err-feed-clause-calls g c =
@@ -103,6 +116,12 @@ returns-in-Ok-Stop-clause-did g c = λ honest.
       runs_keep d (sound_runs d (returns-in-Ok-Stop-clause-calls g c).0 honest),
     )
 
+pub returns-in-Err-clause-causes : goal.returns-in-Err-clause-causes
+returns-in-Err-clause-causes g c =
+    ended_read (exchange g.R.Source g.W.Sink c.args.reader.now c.read.new.self c.args.writer.now c.loop.writer) c.loop.invariant.4 (inl c.in-Err.ensures.err)
+    (within_all c.args.max_reads c.loop.counter (g.R.Source.reads c.args.reader.now) (g.R.Source.reads c.read.new.self) (within_counted c.loop.counter (g.R.Source.reads c.args.reader.now) (g.R.Source.reads c.loop.reader) (g.R.Source.reads c.read.new.self) c.loop.invariant.6 c.in-Err.ensures.counted) (omega arith))
+    c.loop.invariant.5
+
 pub returns-in-Err-clause-calls : goal.returns-in-Err-clause-calls
 returns-in-Err-clause-calls g c =
     let d = g.D.Disk in
@@ -116,6 +135,9 @@ returns-in-Err-clause-did g c = λ honest.
           (sound_served d c.args.store.now.session.group (Served-no_more c.loop.invariant.0 (g.R.Source.left c.read.new.self) (Consumes-kept _ _ c.in-Err.ensures.bytes)) honest)),
       runs_keep d (sound_runs d (returns-in-Err-clause-calls g c).0 honest),
     )
+
+pub returns-in-Err-clause-broken : goal.returns-in-Err-clause-broken
+returns-in-Err-clause-broken g c = tt
 
 pub returns-clause-causes : goal.returns-clause-causes
 returns-clause-causes g c =
@@ -152,4 +174,46 @@ loop-preserved g c = (
   within_counted c.loop.counter (g.R.Source.reads c.args.reader.now) (g.R.Source.reads c.loop.reader) (g.R.Source.reads c.read.new.self) c.loop.invariant.6 c.in-Ok.ensures.counted,
   read_more c.loop.counter (g.R.Source.left c.args.reader.now) (g.R.Source.left c.loop.reader) (g.R.Source.left c.read.new.self) (take c.in-Ok.n c.read.new.into) c.loop.invariant.7
       c.in-Ok.ensures.bytes.0 (omega (arith, c.in-Ok.ensures.bound.1)),
+)
+
+pub returns-in-Err-clause-untouched : goal.returns-in-Err-clause-untouched
+returns-in-Err-clause-untouched g c = c.loop.invariant.1
+
+pub returns-in-Err-clause-accounts : goal.returns-in-Err-clause-accounts
+returns-in-Err-clause-accounts g c = c.loop.invariant.2
+
+pub returns-clause-untouched : goal.returns-clause-untouched
+returns-clause-untouched g c = c.loop.invariant.1
+
+pub returns-clause-accounts : goal.returns-clause-accounts
+returns-clause-accounts g c = c.loop.invariant.2
+
+pub returns-in-Err-feed-clause-untouched : goal.returns-in-Err-feed-clause-untouched
+returns-in-Err-feed-clause-untouched g c = untouched_then c.loop.invariant.1 c.in-Err-feed.ensures.untouched
+
+pub returns-in-Err-feed-clause-accounts : goal.returns-in-Err-feed-clause-accounts
+returns-in-Err-feed-clause-accounts g c = breaks_then c.loop.invariant.1 c.in-Err-feed.ensures.untouched c.loop.invariant.2 c.in-Err-feed.ensures.accounts
+
+pub returns-in-Ok-eq0-clause-untouched : goal.returns-in-Ok-eq0-clause-untouched
+returns-in-Ok-eq0-clause-untouched g c = untouched_then c.loop.invariant.1 c.finish.ensures.untouched
+
+pub returns-in-Ok-eq0-clause-accounts : goal.returns-in-Ok-eq0-clause-accounts
+returns-in-Ok-eq0-clause-accounts g c = breaks_then c.loop.invariant.1 c.finish.ensures.untouched c.loop.invariant.2 c.finish.ensures.accounts
+
+pub returns-in-Err-feed-clause-broken : goal.returns-in-Err-feed-clause-broken
+returns-in-Err-feed-clause-broken g c = tt
+
+pub returns-clause-broken : goal.returns-clause-broken
+returns-clause-broken g c = tt
+
+pub loop-init : goal.loop-init
+loop-init g c = (
+  Served-none c.new-pending.ensures,
+  λ broke. refl,
+  accounts_still c.args.store.now.session,
+  inl (omega arith),
+  refl,
+  refl,
+  omega arith,
+  read_none (g.R.Source.left c.args.reader.now),
 )

@@ -1,10 +1,17 @@
 use Rattle.std.proofs.Common.{◌≡◌, inl, inr, ◌+◌, ◌-◌, ◌*◌, ◌/◌, ◌<◌, ◌≤◌, ◌≤ℤ◌, ◌<ℤ◌, arith}
 use Rattle.std.proofs.lemmas.Int.{ints}
+use Rattle.std.proofs.Math.Nat.{div-mul-le_self}
 use Rattle.std.proofs.lemmas.Bool.{cases_lt}
 use Rattle.org_stamp.specs.Calendar.{day_number, months_after, month_number}
-use Rattle.org_stamp.proofs.Later.{reach, miss, few_steps, whole_steps, past_steps, months_within, found_months, to_year_in, reached_at, missed_at, missed_steps}
+use Rattle.org_stamp.proofs.Later.{reach, miss, few_steps, whole_steps, past_steps, whole_some, whole_few, months_within, found_months, to_year_in, reached_at, missed_at, missed_steps}
 use Rattle.org_stamp.proofs.steps.least_month_steps.Goals as goal
 use Rattle.org_stamp.proofs.steps.least_month_steps.Goals.{in_default-via-in-Some+else-target-number, in_default-via-in_default}
+
+pub overflow_mul-whole : goal.overflow_mul-whole
+overflow_mul-whole c = omega (arith, div-mul-le_self (c.month_number-to.result - c.month_number-from.result) c.args.step)
+
+pub plus_months-requires : goal.plus_months-requires
+plus_months-requires c = omega (arith, div-mul-le_self (c.month_number-to.result - c.month_number-from.result) c.args.step)
 
 pub returns-then-to-from-clause-reached : goal.returns-then-to-from-clause-reached
 returns-then-to-from-clause-reached c =
@@ -58,3 +65,42 @@ returns-in_default-clause-least c = λ j some lt.
                 absurd (cc)
           ])
     ]
+
+pub overflow_add-from : goal.overflow_add-from
+overflow_add-from c = omega arith
+
+pub overflow_sub-whole : goal.overflow_sub-whole
+overflow_sub-whole c = omega arith
+
+pub returns-then-to-from-clause-bound : goal.returns-then-to-from-clause-bound
+returns-then-to-from-clause-bound c = omega arith
+
+pub nonzero_div-whole : goal.nonzero_div-whole
+nonzero_div-whole c = omega arith
+
+pub returns-then-to-from-clause-some : goal.returns-then-to-from-clause-some
+returns-then-to-from-clause-some c = omega arith
+
+pub returns-then-to-from-clause-least : goal.returns-then-to-from-clause-least
+returns-then-to-from-clause-least c = λ j some lt. absurd (omega (arith, some, lt))
+
+pub returns-in-Some-clause-some : goal.returns-in-Some-clause-some
+returns-in-Some-clause-some c = whole_some c.month_number-from.result c.month_number-to.result c.args.step c.requires.step c.if-to-from.false
+
+pub returns-in-Some-clause-bound : goal.returns-in-Some-clause-bound
+returns-in-Some-clause-bound c =
+    omega (arith, whole_few c.args.now c.month_number-from.result c.month_number-to.result c.args.step c.month_number-to.ensures.valid c.month_number-to.ensures.value c.requires.step)
+
+pub overflow_cast-number : goal.overflow_cast-number
+overflow_cast-number c = omega (arith, ints, c.number.ensures.bound)
+
+pub overflow_add-result : goal.overflow_add-result
+overflow_add-result c =
+    omega (arith, whole_few c.args.now c.month_number-from.result c.month_number-to.result c.args.step c.month_number-to.ensures.valid c.month_number-to.ensures.value c.requires.step)
+
+pub returns-in_default-clause-some : goal.returns-in_default-clause-some
+returns-in_default-clause-some c = omega arith
+
+pub returns-in_default-clause-bound : goal.returns-in_default-clause-bound
+returns-in_default-clause-bound c =
+    whole_few c.args.now c.month_number-from.result c.month_number-to.result c.args.step c.month_number-to.ensures.valid c.month_number-to.ensures.value c.requires.step

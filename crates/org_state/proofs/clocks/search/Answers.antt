@@ -1,9 +1,10 @@
 use Rattle.std.proofs.Common.{◌≡◌, ◌+◌, ◌-◌, ℕ, Some, sym, ap, subst, ◌∙◌, arith, length}
+use Rattle.std.specs.Prelude.{is_some}
 use Rattle.org_outline.specs.Tree.{tree}
 use Rattle.org_splice.specs.Searched.{IsFrontWithout, IsSearched}
 use Rattle.org_splice.specs.declared.searched.Searched.{Searched}
 use Rattle.org_state.specs.Clock.{has_clock, running_in}
-use Rattle.org_state.proofs.Known.{before_place, behind_place, first_running, found_front}
+use Rattle.org_state.proofs.Known.{before_place, behind_place, first_running, found_front, no_clock}
 use Rattle.org_state.proofs.clocks.search.Goals as goal
 
 pub running_among-requires-clause-before : goal.running_among-requires-clause-before
@@ -26,3 +27,17 @@ returns-in-Some-clause-searched c =
     let known = subst (λ (s : Searched). IsSearched has_clock s t) c.in-Ends.is c.requires in
     let found : running_in (tree t) ≡ Some c.in-Some.running = sym c.running_among.ensures ∙ c.in-Some.is in
     (subst (λ (n : ℕ). IsFrontWithout has_clock n t) (sym c.start-front.ensures) (found_front t c.in-Some.running.heading c.text.ensures.terminated (first_running (tree t) c.in-Some.running found)), known.1)
+
+pub returns-in-Nowhere-clause-running : goal.returns-in-Nowhere-clause-running
+returns-in-Nowhere-clause-running c =
+    let t = c.args.outline.now.text in
+    let known = subst (λ (s : Searched). IsSearched has_clock s t) c.in-Nowhere.is c.requires in
+    sym (no_clock t known)
+
+pub returns-in-Nowhere-clause-searched : goal.returns-in-Nowhere-clause-searched
+returns-in-Nowhere-clause-searched c =
+    let t = c.args.outline.now.text in
+    subst (λ (s : Searched). IsSearched has_clock s t) c.in-Nowhere.is c.requires
+
+pub returns-in-None-clause-searched : goal.returns-in-None-clause-searched
+returns-in-None-clause-searched c = ap is_some (sym c.running_among.ensures ∙ c.in-None.is)

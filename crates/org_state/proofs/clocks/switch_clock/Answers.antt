@@ -1,10 +1,16 @@
-use Rattle.std.proofs.Common.{◌∙◌, arith, inl, inr}
+use Rattle.std.proofs.Common.{◌≡◌, ◌∙◌, None, arith, inl, inr}
 use Rattle.std.specs.Prelude.{◌≢◌}
 use Rattle.std.proofs.lemmas.Result.{err_from_is_err_and}
+use Rattle.org_outline.specs.Tree.{tree}
 use Rattle.org_state.proofs.Switching.{stands}
-use Rattle.org_state.proofs.Both.{switch_refused, switch_starved, switch_made}
+use Rattle.org_state.proofs.Both.{switched_none, switch_refused, switch_starved, switch_made}
 use Rattle.org_state.proofs.clocks.switch_clock.Goals as goal
 use Rattle.org_state.proofs.clocks.switch_clock.Goals.{then-number-2, else-number-2}
+
+pub returns-then-number : goal.returns-then-number
+returns-then-number c =
+    let same : c.args.node ≡ c.args.running.heading = omega (arith, c.if-number.true, c.number.ensures, c.number-2.ensures) in
+    (None, switched_none c.args.now c.args.running.heading (tree c.args.outline.now.text) c.args.node same, c.new.ensures.items)
 
 pub returns-in_err-stop : goal.returns-in_err-stop
 returns-in_err-stop c =

@@ -1,4 +1,4 @@
-use Rattle.std.proofs.Common.{◌≡◌, List, ℕ, length, ◌≤◌, take, drop, subst, sym, ap, ◌∙◌}
+use Rattle.std.proofs.Common.{◌≡◌, List, ℕ, length, ◌≤◌, take, drop, subst, sym, ap, ◌∙◌, arith}
 use Rattle.std.specs.Prelude.{Vec}
 use Rattle.std.specs.Global.{Global}
 use Rattle.org_splice.specs.Blanks.{is_blank, front, behind}
@@ -24,3 +24,17 @@ returns c =
     ] in
     let made : Exchanges old text word c.new.result c.if-is_empty.removed = subst (λ (b : List ℕ). Exchanges old text word b c.if-is_empty.removed) (sym c.new.ensures) ex in
     keyword_gives _ states rest word old text c.of.ensures.keyword text_is (ap length gap_is) made
+
+pub overflow_add-removed : goal.overflow_add-removed
+overflow_add-removed c =
+    let text : List ℕ = c.split_at.result.1.now in
+    let text_is : text ≡ behind is_blank c.args.rest.now = c.split_at.ensures.back ∙ ap (λ n. drop n c.args.rest.now) c.blank_count.ensures.count in
+    let room : length c.of.result.keyword.now ≤ length text = keyword_room c.args.states.now c.args.rest.now c.of.result.keyword.now text c.of.ensures.keyword text_is in
+    omega (arith, room, c.blank_count-removed.ensures.within, c.split_at-then-is_empty.ensures.back_len, c.split_at.ensures.back_len)
+
+pub split_at-requires-then-is_empty : goal.split_at-requires-then-is_empty
+split_at-requires-then-is_empty c =
+    let rest : List ℕ = c.args.rest.now in
+    let text : List ℕ = c.split_at.result.1.now in
+    let text_is : text ≡ behind is_blank rest = c.split_at.ensures.back ∙ ap (λ n. drop n rest) c.blank_count.ensures.count in
+    keyword_room c.args.states.now rest c.of.result.keyword.now text c.of.ensures.keyword text_is

@@ -112,3 +112,24 @@ returns-in-Err-clause-executes g c =
 
 pub put-requires : goal.put-requires
 put-requires g c = c.in-Ok-Some.ensures.plan c.in-Ok-Some.plan c.in-Ok-Some.field-0-is
+
+pub count-requires-clause-unbroken : goal.count-requires-clause-unbroken
+count-requires-clause-unbroken g c = c.put.ensures.memory.broken ∙ whole_behind c.plan.result c.in-Ok-Some.field-0 Device c.plan.new.files.broken c.in-Ok-Some.is c.plan.ensures.disk.breaks
+
+pub count-requires-clause-small : goal.count-requires-clause-small
+count-requires-clause-small g c = c.in_ok-put-in-Ok-Some.ensures.puts.2
+
+pub count-requires-in-Ok-None-clause-unbroken : goal.count-requires-in-Ok-None-clause-unbroken
+count-requires-in-Ok-None-clause-unbroken g c = c.undo.ensures.memory.broken ∙ whole_behind c.plan.result c.in-Ok-None.field-0 Device c.plan.new.files.broken c.in-Ok-None.is c.plan.ensures.disk.breaks
+
+pub count-requires-in-Ok-None-clause-small : goal.count-requires-in-Ok-None-clause-small
+count-requires-in-Ok-None-clause-small g c = c.undo.ensures.small
+
+pub returns-in_ok-put-in-Ok-Some-clause-unedited : goal.returns-in_ok-put-in-Ok-Some-clause-unedited
+returns-in_ok-put-in-Ok-Some-clause-unedited g c = c.count.ensures.unedited
+
+pub returns-in-Ok-None-clause-unedited : goal.returns-in-Ok-None-clause-unedited
+returns-in-Ok-None-clause-unedited g c = c.count-in-Ok-None.ensures.unedited
+
+pub returns-in-Err-clause-unedited : goal.returns-in-Err-clause-unedited
+returns-in-Err-clause-unedited g c = c.undo-in-Err.ensures.now ∙ sym c.undo-in-Err.ensures.before

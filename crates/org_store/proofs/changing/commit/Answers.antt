@@ -1,18 +1,18 @@
-use Rattle.std.proofs.Common.{◌≡◌, ◌∙◌, ◌≤◌, ℕ, Ok, Err, refl, sym, ap, rules, arith}
+use Rattle.std.proofs.Common.{◌≡◌, ◌∙◌, ◌≤◌, ℕ, Ok, Err, Result, refl, sym, ap, subst, rules, arith}
 use Rattle.std.proofs.lemmas.Bool.{false≢true}
 use Rattle.org_fileset.specs.declared.fault.SetFault.TheVariants as set
 use Rattle.org_journal.specs.Recovered.{contents}
 use Rattle.org_texts.specs.Texts.{Holding}
 use Rattle.org_commands.specs.declared.tally.Tally.{Tally}
-use Rattle.org_commands.specs.declared.command.RunFault.TheVariants.{Device}
+use Rattle.org_commands.specs.declared.command.RunFault.{RunFault}
 use Rattle.org_commands.specs.Keeping.{fault_of_set}
 use Rattle.org_commands.specs.Session.{view_over}
 use Rattle.org_commands.proofs.Faults.{accounts_as, whole_behind}
 use Rattle.org_commands.proofs.Reading.{set_back, set_on, set_works}
-use Rattle.org_store.specs.Executing.{kept}
+use Rattle.org_store.specs.Executing.{KeepsHeld, kept}
 use Rattle.org_store.specs.Runs.{StaysWhereNeedless}
 use Rattle.org_store.proofs.Executing.{says_broken}
-use Rattle.org_store.proofs.Settling.{Fails, leaves_settled, settle_failed, settle_leaves}
+use Rattle.org_store.proofs.Settling.{Fails, keeps_failed, leaves_settled, settle_failed, settle_leaves}
 use Rattle.org_store.proofs.changing.commit.Goals as goal
 
 as_many : (n : ℕ) → n ≤ n
@@ -73,3 +73,15 @@ returns-in_err-commit-clause-settles g c states =
       broken = says_broken old.session now.session c.from_residual.result c.requires.unbroken (set_works c.commit.result c.from_residual.result fault c.in_err-commit.was given made.keeps.works) (λ fell. made.keeps.breaks.0 (back fell), λ broken. on (made.keeps.breaks.1 broken));
       accounts = accounts_as refl back on made.accounts;
     }
+
+pub returns-clause-keeps : goal.returns-clause-keeps
+returns-clause-keeps g c = record { held = c.in_ok-commit.ensures.keeps.held.0; memory = λ starved. absurd (cc); faults = tt }
+
+pub returns-in_err-commit-clause-keeps : goal.returns-in_err-commit-clause-keeps
+returns-in_err-commit-clause-keeps g c =
+    let made = c.commit.ensures in
+    let fault = c.in_err-commit.field-0.0 in
+    let given : c.from_residual.result ≡ Err (fault_of_set fault) = search rules in
+    subst (λ (r : Result (Unit {0}) RunFault). KeepsHeld c.args.files.now r c.commit.new.self) (sym given)
+    (keeps_failed c.args.files.now c.commit.new.self c.commit.result fault
+    (record { is = c.in_err-commit.was; unbroken = c.requires.unbroken; memory = made.keeps.memory; works = made.keeps.works; breaks = made.keeps.breaks; names = made.keeps.names }) c.in_err-commit.ensures.keeps.held)

@@ -1,5 +1,4 @@
-use Rattle.std.proofs.Common.{◌≡◌, ◌==◌, ◌∙◌, ◌-◌, ◌+◌, ◌^◌, ⊎_elim, true, false, Ok, Err, refl, ap, sym, subst, if◌then◌else◌, rules}
-use Rattle.std.specs.Prelude.{◌⊎◌}
+use Rattle.std.proofs.Common.{◌≡◌, ◌==◌, ◌∙◌, ◌-◌, ◌+◌, ◌^◌, inr, ⊎_elim, true, false, Ok, Err, refl, ap, sym, subst, if◌then◌else◌, rules, arith}
 use Rattle.org_journal.specs.Recovered.{contents}
 use Rattle.org_texts.specs.Texts.{Holding, held_over}
 use Rattle.org_fault.specs.declared.refusal.Refusal.TheVariants.{TooLarge}
@@ -99,5 +98,32 @@ returns-in_default-clause-executes g c states names dirties =
     (executes_starved d old (λ honest image left. g.met.D.Disk.only_now files.disk image honest left) refl c.requires.unbroken (view_over d.files states c.undo-in-Err.new.self tally)
     (view_same d.files states c.commit.new.files c.undo-in-Err.new.self tally taken.memory taken.before ∙ ap (λ (f : OpenFiles g.row.D.Denot). view_over d.files states f tally) still) (counted old.session names (texts_now d files)))
 
+pub returns-then-tally-clause-unedited : goal.returns-then-tally-clause-unedited
+returns-then-tally-clause-unedited g c = c.undo.ensures.now ∙ sym c.undo.ensures.before
+
+pub returns-then-not-fills-clause-unedited : goal.returns-then-not-fills-clause-unedited
+returns-then-not-fills-clause-unedited g c = c.keep.ensures.now ∙ sym c.keep.ensures.before
+
+pub returns-in-Ok-clause-unedited : goal.returns-in-Ok-clause-unedited
+returns-in-Ok-clause-unedited g c = c.in-Ok.ensures.keeps.held
+
+pub returns-in-Device-clause-unedited : goal.returns-in-Device-clause-unedited
+returns-in-Device-clause-unedited g c = c.undo-in-Err.ensures.now ∙ sym c.undo-in-Err.ensures.before
+
 pub returns-in_default-clause-unedited : goal.returns-in_default-clause-unedited
 returns-in_default-clause-unedited g c = c.undo-in-Err.ensures.now ∙ sym c.undo-in-Err.ensures.before
+
+pub fills-requires : goal.fills-requires
+fills-requires g c = search rules
+
+pub keep-requires : goal.keep-requires
+keep-requires g c = c.requires.small
+
+pub commit-requires-clause-unbroken : goal.commit-requires-clause-unbroken
+commit-requires-clause-unbroken g c = c.requires.unbroken
+
+pub commit-requires-clause-small : goal.commit-requires-clause-small
+commit-requires-clause-small g c = inr c.requires.small
+
+pub commit-requires-clause-pending : goal.commit-requires-clause-pending
+commit-requires-clause-pending g c all = let ordered = c.args.tally.now.ordered in absurd (omega (arith, ordered, all))

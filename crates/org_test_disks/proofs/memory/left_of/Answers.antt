@@ -1,9 +1,9 @@
-use Rattle.std.proofs.Common.{◌≡◌, ◌+◌, ◌++◌, ◌∷◌, [], List, ℕ, Vec, take, sym, ◌∙◌, ap, subst}
+use Rattle.std.proofs.Common.{◌≡◌, ◌+◌, ◌++◌, ◌∷◌, [], List, ℕ, Vec, take, sym, ◌∙◌, ap, subst, arith}
 use Rattle.std.proofs.lemmas.Bool.{cond-true, cond-false}
-use Rattle.std.proofs.lemmas.List.{take_more}
+use Rattle.std.proofs.lemmas.List.{take_all, take_more}
 use Rattle.std.specs.declared.alloc.Global.{Global}
 use Rattle.std.specs.Str.{bytes_eq}
-use Rattle.org_disk.specs.Disk.{FileState, IsImage}
+use Rattle.org_disk.specs.Disk.{FileState, IsImage, stable}
 use Rattle.org_test_disks.specs.Record.{files_after, step, effect_of}
 use Rattle.org_test_disks.specs.RecordLaws.{own_image}
 use Rattle.org_test_disks.specs.declared.memory.Call.{Call}
@@ -37,3 +37,9 @@ loop-call-preserved c =
                 (subst (λ (v : Vec ℕ Global). IsImage before v.items) (sym w.left-is) c.loop-call.invariant.1),
           )
     ]
+
+pub returns : goal.returns
+returns c = subst (λ (calls : List Call). IsImage (files_after calls c.args.name.now) c.loop-call.left.items) (take_all c.loop-call.call-index c.args.calls.now (omega (arith, c.loop-call-test.false))) c.loop-call.invariant.1
+
+pub loop-call-init : goal.loop-call-init
+loop-call-init c = (c.new-content.ensures.items, subst (λ (b : List ℕ). IsImage (stable []) b) (sym c.new-left.ensures.items) (own_image [] c.args.name.now))

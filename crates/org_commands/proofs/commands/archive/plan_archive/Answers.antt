@@ -8,6 +8,7 @@ use Rattle.org_move.specs.Answers.{IsPlaceAs}
 use Rattle.org_move.specs.Location.{Destination}
 use Rattle.org_commands.specs.declared.command.RunFault.TheVariants.{Refused}
 use Rattle.org_commands.specs.Files.{AreReady, OpenFiles}
+use Rattle.org_commands.specs.Headings.{HasHeading}
 use Rattle.org_commands.specs.InOrder.{text_at}
 use Rattle.org_commands.specs.Keeping.{fault_of}
 use Rattle.org_commands.specs.Outcome.{archive, archive_to}
@@ -49,6 +50,12 @@ returns-in_err-node g c = plans_refused g.D.Disk c.args.states.now _ c.from_resi
     (path_refused s k.file k.path k.moment own.0 (held_bytes files.held k.file) why c.requires.between.unbroken own.1 own.2 none))
     (only_reads_own c.from_residual-in_err-node.result (Refused (refusal_of c.in_err-node.field-0.0)) (handed_on c.from_residual-in_err-node.result _ c.from_residual-in_err-node.ensures.1) (refused_own (refusal_of c.in_err-node.field-0.0)) c.in_ok-ready.ensures.files.disk)
 
+pub find_location-requires-clause-ready : goal.find_location-requires-clause-ready
+find_location-requires-clause-ready g c = one_ready c.args.command.now.file c.requires.between c.in_ok-ready.ensures.ready
+
+pub find_location-requires-clause-heading : goal.find_location-requires-clause-heading
+find_location-requires-clause-heading g c = (c.held.result.now.text, c.held.ensures.text, c.in_ok-node.ensures.within)
+
 pub returns-in_err-to : goal.returns-in_err-to
 returns-in_err-to g c = plans_refused g.D.Disk c.args.states.now _ c.from_residual-in_err-to.result _ c.from_residual-in_err-to.ensures.1
     (λ tally honest.
@@ -69,6 +76,15 @@ returns-in_err-to g c = plans_refused g.D.Disk c.args.states.now _ c.from_residu
     (place_refused s k.file k.path k.moment own.0 seen c.find_location.result c.in_err-to.field-0.0 c.requires.between.unbroken own.1 own.2 c.in_err-to.was gives))
     (subst (λ (f : OpenFiles g.row.D.Denot). OnlyReads g.D.Disk c.args.files.now f c.from_residual-in_err-to.result) (sym c.find_location.ensures.same)
     (only_reads_own c.from_residual-in_err-to.result (fault_of c.in_err-to.field-0.0) (handed_on c.from_residual-in_err-to.result _ c.from_residual-in_err-to.ensures.1) (planned_own c.in_err-to.field-0.0) c.in_ok-ready.ensures.files.disk))
+
+pub plan_archive_to-requires-clause-ready : goal.plan_archive_to-requires-clause-ready
+plan_archive_to-requires-clause-ready g c =
+    let k = c.args.command.now in
+    subst (λ (f : OpenFiles g.row.D.Denot). AreReady (k.file ∷ []) f.held) (sym c.find_location.ensures.same) (one_ready k.file c.requires.between c.in_ok-ready.ensures.ready)
+
+pub plan_archive_to-requires-clause-heading : goal.plan_archive_to-requires-clause-heading
+plan_archive_to-requires-clause-heading g c =
+    subst (λ (f : OpenFiles g.row.D.Denot). HasHeading f.held.now c.args.command.now.file c.in_ok-node.node) (sym c.find_location.ensures.same) (c.held.result.now.text, c.held.ensures.text, c.in_ok-node.ensures.within)
 
 pub returns : goal.returns
 returns g c = record {

@@ -4,7 +4,7 @@ use Rattle.org_commands.specs.Keeping.{Reads}
 use Rattle.org_commands.specs.Outcome.{clock_in}
 use Rattle.org_commands.specs.Session.{Session}
 use Rattle.org_commands.proofs.ClockingIn.{in_one, in_other, none_runs, not_found, other_runs, own_runs}
-use Rattle.org_commands.proofs.Clocks.{none_left}
+use Rattle.org_commands.proofs.Clocks.{none_left, still_held}
 use Rattle.org_commands.proofs.Handing.{handed_on}
 use Rattle.org_commands.proofs.MadeReady.{no_text_of, session_in, stays_fault, stays_then, stays_unread}
 use Rattle.org_commands.proofs.Reading.{only_reads_fault, only_reads_then}
@@ -92,3 +92,12 @@ returns g c = record {
 
 pub start_beside-requires-clause-runs : goal.start_beside-requires-clause-runs
 start_beside-requires-clause-runs g c = (c.in_ok-clock.ensures.found c.in-Some.clock c.in-Some.is).0
+
+pub start_in_one-requires-clause-heading : goal.start_in_one-requires-clause-heading
+start_in_one-requires-clause-heading g c = still_held c.look_up_in.new.files.held c.running_clock.new.files.held c.args.command.now.file c.in_ok-node.node c.in_ok-node.ensures.heading c.in_ok-clock.ensures.files.keeps
+
+pub start_in_one-requires-then-eq-clause-heading : goal.start_in_one-requires-then-eq-clause-heading
+start_in_one-requires-then-eq-clause-heading g c = still_held c.look_up_in.new.files.held c.running_clock.new.files.held c.args.command.now.file c.in_ok-node.node c.in_ok-node.ensures.heading c.in_ok-clock.ensures.files.keeps
+
+pub start_beside-requires-clause-heading : goal.start_beside-requires-clause-heading
+start_beside-requires-clause-heading g c = still_held c.look_up_in.new.files.held c.running_clock.new.files.held c.args.command.now.file c.in_ok-node.node c.in_ok-node.ensures.heading c.in_ok-clock.ensures.files.keeps

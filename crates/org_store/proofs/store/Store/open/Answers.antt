@@ -16,17 +16,26 @@ returns-in-Ok-clause-opened g c =
       dirty_files = ap (λ (s : TextSet). s.dirty) opened.2;
     }
 
+pub returns-in-Err-clause-opened : goal.returns-in-Err-clause-opened
+returns-in-Err-clause-opened g c = tt
+
 pub returns-in-Ok-clause-opens : goal.returns-in-Ok-clause-opens
 returns-in-Ok-clause-opens g c = opened_as c.in-Ok.ensures.opens
 
 pub returns-in-Err-clause-opens : goal.returns-in-Err-clause-opens
 returns-in-Err-clause-opens g c = refused_as c.in-Err.ensures.opens
 
+pub returns-in-Ok-clause-again : goal.returns-in-Ok-clause-again
+returns-in-Ok-clause-again g c = tt
+
 pub returns-in-Err-clause-again : goal.returns-in-Err-clause-again
 returns-in-Err-clause-again g c honest can =
     let refused = c.in-Err.refused in
     only_faults c.args.names.items (g.D.Disk.honest refused.disk) (contents (g.D.Disk.files c.args.disk)) (contents (g.D.Disk.files refused.disk)) refused.fault c.requires honest can
     c.in-Err.ensures.opens.refused.reason
+
+pub invariant_of-result : goal.invariant_of-result
+invariant_of-result g c = record { ordered = none_counted }
 
 pub invariant_of-result-in-Ok : goal.invariant_of-result-in-Ok
 invariant_of-result-in-Ok g c =
