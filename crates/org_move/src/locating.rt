@@ -5,7 +5,7 @@
 ghost use Rattle.std.specs.Prelude.{◌≡◌, ◌⊎◌, ◌<◌, ◌≤◌, ◌^◌, ◌+◌, ◌++◌, ◌∷◌, [], ℕ, List, true, false, IfOk, IfSome, IfNone, None, codes, length, take, drop};
 ghost use Rattle.std.specs.List.{find};
 ghost use Rattle.std.specs.Option.{option_map};
-ghost use Rattle.org_splice.specs.Lines.{terminated, lines_of};
+ghost use Rattle.org_splice.specs.Lines.{lines_of};
 ghost use Rattle.org_splice.specs.Searched.{IsSearched};
 ghost use Rattle.org_outline.specs.Parts.{AreParts, Parts};
 ghost use Rattle.org_outline.specs.Tree.{node_count, tree};
@@ -88,11 +88,10 @@ fn first_archive_line(text: Lines<'_>) -> Option<(&[u8], Lines<'_>)>
 }
 
 /// The lines of which nothing is known, and what follows them.
-fn unknown_lines(text: &[u8], front: usize, back: usize) -> (&[u8], &[u8])
-    requires { terminated text.now ≡ text.now }
-    ensures { LeavesLines text.now front back result.0.now result.1.now }
+fn unknown_lines(text: Lines<'_>, front: usize, back: usize) -> (&[u8], &[u8])
+    ensures { LeavesLines text.entry.bytes.now front back result.0.now result.1.now }
 {
-    let left = from_line(text, front.min(text.len()));
+    let left = from_line(text.bytes, front.min(text.bytes.len()));
     let (_, bytes) = left.split_at(left.len().saturating_sub(back));
     let end = Lines { bytes };
     match end.first() {
@@ -103,12 +102,11 @@ fn unknown_lines(text: &[u8], front: usize, back: usize) -> (&[u8], &[u8])
 
 /// The first line of the text that begins with `#+ARCHIVE:`, and what is known behind the search.
 /// Only the lines of which nothing was known are read.
-fn archive_line(text: &[u8], searched: Searched) -> (Option<&[u8]>, Searched)
-    requires terminated { terminated text.now ≡ text.now }
-    requires searched { IsSearched has_archive_line searched text.now }
+fn archive_line(text: Lines<'_>, searched: Searched) -> (Option<&[u8]>, Searched)
+    requires { IsSearched has_archive_line searched text.bytes.now }
     ensures line { option_map (λ line. line.now) result.0
-        ≡ find is_archive_line (lines_of text.now) }
-    ensures searched { IsSearched has_archive_line result.1 text.now }
+        ≡ find is_archive_line (lines_of text.entry.bytes.now) }
+    ensures searched { IsSearched has_archive_line result.1 text.entry.bytes.now }
 {
     let (front, back) = match searched {
         Searched::Nowhere => return (None, Searched::Nowhere),
@@ -118,18 +116,18 @@ fn archive_line(text: &[u8], searched: Searched) -> (Option<&[u8]>, Searched)
     match first_archive_line(Lines { bytes: lines }) {
         None => (None, Searched::Nowhere),
         Some((line, rest)) => {
-            let front = text.len() - behind.len() - rest.bytes.len() - line.len() - 1;
+            let front = text.bytes.len() - behind.len() - rest.bytes.len() - line.len() - 1;
             (Some(line), Searched::Ends { front, back })
         }
     }
 }
 
 /// The value of the text's first `#+ARCHIVE:` line, where that isn't empty.
-fn value_of_text<'a>(text: &'a [u8], searched: &mut Searched) -> Option<&'a [u8]>
-    requires terminated { terminated text.now ≡ text.now }
-    requires searched { IsSearched has_archive_line searched.old text.now }
-    ensures value { option_map (λ value. value.now) result ≡ value_of_lines (lines_of text.now) }
-    ensures searched { IsSearched has_archive_line searched.new text.now }
+fn value_of_text<'a>(text: Lines<'a>, searched: &mut Searched) -> Option<&'a [u8]>
+    requires { IsSearched has_archive_line searched.old text.bytes.now }
+    ensures value { option_map (λ value. value.now) result
+        ≡ value_of_lines (lines_of text.entry.bytes.now) }
+    ensures searched { IsSearched has_archive_line searched.new text.entry.bytes.now }
 {
     let (line, known) = archive_line(text, *searched);
     *searched = known;
@@ -143,10 +141,11 @@ fn value_for<'a>(outline: &Outline<'a>, node: Node, searched: &mut Searched) -> 
     ensures value { result.now ≡ value_for outline.now.text node }
     ensures searched { IsSearched has_archive_line searched.new outline.now.text }
 {
-    match nearest(outline, node, b"ARCHIVE") {
-        Some(value) => value,
-        None => value_of_text(outline.text(), searched).unwrap_or(b"%s_archive::"),
+    if let Some(value) = nearest(outline, node, b"ARCHIVE") {
+        return value;
     }
+    let bytes = outline.text();
+    value_of_text(Lines { bytes }, searched).unwrap_or(b"%s_archive::")
 }
 
 /// What stands before and behind the first `::`.

@@ -48,20 +48,19 @@ pub(crate) fn between(
 /// A section with a property put into it.
 fn with_property(
     alloc: Global,
-    section: &[u8],
+    section: Lines<'_>,
     name: &[u8],
     value: &[u8],
 ) -> Result<Vec<u8>, AllocError>
-    requires terminated { terminated section.now ≡ section.now }
     requires name { is_property_name name.now ≡ true }
     requires line { IsLine (property_line name.now value.now) }
     ensures parts { IfOk result
-        (λ new. parts_of new.items ≡ put name.now value.now (parts_of section.now)) }
+        (λ new. parts_of new.items ≡ put name.now value.now (parts_of section.entry.bytes.now)) }
     ensures terminated { IfOk result (λ new. terminated new.items ≡ new.items) }
 {
-    let edit = put_property(alloc, Lines { bytes: section }, name, value)?;
-    let front = &section[..edit.at];
-    let back = &section[edit.at + edit.removed..];
+    let edit = put_property(alloc, section, name, value)?;
+    let front = &section.bytes[..edit.at];
+    let back = &section.bytes[edit.at + edit.removed..];
     between(alloc, front, edit.bytes.as_slice(), back)
 }
 
@@ -75,19 +74,18 @@ struct Property<'a> {
 /// A section with properties put into it, in their order.
 fn with_properties(
     alloc: Global,
-    section: &[u8],
+    section: Lines<'_>,
     properties: &[Property<'_>],
 ) -> Result<Vec<u8>, AllocError>
-    requires terminated { terminated section.now ≡ section.now }
-    requires good { AllByRecursion IsGood (given properties.now) }
+    requires { AllByRecursion IsGood (given properties.now) }
     ensures parts { IfOk result (λ new. parts_of new.items
-        ≡ put_each (given properties.now) (parts_of section.now)) }
+        ≡ put_each (given properties.now) (parts_of section.entry.bytes.now)) }
     ensures terminated { IfOk result (λ new. terminated new.items ≡ new.items) }
 {
-    let mut new = Vec::from_slice(alloc, section)?;
+    let mut new = Vec::from_slice(alloc, section.bytes)?;
     for property in properties {
         if let Some(value) = property.value {
-            new = with_property(alloc, &new, property.name, value)?;
+            new = with_property(alloc, Lines { bytes: &new }, property.name, value)?;
         }
     }
     Ok(new)
@@ -213,9 +211,9 @@ pub(crate) fn archived_section(
     let category = nearest(outline, node, b"CATEGORY").unwrap_or(without_org(file));
     let keyword = outline.parts(node).keyword;
     let span = outline.section(node);
-    with_properties(
-        alloc,
-        &outline.text()[span.start..span.end],
-        &properties(file, &time, category, keyword, &above),
-    )
+    let section = Lines {
+        bytes: &outline.text()[span.start..span.end],
+    };
+    let properties = properties(file, &time, category, keyword, &above);
+    with_properties(alloc, section, &properties)
 }

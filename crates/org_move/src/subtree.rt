@@ -10,6 +10,7 @@ ghost use Rattle.org_move.specs.Archive.{archived, filled};
 use crate::destination::Location;
 use crate::properties::{archived_section, between};
 use org_disk::FileName;
+use org_meta::Lines;
 use org_outline::{Node, Outline, shift};
 use org_stamp::Moment;
 use std::alloc::{AllocError, Global};
@@ -19,13 +20,12 @@ fn with_section(
     alloc: Global,
     outline: &Outline<'_>,
     node: Node,
-    section: &[u8],
+    section: Lines<'_>,
 ) -> Result<Vec<u8>, AllocError>
-    requires node { node < node_count (tree outline.now.text) }
-    requires terminated { terminated section.now ≡ section.now }
+    requires { node < node_count (tree outline.now.text) }
     ensures value { let own = (node_at (tree outline.now.text) node).node in
         IfOk result (λ made. made.items
-        ≡ print_node (record own { section = lines_of section.now })) }
+        ≡ print_node (record own { section = lines_of section.entry.bytes.now })) }
     ensures terminated { IfOk result (λ made. terminated outline.now.text ≡ outline.now.text) }
 {
     let subtree = outline.subtree(node);
@@ -33,7 +33,7 @@ fn with_section(
     let text = outline.text();
     let front = &text[subtree.start..old.start];
     let back = &text[old.end..subtree.end];
-    between(alloc, front, section, back)
+    between(alloc, front, section.bytes, back)
 }
 
 /// The lines of a subtree whose root has the properties of an archived entry of the file with this
@@ -53,7 +53,7 @@ fn archived_subtree(
 {
     let file = name.as_str().as_bytes();
     let section = archived_section(alloc, outline, node, file, now)?;
-    with_section(alloc, outline, node, &section)
+    with_section(alloc, outline, node, Lines { bytes: &section })
 }
 
 /// The line of the heading of a place, with others below it.

@@ -5,10 +5,10 @@ use Rattle.org_move.proofs.properties.with_properties.Goals as goal
 use Rattle.org_move.proofs.properties.with_properties.Goals.{in-Some+in_ok-new-2, in_default}
 
 pub with_property-requires-clause-name : goal.with_property-requires-clause-name
-with_property-requires-clause-name c = (good_value c.args.properties.now c.loop-property.property-index _ _ c.in-Some.is c.requires.good c.loop-property-test.true).0
+with_property-requires-clause-name c = (good_value c.args.properties.now c.loop-property.property-index _ _ c.in-Some.is c.requires c.loop-property-test.true).0
 
 pub with_property-requires-clause-line : goal.with_property-requires-clause-line
-with_property-requires-clause-line c = (good_value c.args.properties.now c.loop-property.property-index _ _ c.in-Some.is c.requires.good c.loop-property-test.true).1
+with_property-requires-clause-line c = (good_value c.args.properties.now c.loop-property.property-index _ _ c.in-Some.is c.requires c.loop-property-test.true).1
 
 pub loop-property-preserved : goal.loop-property-preserved
 loop-property-preserved c =

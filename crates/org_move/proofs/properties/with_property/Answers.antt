@@ -17,11 +17,11 @@ put_whole Q section bytes edit result is made gives =
 pub returns-clause-parts : goal.returns-clause-parts
 returns-clause-parts c =
     let edit : Edit = c.in_ok-edit.edit in
-    put_whole _ c.args.section.now c.as_slice.result.now edit c.between.result c.as_slice.ensures c.between.ensures
-    (λ whole is. put_split c.args.name.now c.args.value.now c.args.section.now whole.items edit c.requires.name c.requires.line c.in_ok-edit.ensures is)
+    put_whole _ c.args.section.bytes.now c.as_slice.result.now edit c.between.result c.as_slice.ensures c.between.ensures
+    (λ whole is. put_split c.args.name.now c.args.value.now c.args.section.bytes.now whole.items edit c.requires.name c.requires.line c.in_ok-edit.ensures is)
 
 pub returns-clause-terminated : goal.returns-clause-terminated
 returns-clause-terminated c =
     let edit : Edit = c.in_ok-edit.edit in
-    put_whole _ c.args.section.now c.as_slice.result.now edit c.between.result c.as_slice.ensures c.between.ensures
-    (λ whole is. put_terminated c.args.name.now c.args.value.now c.args.section.now whole.items edit c.in_ok-edit.ensures is)
+    put_whole _ c.args.section.bytes.now c.as_slice.result.now edit c.between.result c.as_slice.ensures c.between.ensures
+    (λ whole is. put_terminated c.args.name.now c.args.value.now c.args.section.bytes.now whole.items edit c.in_ok-edit.ensures is)

@@ -10,9 +10,9 @@ returns-clause-value c =
     let text : List ℕ = c.text-text.result.now in
     let subtree = c.subtree-subtree.result in
     let old = c.section-old.result in
-    IfOk-weaker c.between.result (λ (made : Vec ℕ Global). made.items ≡ (slice_range text subtree.start old.start ++ c.args.section.now) ++ slice_range text old.end subtree.end) _
-    (λ made is. other_section c.args.outline.now.text text c.args.node subtree old c.args.section.now _ _ made.items c.text-text.ensures.value c.text-text.ensures.terminated c.requires.node
-    c.subtree-subtree.ensures c.section-old.ensures c.requires.terminated refl refl is)
+    IfOk-weaker c.between.result (λ (made : Vec ℕ Global). made.items ≡ (slice_range text subtree.start old.start ++ c.args.section.bytes.now) ++ slice_range text old.end subtree.end) _
+    (λ made is. other_section c.args.outline.now.text text c.args.node subtree old c.args.section.bytes.now _ _ made.items c.text-text.ensures.value c.text-text.ensures.terminated c.requires
+    c.subtree-subtree.ensures c.section-old.ensures c.args.section.whole refl refl is)
     c.between.ensures
 
 pub slice_bounds-back-start : goal.slice_bounds-back-start
