@@ -118,52 +118,52 @@ place_is states name path text i found = ap (λ (f : Result ℕ PathFault). with
 
 module _ (s : Session) (file : List ℕ) (path : List Step) (moment : Moment) where
   -- what an archiving is to do with the store's text of the file
-  abbrev pub told : Outcome
-  told = archive s file path moment (text_at s.names s.files file)
+  abbrev pub reported : Outcome
+  reported = archive s file path moment (text_at s.names s.files file)
 
-  abbrev pub told_to : List ℕ → Destination → Outcome
-  told_to text to = archive_to s file path moment text to (text_at s.names s.files to.file)
+  abbrev pub reported_to : List ℕ → Destination → Outcome
+  reported_to text to = archive_to s file path moment text to (text_at s.names s.files to.file)
 
   -- the planner sees the text terminated
-  told_at : (text seen : List ℕ) → text_at s.names s.files file ≡ Some text → seen ≡ terminated text → told ≡ archive_at s file path moment text (location s.states file path seen)
-  told_at text seen at stays_terminated = grind (arith, common_steps, archive, location_terminated)
+  reported_at : (text seen : List ℕ) → text_at s.names s.files file ≡ Some text → seen ≡ terminated text → reported ≡ archive_at s file path moment text (location s.states file path seen)
+  reported_at text seen at stays_terminated = grind (arith, common_steps, archive, location_terminated)
 
   -- there is no heading at the path
-  pub path_refused : (text seen : List ℕ) (why : PathFault) → s.broken ≡ false → text_at s.names s.files file ≡ Some text → seen ≡ terminated text → find_path s.states (tree seen) path ≡ Err why → Steps s told (Err (Refused (refusal_of why))) s
+  pub path_refused : (text seen : List ℕ) (why : PathFault) → s.broken ≡ false → text_at s.names s.files file ≡ Some text → seen ≡ terminated text → find_path s.states (tree seen) path ≡ Err why → Steps s reported (Err (Refused (refusal_of why))) s
   path_refused text seen why unbroken at stays_terminated none =
-      (unbroken, told_at text seen at stays_terminated ∙ ap (λ (f : Result ℕ PathFault). archive_at s file path moment text (with_found f (λ i. location_at s.states file seen i))) none, refl)
+      (unbroken, reported_at text seen at stays_terminated ∙ ap (λ (f : Result ℕ PathFault). archive_at s file path moment text (with_found f (λ i. location_at s.states file seen i))) none, refl)
 
   -- an archiving without a location
   pub place_refused : (text seen : List ℕ) (result : Result Destination (Fault Refusal)) (why : Fault Refusal) → s.broken ≡ false → text_at s.names s.files file ≡ Some text → seen ≡ terminated text → result ≡ Err why
-      → IsPlaceAs (location s.states file path seen) result → Steps s told (Err (fault_of why)) s
+      → IsPlaceAs (location s.states file path seen) result → Steps s reported (Err (fault_of why)) s
   place_refused text seen result why unbroken at stays_terminated was gives = go why (subst (IsPlaceAs said) was gives)
     where
       said : Result Destination Refusal
       said = location s.states file path seen
 
-      refuses : (w : Refusal) → said ≡ Err w → told ≡ Refuses w
-      refuses w none = told_at text seen at stays_terminated ∙ ap (archive_at s file path moment text) none
+      refuses : (w : Refusal) → said ≡ Err w → reported ≡ Refuses w
+      refuses w none = reported_at text seen at stays_terminated ∙ ap (archive_at s file path moment text) none
 
-      go : (w : Fault Refusal) → IsPlaceAs said (Err w) → Steps s told (Err (fault_of w)) s
+      go : (w : Fault Refusal) → IsPlaceAs said (Err w) → Steps s reported (Err (fault_of w)) s
       go fault.OutOfMemory gives = (unbroken, refl)
       go (fault.Refused w) gives = (unbroken, refuses w gives, refl)
 
   -- .. and one with a location
-  pub place_found : (text seen : List ℕ) (to : Destination) → text_at s.names s.files file ≡ Some text → seen ≡ terminated text → IsPlaceAs (location s.states file path seen) (Ok to) → told ≡ told_to text to
-  place_found text seen to at stays_terminated found = told_at text seen at stays_terminated ∙ ap (archive_at s file path moment text) found
+  pub place_found : (text seen : List ℕ) (to : Destination) → text_at s.names s.files file ≡ Some text → seen ≡ terminated text → IsPlaceAs (location s.states file path seen) (Ok to) → reported ≡ reported_to text to
+  place_found text seen to at stays_terminated found = reported_at text seen at stays_terminated ∙ ap (archive_at s file path moment text) found
 
   -- its file is none of the store's
-  pub no_place : (text : List ℕ) (to : Destination) → text_at s.names s.files to.file ≡ None → told_to text to ≡ Refuses NoSuchFile
+  pub no_place : (text : List ℕ) (to : Destination) → text_at s.names s.files to.file ≡ None → reported_to text to ≡ Refuses NoSuchFile
   no_place text to none = ap (archive_to s file path moment text to) none
 
   -- it is the file itself
   within_is : (text seen : List ℕ) (to : Destination) (i : ℕ) → text_at s.names s.files file ≡ Some text → seen ≡ terminated text → file ≡ to.file → find_path s.states (tree text) path ≡ Ok i
-      → told_to text to ≡ with_moved s (text_within file) (archive_within_at s.states file moment to (tree seen) i)
+      → reported_to text to ≡ with_moved s (text_within file) (archive_within_at s.states file moment to (tree seen) i)
   within_is text seen to i at stays_terminated own found = grind (arith, common_steps, bytes_eq-Decides, with_moved, text_within, tree-terminated)
 
   -- it is another one
   across_is : (text seen target into : List ℕ) (to : Destination) (i : ℕ) → text_at s.names s.files to.file ≡ Some target → seen ≡ terminated text → into ≡ terminated target → file ≢ to.file → find_path s.states (tree text) path ≡ Ok i
-      → told_to text to ≡ with_moved s (texts_across file to.file) (archive_across_at s.states file moment (tree seen) s.states to (tree into) i)
+      → reported_to text to ≡ with_moved s (texts_across file to.file) (archive_across_at s.states file moment (tree seen) s.states to (tree into) i)
   across_is text seen target into to i there stays_terminated closes apart found = grind (arith, common_steps, not_equal, with_moved, tree-terminated)
 
 -- ---- what is planned
@@ -180,20 +180,20 @@ module _ {D : Type 0} (g : Ghosts D) (states : Keywords) (files : OpenFiles D) (
   abbrev said : Result Document Refusal
   said = archive_within_at states file moment to (tree seen) i
 
-  abbrev told_within : Outcome
-  told_within = told_to s file path moment text to
+  abbrev reported_within : Outcome
+  reported_within = reported_to s file path moment text to
 
-  told_within_is : text_at s.names s.files file ≡ Some text → find_path states (tree text) path ≡ Ok i → told_within ≡ with_moved s (text_within file) said
-  told_within_is at found =
+  reported_within_is : text_at s.names s.files file ≡ Some text → find_path states (tree text) path ≡ Ok i → reported_within ≡ with_moved s (text_within file) said
+  reported_within_is at found =
       let store = store_text g states files tally s (file ∷ []) file refl ready (one_name file) there in
       within_is s file path moment text seen to i at (same_terminated text store.0 seen (sym at ∙ store.1) store.2) own found
 
   pub within_fails : text_at s.names s.files file ≡ Some text → find_path states (tree text) path ≡ Ok i → (result : Result Plan (Fault Refusal)) {why : Fault Refusal} (answer : Result Plan RunFault) → result ≡ Err why → IsMadeAs said (MakesDocument file seen) result → IsErrAnd answer (λ y. y ≡ fault_of why)
-      → Plans s told_within answer files.held s
-  within_fails at found result answer was gives handed = move_fails files.held (text_within file) said (MakesDocument file seen) result answer unbroken refl (told_within_is at found) was gives handed
+      → Plans s reported_within answer files.held s
+  within_fails at found result answer was gives handed = move_fails files.held (text_within file) said (MakesDocument file seen) result answer unbroken refl (reported_within_is at found) was gives handed
 
-  pub within_planned : text_at s.names s.files file ≡ Some text → find_path states (tree text) path ≡ Ok i → (plan : Plan) → IsMadeAs said (MakesDocument file seen) (Ok plan) → Plans s told_within (Ok plan) files.held s
-  within_planned at found plan (new, is, makes) = move_planned files.held (text_within file) said new plan refl (told_within_is at found) is (within_texts plan files.held file new makes ready)
+  pub within_planned : text_at s.names s.files file ≡ Some text → find_path states (tree text) path ≡ Ok i → (plan : Plan) → IsMadeAs said (MakesDocument file seen) (Ok plan) → Plans s reported_within (Ok plan) files.held s
+  within_planned at found plan (new, is, makes) = move_planned files.held (text_within file) said new plan refl (reported_within_is at found) is (within_texts plan files.held file new makes ready)
 
 -- ---- planned over outlines of the texts that are held
 
@@ -244,16 +244,16 @@ module _ {D : Type 0} {g : Ghosts D} {states : Keywords} {old new : OpenFiles D}
     abbrev before : Session
     before = session_in g states old tally
 
-    told_across : told_to before file path moment text to ≡ with_moved before (texts_across file to.file) made
-    told_across =
+    reported_across : reported_to before file path moment text to ≡ with_moved before (texts_across file to.file) made
+    reported_across =
         let read = both.reads tally honest in
         let own = store_text g states new tally before (to.file ∷ file ∷ []) file read both.ready (second_name to.file file) both.named in
         let other = store_text g states new tally before (to.file ∷ file ∷ []) to.file read both.ready (first_name to.file (file ∷ [])) both.also in
         across_is before file path moment text (held_bytes new.held file) other.0 (held_bytes new.held to.file) to i other.1 (same_terminated text own.0 (held_bytes new.held file) (sym at ∙ own.1) own.2) other.2 both.apart found
 
     pub across_fails : (result : Result Plan (Fault Refusal)) {why : Fault Refusal} (answer : Result Plan RunFault) → old.broken ≡ false → result ≡ Err why → IsMadeAs made Makes result → IsErrAnd answer (λ y. y ≡ fault_of why)
-        → Plans before (told_to before file path moment text to) answer new.held (session_in g states new tally)
-    across_fails result answer unbroken was gives handed = move_fails new.held (texts_across file to.file) made Makes result answer unbroken (both.reads tally honest) told_across was gives handed
+        → Plans before (reported_to before file path moment text to) answer new.held (session_in g states new tally)
+    across_fails result answer unbroken was gives handed = move_fails new.held (texts_across file to.file) made Makes result answer unbroken (both.reads tally honest) reported_across was gives handed
 
-    pub across_planned : (plan : Plan) → IsMadeAs made Makes (Ok plan) → Plans before (told_to before file path moment text to) (Ok plan) new.held (session_in g states new tally)
-    across_planned plan (d, is, makes) = move_planned new.held (texts_across file to.file) made d plan (both.reads tally honest) told_across is (across_texts plan new.held file to.file d both.apart makes both.ready)
+    pub across_planned : (plan : Plan) → IsMadeAs made Makes (Ok plan) → Plans before (reported_to before file path moment text to) (Ok plan) new.held (session_in g states new tally)
+    across_planned plan (d, is, makes) = move_planned new.held (texts_across file to.file) made d plan (both.reads tally honest) reported_across is (across_texts plan new.held file to.file d both.apart makes both.ready)

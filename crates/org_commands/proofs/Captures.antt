@@ -92,19 +92,19 @@ module _ {D : Type 0} {g : Ghosts D} {states : Keywords} {old new : OpenFiles D}
     abbrev s : Session
     s = session_in g states old tally
 
-    abbrev told : Outcome
-    told = with_entry s file target place moment (Ok node) (unwrap_or (text_at s.names s.files file) [])
+    abbrev reported : Outcome
+    reported = with_entry s file target place moment (Ok node) (unwrap_or (text_at s.names s.files file) [])
 
-    document_is : (made : Result Document Refusal) → said ≡ made → told ≡ with_document s file made
+    document_is : (made : Result Document Refusal) → said ≡ made → reported ≡ with_document s file made
     document_is made is = ap (λ (d : Document). with_document s file (captured states target place moment node d)) (document_seen sees tally honest) ∙ ap (with_document s file) is
 
     -- what is refused for its target
-    target_refused : (why : Fault Refusal) → AnswersEdit said seen.bytes (Err why) → Steps s told (Err (fault_of why)) s
+    target_refused : (why : Fault Refusal) → AnswersEdit said seen.bytes (Err why) → Steps s reported (Err (fault_of why)) s
     target_refused fault.OutOfMemory answers = (sees.unbroken, refl)
     target_refused (fault.Refused why) answers = (sees.unbroken, document_is (Err why) answers, refl)
 
-    pub entry_fails : (result : Result Edit (Fault Refusal)) {why : Fault Refusal} (answer : Result Plan RunFault) → result ≡ Err why → AnswersEdit said seen.bytes result → IsErrAnd answer (λ y. y ≡ fault_of why) → Plans s told answer new.held (session_in g states new tally)
-    entry_fails result {why} answer was answers handed = plans_not_fit s (session_in g states new tally) told new.held (fault_of why) answer handed (sees.reads tally honest) (target_refused why (subst (AnswersEdit said seen.bytes) was answers))
+    pub entry_fails : (result : Result Edit (Fault Refusal)) {why : Fault Refusal} (answer : Result Plan RunFault) → result ≡ Err why → AnswersEdit said seen.bytes result → IsErrAnd answer (λ y. y ≡ fault_of why) → Plans s reported answer new.held (session_in g states new tally)
+    entry_fails result {why} answer was answers handed = plans_not_fit s (session_in g states new tally) reported new.held (fault_of why) answer handed (sees.reads tally honest) (target_refused why (subst (AnswersEdit said seen.bytes) was answers))
 
-    pub entry_planned : (plan : Plan) (edit : Edit) (answers : AnswersEdit said seen.bytes (Ok edit)) → MakesDocument file seen.bytes answers.0 plan → Plans s told (Ok plan) new.held (session_in g states new tally)
+    pub entry_planned : (plan : Plan) (edit : Edit) (answers : AnswersEdit said seen.bytes (Ok edit)) → MakesDocument file seen.bytes answers.0 plan → Plans s reported (Ok plan) new.held (session_in g states new tally)
     entry_planned plan edit answers makes = (document_is (Ok answers.0) answers.1 ∙ ap (changed s) (sym (document_texts sees plan answers.0 makes)), sees.reads tally honest)

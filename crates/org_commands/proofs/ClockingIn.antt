@@ -43,8 +43,8 @@ module _ {D : Type 0} (g : Ghosts D) (states : Keywords) (files : OpenFiles D) (
   abbrev s : Session
   s = session_in g states files tally
 
-  abbrev told : Outcome
-  told = clock_in s file path moment (text_at s.names s.files file)
+  abbrev reported : Outcome
+  reported = clock_in s file path moment (text_at s.names s.files file)
 
   abbrev found : Result ℕ PathFault
   found = find_path states (document_at s file) path
@@ -53,26 +53,26 @@ module _ {D : Type 0} (g : Ghosts D) (states : Keywords) (files : OpenFiles D) (
   beside clock = clock_in_beside s file moment (document_at s file) found clock
 
   -- the heading isn't there
-  pub not_found : (t : Session) (why : RunFault) → files.broken ≡ false → LooksUp s found (Err why) t → Steps s told (Err why) t
+  pub not_found : (t : Session) (why : RunFault) → files.broken ≡ false → LooksUp s found (Err why) t → Steps s reported (Err why) t
   not_found t why unbroken looks =
       let clock = running_over s.names s.files in
-      look_up_fails s t found told why unbroken (λ none failed. clock_in_is s file path moment (text_at s.names s.files file) clock (has_text g files file there) refl ∙ path_fails s file moment (document_at s file) found clock none failed) looks
+      look_up_fails s t found reported why unbroken (λ none failed. clock_in_is s file path moment (text_at s.names s.files file) clock (has_text g files file there) refl ∙ path_fails s file moment (document_at s file) found clock none failed) looks
 
   module _ (i : ℕ) (at : found ≡ Ok i) {mid : Session} (read : mid ≡ s) {searched : Option Clock} (runs : option_map place_of searched ≡ running_over mid.names mid.files) where
     -- the clock was looked for in files that were only read
-    told_is : (clock : Option Clock) → searched ≡ clock → told ≡ beside (option_map place_of clock)
-    told_is clock is =
+    reported_is : (clock : Option Clock) → searched ≡ clock → reported ≡ beside (option_map place_of clock)
+    reported_is clock is =
         clock_in_is s file path moment (text_at s.names s.files file) (option_map place_of clock) (has_text g files file there)
         (subst (λ (t : Session). running_over t.names t.files ≡ option_map place_of clock) read (sym runs ∙ ap (option_map place_of) is))
 
-    pub none_runs : searched ≡ None → told ≡ in_one file moment None i s
-    none_runs none = told_is None none ∙ ap (λ (f : Result ℕ PathFault). with_state s file (clocked_in moment None (document_at s file) f)) at
+    pub none_runs : searched ≡ None → reported ≡ in_one file moment None i s
+    none_runs none = reported_is None none ∙ ap (λ (f : Result ℕ PathFault). with_state s file (clocked_in moment None (document_at s file) f)) at
 
-    pub own_runs : (clock : Clock) → searched ≡ Some clock → clock.file ≡ file → told ≡ in_one file moment (Some clock.running) i s
+    pub own_runs : (clock : Clock) → searched ≡ Some clock → clock.file ≡ file → reported ≡ in_one file moment (Some clock.running) i s
     own_runs clock is own =
-        told_is (Some clock) is ∙ beside_same s file moment (document_at s file) found (place_of clock) own ∙ ap (λ (f : Result ℕ PathFault). with_state s file (clocked_in moment (Some clock.running) (document_at s file) f)) at
+        reported_is (Some clock) is ∙ beside_same s file moment (document_at s file) found (place_of clock) own ∙ ap (λ (f : Result ℕ PathFault). with_state s file (clocked_in moment (Some clock.running) (document_at s file) f)) at
 
-    pub other_runs : (clock : Clock) → searched ≡ Some clock → clock.file ≢ file → told ≡ in_other file moment clock i s
+    pub other_runs : (clock : Clock) → searched ≡ Some clock → clock.file ≢ file → reported ≡ in_other file moment clock i s
     other_runs clock is apart =
-        told_is (Some clock) is ∙ beside_other s file moment (document_at s file) found (place_of clock) apart
+        reported_is (Some clock) is ∙ beside_other s file moment (document_at s file) found (place_of clock) apart
         ∙ ap (λ (f : Result ℕ PathFault). with_clock_moved s clock.file file (clock_moved moment clock.running (document_at s clock.file) (document_at s file) f)) at

@@ -43,7 +43,7 @@ use Rattle.org_commands.proofs.Plans.{ready_text, text_held}
 
 -- ---- the edits of one text
 
--- the plan of the edit that opens it, told of what the outline is
+-- the plan of the edit that opens it, by what the outline is
 pub start_made : (now : Moment) (text seen : List ℕ) (i : ℕ) (edit : Edit) (edits : List Edit) → seen ≡ text → edits ≡ edit ∷ [] → AreEdits (edit ∷ []) seen (print (with_opened now i (tree seen)))
     → (new : Document) × (clocked_in now None (tree text) (Ok i) ≡ Ok (Some new)) × AreEdits edits text (print new)
 start_made now text seen i edit edits same are makes =
@@ -118,12 +118,12 @@ pub path_fails : (s : Session) (file : List ℕ) (moment : Moment) (d : Document
 path_fails s file moment d found None why is = ap (λ (f : Result ℕ PathFault). with_state s file (clocked_in moment None d f)) is
 path_fails s file moment d found (Some clock) why is = grind (arith, common_steps)
 
-pub look_up_fails : (s new : Session) (found : Result ℕ PathFault) (told : Outcome) (why : RunFault) → s.broken ≡ false → ((none : PathFault) → found ≡ Err none → told ≡ Refuses (refusal_of none))
-    → LooksUp s found (Err why) new → Steps s told (Err why) new
-look_up_fails s new found told (Refused why) unbroken is ((none, failed, named), same) = (unbroken, is none failed ∙ ap (λ r. Refuses r) (sym named), same)
-look_up_fails s new found told OutOfMemory unbroken is same = (unbroken, same)
-look_up_fails s new found told Device unbroken is same = (unbroken, inl same)
-look_up_fails s new found told Broken unbroken is same = absurd same
+pub look_up_fails : (s new : Session) (found : Result ℕ PathFault) (reported : Outcome) (why : RunFault) → s.broken ≡ false → ((none : PathFault) → found ≡ Err none → reported ≡ Refuses (refusal_of none))
+    → LooksUp s found (Err why) new → Steps s reported (Err why) new
+look_up_fails s new found reported (Refused why) unbroken is ((none, failed, named), same) = (unbroken, is none failed ∙ ap (λ r. Refuses r) (sym named), same)
+look_up_fails s new found reported OutOfMemory unbroken is same = (unbroken, same)
+look_up_fails s new found reported Device unbroken is same = (unbroken, inl same)
+look_up_fails s new found reported Broken unbroken is same = absurd same
 
 -- ---- the outcome
 
@@ -147,13 +147,13 @@ pub beside_other : (s : Session) (file : List ℕ) (moment : Moment) (d : Docume
 beside_other s file moment d found clock apart = grind (arith, common_steps, name_cases)
 
 -- two files that aren't changed
-pub move_not_made : (s : Session) (other file text target : List ℕ) (told : Outcome) (said : Result Moved Refusal) (result : Result Plan (Fault Refusal)) (why : Fault Refusal) → s.broken ≡ false → told ≡ with_clock_moved s other file said
-    → result ≡ Err why → PlansClocks other file text target said result → Steps s told (Err (fault_of why)) s
-move_not_made s other file text target told said result why unbroken is was plans = go why (subst (PlansClocks other file text target said) was plans)
+pub move_not_made : (s : Session) (other file text target : List ℕ) (reported : Outcome) (said : Result Moved Refusal) (result : Result Plan (Fault Refusal)) (why : Fault Refusal) → s.broken ≡ false → reported ≡ with_clock_moved s other file said
+    → result ≡ Err why → PlansClocks other file text target said result → Steps s reported (Err (fault_of why)) s
+move_not_made s other file text target reported said result why unbroken is was plans = go why (subst (PlansClocks other file text target said) was plans)
   where
-    refuses : (w : Refusal) → said ≡ Err w → told ≡ Refuses w
+    refuses : (w : Refusal) → said ≡ Err w → reported ≡ Refuses w
     refuses w none = is ∙ ap (with_clock_moved s other file) none
 
-    go : (f : Fault Refusal) → PlansClocks other file text target said (Err f) → Steps s told (Err (fault_of f)) s
+    go : (f : Fault Refusal) → PlansClocks other file text target said (Err f) → Steps s reported (Err (fault_of f)) s
     go fault.OutOfMemory plans = (unbroken, refl)
     go (fault.Refused w) plans = (unbroken, refuses w plans, refl)

@@ -1,4 +1,4 @@
--- A commit of held texts, told in the texts of a store's files.
+-- A commit of held texts, by the texts of a store's files.
 use Rattle.std.proofs.Common.{arith, ◌≡◌, ◌≢◌, ◌⊎◌, inl, inr, ℕ, ◌≤◌, Bool, true, false, List, [], ◌∷◌, length, map, Option, Some, None, Result, Ok, Err, refl, sym, ◌∙◌, ap, subst, if◌then◌else◌}
 use Rattle.std.proofs.lemmas.Grind.{common_steps}
 use Rattle.org_disk.specs.declared.disk.Disk.{Ghosts}
@@ -40,7 +40,7 @@ pairs_keys : (set : TextSet) (names : List (List ℕ)) → keys_of (map (pair_in
 pairs_keys set [] = refl
 pairs_keys set (name ∷ names) = ap (λ (ns : List (List ℕ)). name ∷ ns) (pairs_keys set names)
 
--- what holds of each waiting name's text
+-- what holds of each dirty name's text
 each_pair : (P : Change → Type 0) (set : TextSet) (names : List (List ℕ)) → ((name : List ℕ) → list_any (bytes_eq name) names ≡ true → P (pair_in set name)) → AllByRecursion P (map (pair_in set) names)
 each_pair P set [] each = tt
 each_pair P set (one ∷ names) each =
@@ -123,7 +123,7 @@ texts_settled_are names old new set apart same = texts_same (held_over (settled_
     go name None is now = ap (bytes_or (new name)) is ∙ now
     go name (Some text) is now = ap (bytes_or (new name)) is ∙ sym (ap (bytes_or (old name)) is)
 
--- ---- what a commit of the waiting texts says, told in the texts of the store's files
+-- ---- what a commit of the dirty texts says, by the texts of the store's files
 
 module _ {D : Type 0} (g : Ghosts D) (names : List (List ℕ)) (live : Type 0) (old new : D) (set : TextSet)
     (apart : AllByRecursion (λ name. name ≢ journal_name) names) (are : AreTextsOf names live (contents (g.files old)) set) (l : live) where
@@ -139,12 +139,12 @@ module _ {D : Type 0} (g : Ghosts D) (names : List (List ℕ)) (live : Type 0) (
   outside : (name : List ℕ) → is_name names name ≡ false → changed (pairs set) before name ≡ before name
   outside name out = is_held name ∙ held_outside names live before before set are name out
 
-  told : texts_of (changed (pairs set) before) names ≡ after
-  told = texts_same (changed (pairs set) before) (held_over set before) names (λ name there. is_held name)
+  reported : texts_of (changed (pairs set) before) names ≡ after
+  reported = texts_same (changed (pairs set) before) (held_over set before) names (λ name there. is_held name)
 
   any_moment : {A E : Type 0} (result : Result A E) → CommitsOver g (changed (pairs set) before) (IsOther (keys_of (pairs set))) old new result → IsAtRest (g.files old)
       → LeavesOver g old new (HoldsEither names before after)
-  any_moment result commits rest = leaves_as (commits.any_moment rest) (λ image left. subst (λ (texts : List (List ℕ)). HoldsEither names before texts image) told
+  any_moment result commits rest = leaves_as (commits.any_moment rest) (λ image left. subst (λ (texts : List (List ℕ)). HoldsEither names before texts image) reported
       (left_by_commit names before (changed (pairs set) before) outside image left))
 
   alone_dirty : LeavesAlone g (IsOther (keys_of (pairs set))) old new → LeavesAlone g (IsOther set.dirty) old new

@@ -120,8 +120,8 @@ module _ {D : Type 0} {g : Ghosts D} {states : Keywords} {old new : OpenFiles D}
       → let s = session_in g states old tally in Plans s (edit s file at gone put (text_at s.names s.files file)) answer new.held (session_in g states new tally)
   edit_fails tally honest result {fault} answer was answers handed =
       let s = session_in g states old tally in
-      let told = edit s file at gone put (text_at s.names s.files file) in
-      plans_not_fit s (session_in g states new tally) told new.held fault answer handed (has.reads tally honest) (go fault (subst (Replaces bytes at gone put) was answers))
+      let reported = edit s file at gone put (text_at s.names s.files file) in
+      plans_not_fit s (session_in g states new tally) reported new.held fault answer handed (has.reads tally honest) (go fault (subst (Replaces bytes at gone put) was answers))
     where
       go : (f : RunFault) → Replaces bytes at gone put (Err f) → let s = session_in g states old tally in Steps s (edit s file at gone put (text_at s.names s.files file)) (Err f) s
       go OutOfMemory answers = (has.unbroken, refl)

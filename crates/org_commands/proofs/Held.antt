@@ -30,7 +30,7 @@ use Rattle.org_commands.specs.InOrder.{is_name}
 
 -- ---- names
 
--- a name among others, told either way round
+-- a name among others, either way round
 pub named_any : (names : List (List ℕ)) (name : List ℕ) → list_any (bytes_eq name) names ≡ is_name names name
 named_any [] name = refl
 named_any (one ∷ names) name = grind (arith, common_steps, name_cases, bytes_eq-Decides, not_equal, named_any names name)
@@ -38,7 +38,7 @@ named_any (one ∷ names) name = grind (arith, common_steps, name_cases, bytes_e
 pub not_one : (one : List ℕ) (names : List (List ℕ)) (name : List ℕ) → is_name (one ∷ names) name ≡ false → (one ≢ name) × (is_name names name ≡ false)
 not_one one names name none = grind (arith, common_steps, name_cases, false≢true)
 
--- a name that waits where one more does
+-- a name that is dirty where one more is
 pub dirty_more : (own : List ℕ) (names : List (List ℕ)) (name : List ℕ) → list_any (bytes_eq name) (with_name own names) ≡ true → own ≢ name → list_any (bytes_eq name) names ≡ true
 dirty_more own names name there apart = elim (cases_Bool (list_any (bytes_eq own) names)) [
   | inl t ↦ rw t at there

@@ -83,13 +83,13 @@ own_texts files others (one ∷ names) name = elim (name_cases one name) [
   | inr apart ↦ let f = apart.1 in rw f (own_texts files others names name)
 ]
 
--- files that are as they were but for these names, told by the texts of these
-pub told_by_texts : (names : List (List ℕ)) (new old : Image) (name : List ℕ) → (is_name names name ≡ false → new name ≡ old name) → new name ≡ with_texts names (texts_of new names) old name
-told_by_texts names new old name outside = go (is_name names name) refl ∙ sym (own_texts new old names name)
+-- files that are as they were but for these names, by the texts of these
+pub reported_by_texts : (names : List (List ℕ)) (new old : Image) (name : List ℕ) → (is_name names name ≡ false → new name ≡ old name) → new name ≡ with_texts names (texts_of new names) old name
+reported_by_texts names new old name outside = go (is_name names name) refl ∙ sym (own_texts new old names name)
   where
     go : (b : Bool) → is_name names name ≡ b → new name ≡ (if b then new name else old name)
     go true is = refl
     go false is = outside is
 
-pub holds_told : (names : List (List ℕ)) (new old image : Image) → ((name : List ℕ) → is_name names name ≡ false → new name ≡ old name) → RecoversTo new image → HoldsTexts names old (texts_of new names) image
-holds_told names new old image outside = recovers_as new (with_texts names (texts_of new names) old) image (λ name not. told_by_texts names new old name (outside name))
+pub holds_reported : (names : List (List ℕ)) (new old image : Image) → ((name : List ℕ) → is_name names name ≡ false → new name ≡ old name) → RecoversTo new image → HoldsTexts names old (texts_of new names) image
+holds_reported names new old image outside = recovers_as new (with_texts names (texts_of new names) old) image (λ name not. reported_by_texts names new old name (outside name))

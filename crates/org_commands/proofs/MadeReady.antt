@@ -37,48 +37,48 @@ session_in g states files tally = session_over (λ disk. contents (g.files disk)
 
 -- ---- faults handed on
 
-module _ (old new : Session) (told : Outcome) (held : Holding) (fault : RunFault) where
+module _ (old new : Session) (reported : Outcome) (held : Holding) (fault : RunFault) where
   -- the planner answers it ..
-  pub plans_fault : (answer : Result Plan RunFault) → IsErrAnd answer (λ y. y ≡ fault) → Steps old told (Err fault) new → Plans old told answer held new
-  plans_fault answer handed steps = subst (λ (r : Result Plan RunFault). Plans old told r held new) (sym (handed_on answer fault handed)) steps
+  pub plans_fault : (answer : Result Plan RunFault) → IsErrAnd answer (λ y. y ≡ fault) → Steps old reported (Err fault) new → Plans old reported answer held new
+  plans_fault answer handed steps = subst (λ (r : Result Plan RunFault). Plans old reported r held new) (sym (handed_on answer fault handed)) steps
 
   -- .. or one that may have no plan
-  pub stays_fault : (answer : Result (Option Plan) RunFault) → IsErrAnd answer (λ y. y ≡ fault) → Steps old told (Err fault) new → PlansOrStays old told answer held new
-  stays_fault answer handed steps = subst (λ (r : Result (Option Plan) RunFault). PlansOrStays old told r held new) (sym (handed_on answer fault handed)) steps
+  pub stays_fault : (answer : Result (Option Plan) RunFault) → IsErrAnd answer (λ y. y ≡ fault) → Steps old reported (Err fault) new → PlansOrStays old reported answer held new
+  stays_fault answer handed steps = subst (λ (r : Result (Option Plan) RunFault). PlansOrStays old reported r held new) (sym (handed_on answer fault handed)) steps
 
   -- a fault that is found in what was read
-  not_fit : new ≡ old → Steps old told (Err fault) old → Steps old told (Err fault) new
-  not_fit read refused = subst (λ (s : Session). Steps old told (Err fault) s) (sym read) refused
+  not_fit : new ≡ old → Steps old reported (Err fault) old → Steps old reported (Err fault) new
+  not_fit read refused = subst (λ (s : Session). Steps old reported (Err fault) s) (sym read) refused
 
-  pub plans_not_fit : (answer : Result Plan RunFault) → IsErrAnd answer (λ y. y ≡ fault) → new ≡ old → Steps old told (Err fault) old → Plans old told answer held new
+  pub plans_not_fit : (answer : Result Plan RunFault) → IsErrAnd answer (λ y. y ≡ fault) → new ≡ old → Steps old reported (Err fault) old → Plans old reported answer held new
   plans_not_fit answer handed read refused = plans_fault answer handed (not_fit read refused)
 
-  pub stays_not_fit : (answer : Result (Option Plan) RunFault) → IsErrAnd answer (λ y. y ≡ fault) → new ≡ old → Steps old told (Err fault) old → PlansOrStays old told answer held new
+  pub stays_not_fit : (answer : Result (Option Plan) RunFault) → IsErrAnd answer (λ y. y ≡ fault) → new ≡ old → Steps old reported (Err fault) old → PlansOrStays old reported answer held new
   stays_not_fit answer handed read refused = stays_fault answer handed (not_fit read refused)
 
 -- the fault of a reading, whatever was to be done
-module _ {D : Type 0} (g : Ghosts D) (states : Keywords) (old new : OpenFiles D) (tally : Tally) (told : Outcome) where
+module _ {D : Type 0} (g : Ghosts D) (states : Keywords) (old new : OpenFiles D) (tally : Tally) (reported : Outcome) where
   abbrev s : Session
   s = session_in g states old tally
 
   abbrev t : Session
   t = session_in g states new tally
 
-  pub unread : {A : Type 0} {read : Result A RunFault} {fault : RunFault} → old.broken ≡ false → read ≡ Err fault → Reads s read t → Steps s told (Err fault) t
-  unread {A} {read} {fault} unbroken is reads = does_read A s t told fault unbroken (subst (λ (r : Result A RunFault). Reads s r t) is reads)
+  pub unread : {A : Type 0} {read : Result A RunFault} {fault : RunFault} → old.broken ≡ false → read ≡ Err fault → Reads s read t → Steps s reported (Err fault) t
+  unread {A} {read} {fault} unbroken is reads = does_read A s t reported fault unbroken (subst (λ (r : Result A RunFault). Reads s r t) is reads)
 
-  pub plans_unread : {A : Type 0} {read : Result A RunFault} {fault : RunFault} (answer : Result Plan RunFault) → IsErrAnd answer (λ y. y ≡ fault) → old.broken ≡ false → read ≡ Err fault → Reads s read t → Plans s told answer new.held t
-  plans_unread {fault = fault} answer handed unbroken is reads = plans_fault s t told new.held fault answer handed (unread unbroken is reads)
+  pub plans_unread : {A : Type 0} {read : Result A RunFault} {fault : RunFault} (answer : Result Plan RunFault) → IsErrAnd answer (λ y. y ≡ fault) → old.broken ≡ false → read ≡ Err fault → Reads s read t → Plans s reported answer new.held t
+  plans_unread {fault = fault} answer handed unbroken is reads = plans_fault s t reported new.held fault answer handed (unread unbroken is reads)
 
-  pub stays_unread : {A : Type 0} {read : Result A RunFault} {fault : RunFault} (answer : Result (Option Plan) RunFault) → IsErrAnd answer (λ y. y ≡ fault) → old.broken ≡ false → read ≡ Err fault → Reads s read t → PlansOrStays s told answer new.held t
-  stays_unread {fault = fault} answer handed unbroken is reads = stays_fault s t told new.held fault answer handed (unread unbroken is reads)
+  pub stays_unread : {A : Type 0} {read : Result A RunFault} {fault : RunFault} (answer : Result (Option Plan) RunFault) → IsErrAnd answer (λ y. y ≡ fault) → old.broken ≡ false → read ≡ Err fault → Reads s read t → PlansOrStays s reported answer new.held t
+  stays_unread {fault = fault} answer handed unbroken is reads = stays_fault s t reported new.held fault answer handed (unread unbroken is reads)
 
 -- a plan of the store as it was, from one that calls left so which only read
-module _ {D : Type 0} (g : Ghosts D) (states : Keywords) (old mid new : OpenFiles D) (tally : Tally) {outcome : Outcome} (told : Session → Outcome) (read : session_in g states mid tally ≡ session_in g states old tally) (is : outcome ≡ told (session_in g states old tally)) where
-  pub plans_then : (answer : Result Plan RunFault) → Plans (session_in g states mid tally) (told (session_in g states mid tally)) answer new.held (session_in g states new tally) → Plans (session_in g states old tally) outcome answer new.held (session_in g states new tally)
+module _ {D : Type 0} (g : Ghosts D) (states : Keywords) (old mid new : OpenFiles D) (tally : Tally) {outcome : Outcome} (reported : Session → Outcome) (read : session_in g states mid tally ≡ session_in g states old tally) (is : outcome ≡ reported (session_in g states old tally)) where
+  pub plans_then : (answer : Result Plan RunFault) → Plans (session_in g states mid tally) (reported (session_in g states mid tally)) answer new.held (session_in g states new tally) → Plans (session_in g states old tally) outcome answer new.held (session_in g states new tally)
   plans_then answer plans = grind (arith, common_steps)
 
-  pub stays_then : (answer : Result (Option Plan) RunFault) → PlansOrStays (session_in g states mid tally) (told (session_in g states mid tally)) answer new.held (session_in g states new tally)
+  pub stays_then : (answer : Result (Option Plan) RunFault) → PlansOrStays (session_in g states mid tally) (reported (session_in g states mid tally)) answer new.held (session_in g states new tally)
       → PlansOrStays (session_in g states old tally) outcome answer new.held (session_in g states new tally)
   stays_then answer plans = grind (arith, common_steps)
 

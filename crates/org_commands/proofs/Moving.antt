@@ -41,19 +41,19 @@ module _ {D : Type 0} {g : Ghosts D} {states : Keywords} {old new : OpenFiles D}
     abbrev s : Session
     s = session_in g states old tally
 
-    abbrev told : Outcome
-    told = with_clock_moved s file to_file (said (tree (unwrap_or (text_at s.names s.files file) [])) (tree (unwrap_or (text_at s.names s.files to_file) [])))
+    abbrev reported : Outcome
+    reported = with_clock_moved s file to_file (said (tree (unwrap_or (text_at s.names s.files file) [])) (tree (unwrap_or (text_at s.names s.files to_file) [])))
 
     -- the planner sees the store's documents
-    told_is : told ≡ with_clock_moved s file to_file made
-    told_is =
+    reported_is : reported ≡ with_clock_moved s file to_file made
+    reported_is =
         ap (λ (d : Document). with_clock_moved s file to_file (said d (tree (unwrap_or (text_at s.names s.files to_file) [])))) (document_seen both.0 tally honest)
         ∙ ap (λ (d : Document). with_clock_moved s file to_file (said (tree seen.bytes) d)) (document_seen both.1 tally honest)
 
     pub move_fails : (result : Result Plan (Fault Refusal)) {why : Fault Refusal} (answer : Result (Option Plan) RunFault) → result ≡ Err why → PlansClocks file to_file seen.bytes found.bytes made result → IsErrAnd answer (λ y. y ≡ fault_of why)
-        → PlansOrStays s told answer new.held (session_in g states new tally)
+        → PlansOrStays s reported answer new.held (session_in g states new tally)
     move_fails result {why} answer was plans handed =
-        stays_not_fit s (session_in g states new tally) told new.held (fault_of why) answer handed (both.0.reads tally honest) (move_not_made s file to_file seen.bytes found.bytes told made result why both.0.unbroken told_is was plans)
+        stays_not_fit s (session_in g states new tally) reported new.held (fault_of why) answer handed (both.0.reads tally honest) (move_not_made s file to_file seen.bytes found.bytes reported made result why both.0.unbroken reported_is was plans)
 
-    pub move_planned : (plan : Plan) → file ≢ to_file → PlansClocks file to_file seen.bytes found.bytes made (Ok plan) → PlansOrStays s told (Ok (Some plan)) new.held (session_in g states new tally)
-    move_planned plan apart (d, is, makes) = (told_is ∙ ap (with_clock_moved s file to_file) is ∙ ap (changed s) (sym (documents_texts both apart plan d makes)), both.0.reads tally honest)
+    pub move_planned : (plan : Plan) → file ≢ to_file → PlansClocks file to_file seen.bytes found.bytes made (Ok plan) → PlansOrStays s reported (Ok (Some plan)) new.held (session_in g states new tally)
+    move_planned plan apart (d, is, makes) = (reported_is ∙ ap (with_clock_moved s file to_file) is ∙ ap (changed s) (sym (documents_texts both apart plan d makes)), both.0.reads tally honest)

@@ -271,7 +271,7 @@ pub first_lowered : (plan : Plan) (names : List (List ℕ)) (size : ℕ) (old ne
     → ForSome (text_of set plan.first.file) (λ (text : EditedText). size ≤ length text.bytes) → AreKnown names old set → AreKnown names new (with_edits plan.first set)
 first_lowered plan names size old new set of_lines lowers long are = follows_lowered names plan.first size old new set lowers of_lines.first long are
 
--- the text of the second file, where the first edits are made: its size isn't told where it is the first file
+-- the text of the second file, where the first edits are made: its size isn't known where it is the first file
 pub second_lowered : (plan : Plan) (change : FileEdits) (names : List (List ℕ)) (size : ℕ) (old new : List (Option Searches)) (set : TextSet) → IsOfLines plan set → plan.second ≡ Some change
     → Lowers names change.file size change.edits.items old new
     → (plan.first.file ≡ change.file → size ≡ 0) → (plan.first.file ≢ change.file → ForSome (text_of set change.file) (λ (text : EditedText). size ≤ length text.bytes))

@@ -21,8 +21,8 @@ use Rattle.org_commands.proofs.MadeReady.{plans_fault, plans_unread, session_in,
 use Rattle.org_commands.proofs.Reading.{only_reads_fault, only_reads_refused}
 
 -- the refusal, of a session that works
-refuses : (s : Session) (told : Outcome) (fault : RunFault) → fault ≡ Refused NoSuchFile → s.broken ≡ false → told ≡ Refuses NoSuchFile → Steps s told (Err fault) s
-refuses s told fault is whole refused = subst (λ (f : RunFault). Steps s told (Err f) s) (sym is) (whole, refused, refl)
+refuses : (s : Session) (reported : Outcome) (fault : RunFault) → fault ≡ Refused NoSuchFile → s.broken ≡ false → reported ≡ Refuses NoSuchFile → Steps s reported (Err fault) s
+refuses s reported fault is whole refused = subst (λ (f : RunFault). Steps s reported (Err f) s) (sym is) (whole, refused, refl)
 
 -- a refusal of a plan, or a fault, that came as the fault of another call
 pub plans_refused : {D : Type 0} (g : Ghosts D) (states : Keywords) (to_do : Session → Outcome) {old new : OpenFiles D} (answer : Result Plan RunFault) (fault : RunFault) → IsErrAnd answer (λ y. y ≡ fault)
@@ -33,25 +33,25 @@ module _ {D : Type 0} (g : Ghosts D) (states : Keywords) (to_do : Session → Ou
   -- one of its files is none of the store's
   pub plans_no_file : (answer : Result Plan RunFault) → IsErrAnd answer (λ y. y ≡ fault) → fault ≡ Refused NoSuchFile → ((tally : Tally) → to_do (session_in g states old tally) ≡ Refuses NoSuchFile)
       → PlansAs g states old to_do answer old
-  plans_no_file answer handed is told =
+  plans_no_file answer handed is reported =
       let given = handed_on answer fault handed in
       record {
         plan = no_value _ answer fault given;
         plans = λ tally honest.
             let s = session_in g states old tally in
-            plans_fault s s (to_do s) old.held fault answer handed (refuses s (to_do s) fault is unbroken (told tally));
+            plans_fault s s (to_do s) old.held fault answer handed (refuses s (to_do s) fault is unbroken (reported tally));
         disk = only_reads_refused unbroken NoSuchFile answer (given ∙ ap Err is);
       }
 
   pub stays_no_file : (answer : Result (Option Plan) RunFault) → IsErrAnd answer (λ y. y ≡ fault) → fault ≡ Refused NoSuchFile → ((tally : Tally) → to_do (session_in g states old tally) ≡ Refuses NoSuchFile)
       → PlansOrStaysAs g states old to_do answer old
-  stays_no_file answer handed is told =
+  stays_no_file answer handed is reported =
       let given = handed_on answer fault handed in
       record {
         plan = no_value _ answer fault given;
         plans = λ tally honest.
             let s = session_in g states old tally in
-            stays_fault s s (to_do s) old.held fault answer handed (refuses s (to_do s) fault is unbroken (told tally));
+            stays_fault s s (to_do s) old.held fault answer handed (refuses s (to_do s) fault is unbroken (reported tally));
         disk = only_reads_refused unbroken NoSuchFile answer (given ∙ ap Err is);
       }
 

@@ -62,26 +62,26 @@ across_is {D} {g} {states} {old} {file = file} {to_file = to_file} {seen = seen}
     ]
 
 -- a subtree that isn't moved
-move_refused : {A B : Type 0} (s : Session) (texts : B → List (List ℕ × List ℕ)) (told : Outcome) (said : Result B Refusal) (Fits : B → A → Type 0) (result : Result A (Fault Refusal)) (why : Fault Refusal)
-    → s.broken ≡ false → told ≡ with_moved s texts said → result ≡ Err why → IsMadeAs said Fits result → Steps s told (Err (fault_of why)) s
-move_refused {A} {B} s texts told said Fits result why unbroken is was gives = go why (subst (IsMadeAs said Fits) was gives)
+move_refused : {A B : Type 0} (s : Session) (texts : B → List (List ℕ × List ℕ)) (reported : Outcome) (said : Result B Refusal) (Fits : B → A → Type 0) (result : Result A (Fault Refusal)) (why : Fault Refusal)
+    → s.broken ≡ false → reported ≡ with_moved s texts said → result ≡ Err why → IsMadeAs said Fits result → Steps s reported (Err (fault_of why)) s
+move_refused {A} {B} s texts reported said Fits result why unbroken is was gives = go why (subst (IsMadeAs said Fits) was gives)
   where
-    refuses : (w : Refusal) → said ≡ Err w → told ≡ Refuses w
+    refuses : (w : Refusal) → said ≡ Err w → reported ≡ Refuses w
     refuses w none = is ∙ ap (with_moved s texts) none
 
-    go : (w : Fault Refusal) → IsMadeAs said Fits (Err w) → Steps s told (Err (fault_of w)) s
+    go : (w : Fault Refusal) → IsMadeAs said Fits (Err w) → Steps s reported (Err (fault_of w)) s
     go fault.OutOfMemory gives = (unbroken, refl)
     go (fault.Refused w) gives = (unbroken, refuses w gives, refl)
 
 -- .. so nothing is planned
-pub move_fails : {B : Type 0} {s t : Session} {told : Outcome} (held : Holding) (texts : B → List (List ℕ × List ℕ)) (said : Result B Refusal) (Fits : B → Plan → Type 0) (result : Result Plan (Fault Refusal)) {why : Fault Refusal} (answer : Result Plan RunFault) → s.broken ≡ false → t ≡ s → told ≡ with_moved s texts said → result ≡ Err why → IsMadeAs said Fits result → IsErrAnd answer (λ y. y ≡ fault_of why)
-    → Plans s told answer held t
-move_fails {s = s} {t = t} {told = told} held texts said Fits result {why} answer unbroken read is was gives handed =
-    plans_not_fit s t told held (fault_of why) answer handed read (move_refused s texts told said Fits result why unbroken is was gives)
+pub move_fails : {B : Type 0} {s t : Session} {reported : Outcome} (held : Holding) (texts : B → List (List ℕ × List ℕ)) (said : Result B Refusal) (Fits : B → Plan → Type 0) (result : Result Plan (Fault Refusal)) {why : Fault Refusal} (answer : Result Plan RunFault) → s.broken ≡ false → t ≡ s → reported ≡ with_moved s texts said → result ≡ Err why → IsMadeAs said Fits result → IsErrAnd answer (λ y. y ≡ fault_of why)
+    → Plans s reported answer held t
+move_fails {s = s} {t = t} {reported = reported} held texts said Fits result {why} answer unbroken read is was gives handed =
+    plans_not_fit s t reported held (fault_of why) answer handed read (move_refused s texts reported said Fits result why unbroken is was gives)
 
 -- one that is
-pub move_planned : {B : Type 0} {s t : Session} {told : Outcome} (held : Holding) (texts : B → List (List ℕ × List ℕ)) (said : Result B Refusal) (new : B) (plan : Plan)
-    → t ≡ s → told ≡ with_moved s texts said → said ≡ Ok new → new_texts plan held.now ≡ texts new → Plans s told (Ok plan) held t
+pub move_planned : {B : Type 0} {s t : Session} {reported : Outcome} (held : Holding) (texts : B → List (List ℕ × List ℕ)) (said : Result B Refusal) (new : B) (plan : Plan)
+    → t ≡ s → reported ≡ with_moved s texts said → said ≡ Ok new → new_texts plan held.now ≡ texts new → Plans s reported (Ok plan) held t
 move_planned {s = s} held texts said new plan read is made are = (is ∙ ap (with_moved s texts) made ∙ ap (changed s) (sym are), read)
 
 -- a plan of one edit in each of two files makes what the edits make

@@ -43,7 +43,7 @@ session_failed texts states old new tally names same over fell =
     let held = still_texts texts old new names same over in
     rw (held, same, names, fell) refl
 
--- a fault of a reading, told of any command
+-- a fault of a reading, for any command
 pub does_read : (A : Type 0) (old new : Session) (outcome : Outcome) (fault : RunFault) → old.broken ≡ false → Reads {A = A} old (Err fault) new → Steps old outcome (Err fault) new
 does_read A old new outcome OutOfMemory unbroken reads = (unbroken, reads)
 does_read A old new outcome Device unbroken reads = (unbroken, inl reads)
@@ -62,8 +62,8 @@ reads_fault {A} {B} old new result given fault was is reads =
     go (Refused why) r = r
 
 -- a planner that always has a plan is one of those that may have none
-pub some_planned : (s : Session) (told : Outcome) (first : Result Plan RunFault) (held : Holding) (new : Session) (answer : Result (Option Plan) RunFault)
-    → MatchResult first (λ plan. IsOkAnd answer (λ given. given ≡ Some plan)) (λ fault. answer ≡ Err fault) → Plans s told first held new → PlansOrStays s told answer held new
-some_planned s told (Ok plan) held new (Ok given) is plans = subst (λ (o : Option Plan). PlansOrStays s told (Ok o) held new) (sym is) plans
-some_planned s told (Ok plan) held new (Err fault) is plans = absurd is
-some_planned s told (Err fault) held new answer is plans = subst (λ (r : Result (Option Plan) RunFault). PlansOrStays s told r held new) (sym is) plans
+pub some_planned : (s : Session) (reported : Outcome) (first : Result Plan RunFault) (held : Holding) (new : Session) (answer : Result (Option Plan) RunFault)
+    → MatchResult first (λ plan. IsOkAnd answer (λ given. given ≡ Some plan)) (λ fault. answer ≡ Err fault) → Plans s reported first held new → PlansOrStays s reported answer held new
+some_planned s reported (Ok plan) held new (Ok given) is plans = subst (λ (o : Option Plan). PlansOrStays s reported (Ok o) held new) (sym is) plans
+some_planned s reported (Ok plan) held new (Err fault) is plans = absurd is
+some_planned s reported (Err fault) held new answer is plans = subst (λ (r : Result (Option Plan) RunFault). PlansOrStays s reported r held new) (sym is) plans

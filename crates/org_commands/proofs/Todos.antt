@@ -39,12 +39,12 @@ module _ (states : Keywords) (path : List Step) (state : List ℕ) (now : Moment
   pub state_refused : (file : List ℕ) (result : Result (Option Plan) (Fault Refusal)) (why : Fault Refusal) → result ≡ Err why → AnswersTodo states path state now text (Err why) → PlansState file text (in_state states path state now (tree text)) result
   state_refused file result why is answers = subst (PlansState file text (in_state states path state now (tree text))) (sym is) (go why answers)
     where
-      told : (w : Refusal) → IsTodo states path state now (tree text) (Err w) → in_state states path state now (tree text) ≡ Err w
-      told w is = todo_computed states path state now (tree text) (Err w) is
+      reported : (w : Refusal) → IsTodo states path state now (tree text) (Err w) → in_state states path state now (tree text) ≡ Err w
+      reported w is = todo_computed states path state now (tree text) (Err w) is
 
       go : (w : Fault Refusal) → AnswersTodo states path state now text (Err w) → PlansState file text (in_state states path state now (tree text)) (Err w)
       go fault.OutOfMemory answers = tt
-      go (fault.Refused w) answers = told w answers
+      go (fault.Refused w) answers = reported w answers
 
   -- edits that change nothing
   pub state_stays : (edits : Vec Edit Global) → edits.items ≡ [] → AnswersTodo states path state now text (Ok edits) → in_state states path state now (tree text) ≡ Ok None
@@ -72,14 +72,14 @@ plan_made file text said edits (Some plan) none (changes, named, alone, are) sta
 -- ---- the outcome
 
 -- what isn't to be done
-state_not_made : (s : Session) {told : Outcome} (file seen : List ℕ) (said : Result (Option Document) Refusal) (result : Result (Option Plan) (Fault Refusal)) (why : Fault Refusal) → s.broken ≡ false → told ≡ with_state s file said → result ≡ Err why
-    → PlansState file seen said result → Steps s told (Err (fault_of why)) s
-state_not_made s {told} file seen said result why unbroken is was plans = go why (subst (PlansState file seen said) was plans)
+state_not_made : (s : Session) {reported : Outcome} (file seen : List ℕ) (said : Result (Option Document) Refusal) (result : Result (Option Plan) (Fault Refusal)) (why : Fault Refusal) → s.broken ≡ false → reported ≡ with_state s file said → result ≡ Err why
+    → PlansState file seen said result → Steps s reported (Err (fault_of why)) s
+state_not_made s {reported} file seen said result why unbroken is was plans = go why (subst (PlansState file seen said) was plans)
   where
-    refuses : (w : Refusal) → said ≡ Err w → told ≡ Refuses w
+    refuses : (w : Refusal) → said ≡ Err w → reported ≡ Refuses w
     refuses w none = is ∙ ap (with_state s file) none
 
-    go : (w : Fault Refusal) → PlansState file seen said (Err w) → Steps s told (Err (fault_of w)) s
+    go : (w : Fault Refusal) → PlansState file seen said (Err w) → Steps s reported (Err (fault_of w)) s
     go fault.OutOfMemory plans = (unbroken, refl)
     go (fault.Refused w) plans = (unbroken, refuses w plans, refl)
 
@@ -106,13 +106,13 @@ module _ {D : Type 0} {g : Ghosts D} {states : Keywords} {old new : OpenFiles D}
     document_is said = ap (λ (d : Document). with_state s file (said d)) (document_seen sees tally honest)
 
     -- nothing is planned, for this reason
-    pub state_fails : {told : Outcome} (said : Result (Option Document) Refusal) (result : Result (Option Plan) (Fault Refusal)) {why : Fault Refusal} (answer : Result (Option Plan) RunFault) → told ≡ with_state s file said
-        → result ≡ Err why → PlansState file seen.bytes said result → IsErrAnd answer (λ y. y ≡ fault_of why) → PlansOrStays s told answer new.held (session_in g states new tally)
-    state_fails {told} said result {why} answer is was plans handed =
-        stays_not_fit s (session_in g states new tally) told new.held (fault_of why) answer handed (sees.reads tally honest) (state_not_made s file seen.bytes said result why sees.unbroken is was plans)
+    pub state_fails : {reported : Outcome} (said : Result (Option Document) Refusal) (result : Result (Option Plan) (Fault Refusal)) {why : Fault Refusal} (answer : Result (Option Plan) RunFault) → reported ≡ with_state s file said
+        → result ≡ Err why → PlansState file seen.bytes said result → IsErrAnd answer (λ y. y ≡ fault_of why) → PlansOrStays s reported answer new.held (session_in g states new tally)
+    state_fails {reported} said result {why} answer is was plans handed =
+        stays_not_fit s (session_in g states new tally) reported new.held (fault_of why) answer handed (sees.reads tally honest) (state_not_made s file seen.bytes said result why sees.unbroken is was plans)
 
     -- .. or what is to be done
-    pub state_planned : {told : Outcome} (said : Result (Option Document) Refusal) (o : Option Plan) → told ≡ with_state s file said → PlansState file seen.bytes said (Ok o) → PlansOrStays s told (Ok o) new.held (session_in g states new tally)
+    pub state_planned : {reported : Outcome} (said : Result (Option Document) Refusal) (o : Option Plan) → reported ≡ with_state s file said → PlansState file seen.bytes said (Ok o) → PlansOrStays s reported (Ok o) new.held (session_in g states new tally)
     state_planned said None is plans = (is ∙ ap (with_state s file) plans, sees.reads tally honest)
     state_planned said (Some plan) is (d, made, makes) =
         (is ∙ ap (with_state s file) made ∙ ap (changed s) (sym (document_texts sees plan d makes)), sees.reads tally honest)

@@ -35,7 +35,7 @@ pub data Outcome : Type 0 where
   -- to answer this text
   Shows : List ℕ → Outcome
   -- to answer this time, in minutes
-  Tells : ℕ → Outcome
+  Reports : ℕ → Outcome
   -- to settle what was accepted
   AsksToSettle : Outcome
   -- to be accepted: it gives the files of these names new texts, and these are the texts of all
@@ -51,7 +51,7 @@ abbrev pub written : Outcome → List (List ℕ)
 written (Accepts names files) = names
 written (Refuses why) = []
 written (Shows text) = []
-written (Tells minutes) = []
+written (Reports minutes) = []
 written AsksToSettle = []
 
 -- one more command, which gives the files of these names new texts, with these texts of all files
@@ -186,7 +186,7 @@ edit s file at old new None = Refuses NoSuchFile
 edit s file at old new (Some text) = with_replaced s file (replaced text at old new)
 
 abbrev pub with_minutes : Result ℕ PathFault → Outcome
-with_minutes (Ok minutes) = Tells minutes
+with_minutes (Ok minutes) = Reports minutes
 with_minutes (Err fault) = Refuses (refusal_of fault)
 
 -- The time clocked at a heading, and below it, of a file that has this text: it is refused for its

@@ -7,7 +7,7 @@ use Rattle.org_commands.specs.declared.command.RunFault.{RunFault}
 use Rattle.org_commands.specs.declared.command.RunFault.TheVariants.{Refused, OutOfMemory, Device, Broken}
 use Rattle.org_commands.specs.Groups.{are_group}
 use Rattle.org_commands.specs.Session.{Session}
-use Rattle.org_commands.specs.Outcome.{Outcome, IsAccepted, Shows, Tells, AsksToSettle, Refuses, outcome}
+use Rattle.org_commands.specs.Outcome.{Outcome, IsAccepted, Shows, Reports, AsksToSettle, Refuses, outcome}
 
 -- with one more accepted command, the group is full
 abbrev pub fills : Session → Bool
@@ -66,7 +66,7 @@ Steps old outcome (Ok (Done n)) new =
 Steps old outcome (Ok (Text bytes)) new =
     (old.broken ≡ false) × (outcome ≡ Shows bytes) × (new ≡ old)
 Steps old outcome (Ok (Time minutes)) new =
-    (old.broken ≡ false) × (outcome ≡ Tells minutes) × (new ≡ old)
+    (old.broken ≡ false) × (outcome ≡ Reports minutes) × (new ≡ old)
 Steps old outcome (Ok (Safe n)) new =
     (old.broken ≡ false) × (outcome ≡ AsksToSettle) × (n ≡ old.accepted) × (new ≡ settled old)
 Steps old outcome (Err (Refused why)) new =

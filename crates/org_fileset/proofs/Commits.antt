@@ -73,15 +73,15 @@ module _ (entries : List Entry) (files : List ℕ → FileState) (can : AreAppli
     behind : drop 1 (mid journal_name).content ≡ body ++ drop (1 + length body) (contents files journal_name)
     behind = ap (λ (l : List ℕ). drop 1 l) over_record ∙ drop-overwritten body (contents files journal_name) gate.nonempty
 
-    told : (text : List ℕ) → drop 1 text ≡ drop 1 (mid journal_name).content → journal_at (drop 1 text) ≡ Some entries
-    told text is = ap journal_at (is ∙ behind) ∙ begins_again body entries begins (drop (1 + length body) (contents files journal_name))
+    reported : (text : List ℕ) → drop 1 text ≡ drop 1 (mid journal_name).content → journal_at (drop 1 text) ≡ Some entries
+    reported text is = ap journal_at (is ∙ behind) ∙ begins_again body entries begins (drop (1 + length body) (contents files journal_name))
 
     -- the gate is open over the record
     pub opened_over : (last : List ℕ → FileState) → IsStable (last journal_name) → (last journal_name).content ≡ 1 ∷ drop 1 (mid journal_name).content → IsOpenOver entries last
     opened_over last only is = record {
       stable = only;
-      opened = opens (last journal_name).content (mid journal_name).content (ap is_some (told (mid journal_name).content refl)) is;
-      found = ap (λ (l : List ℕ). journal_at (drop 1 l)) is ∙ told (1 ∷ drop 1 (mid journal_name).content) refl;
+      opened = opens (last journal_name).content (mid journal_name).content (ap is_some (reported (mid journal_name).content refl)) is;
+      found = ap (λ (l : List ℕ). journal_at (drop 1 l)) is ∙ reported (1 ∷ drop 1 (mid journal_name).content) refl;
     }
 
     -- where all files were on the disk
@@ -94,7 +94,7 @@ module _ (entries : List Entry) (files : List ℕ → FileState) (can : AreAppli
           let other_is : (name : List ℕ) → name ≢ journal_name → image name ≡ contents files name =
           λ name not. own name (image name) (subst (λ f. IsImage f (image name)) (same name not) (left.others name not)) in
           elim (cases_Bool (is_open (image journal_name))) [
-            | inl opened ↦ inr (recovers_open entries after image can.applicable opened (told (image journal_name) left.body) (λ name not. takes name (image name) (other_is name not)))
+            | inl opened ↦ inr (recovers_open entries after image can.applicable opened (reported (image journal_name) left.body) (λ name not. takes name (image name) (other_is name not)))
             | inr closed ↦ inl (recovers_closed (contents files) image closed other_is)
           ]
 
@@ -118,9 +118,9 @@ module _ {D : Type 0} (g : Ghosts D) (old : D) (journal : List ℕ) (name_is : j
   arming_alone new r time puts =
       alone_journal g journal (IsUnwritten entries) (LeavesClosed journal (g.files old)) old new name_is (λ name is. is.apart) puts.others time (λ image left. left.others)
 
-  pub open_writes : (new : D) (r told : Result (Unit {0}) DiskFault) → PassesOver g old new (LeavesClosed journal (g.files old)) → {content : List ℕ} → Puts journal content (g.files old) (g.files new) r
-      → OnOk told (IsOpenOver entries (g.files new)) → WritesRecord g entries old new told
-  open_writes new r told time puts opened = record {
+  pub open_writes : (new : D) (r reported : Result (Unit {0}) DiskFault) → PassesOver g old new (LeavesClosed journal (g.files old)) → {content : List ℕ} → Puts journal content (g.files old) (g.files new) r
+      → OnOk reported (IsOpenOver entries (g.files new)) → WritesRecord g entries old new reported
+  open_writes new r reported time puts opened = record {
     opened = opened;
     any_moment = arming new time;
     others = subst (λ (n : List ℕ). (other : List ℕ) → other ≢ n → g.files new other ≡ g.files old other) name_is puts.others;

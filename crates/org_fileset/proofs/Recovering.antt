@@ -304,7 +304,7 @@ pub found_good : (files : Image) (found : Found) → Finds files (Ok found) → 
 found_good files Closed shut none = subst (λ (o : Option Image). IsSomeAnd o (λ f. Unit {0})) none (rw shut tt)
 found_good files (Open entries) found none =
     let opened = found.0 in
-    let told = found.1 in
+    let reported = found.1 in
     let fits = found.2 in
-    let good : IsSomeAnd (recovered files) (λ f. Unit {0}) = rw (opened, told, fits) tt in
+    let good : IsSomeAnd (recovered files) (λ f. Unit {0}) = rw (opened, reported, fits) tt in
     subst (λ (o : Option Image). IsSomeAnd o (λ f. Unit {0})) none good

@@ -50,8 +50,8 @@ module _ (journal : List ℕ) (old mid new : List ℕ → FileState) (name_is : 
 -- said of each answer of a search
 pub found_by : {Honest : Type 0} (r : Result Found FindFault) (image : Image) {P : Found → Type 0} → (Honest → Finds image r) → (Honest → (found : Found) → Finds image (Ok found) → P found)
     → IfOk r (λ found. Honest → P found)
-found_by (Ok found) image finds told = λ honest. told honest found (finds honest)
-found_by (Err fault) image finds told = tt
+found_by (Ok found) image finds reported = λ honest. reported honest found (finds honest)
+found_by (Err fault) image finds reported = tt
 
 -- what was found is these entries
 pub open_as : {found : Found} {record_entries entries : List Entry} → found ≡ Open record_entries → entries ≡ record_entries → found ≡ Open entries
@@ -92,9 +92,9 @@ module _ {D : Type 0} (g : Ghosts D) where
   }
 
   -- what is said of one answer is said of another one, where that is no Ok
-  pub reopens_as : {A B E F : Type 0} (old new : D) (r : Result A E) (told : Result B F) → ReopensOver g old new r → OnOk told (IsReopened (g.files old) (g.files new))
-      → ReopensOver g old new told
-  reopens_as old new r told made done = record { done = done; any_moment = made.any_moment; recoverable = made.recoverable; bad = made.bad; idle = made.idle; alone = made.alone }
+  pub reopens_as : {A B E F : Type 0} (old new : D) (r : Result A E) (reported : Result B F) → ReopensOver g old new r → OnOk reported (IsReopened (g.files old) (g.files new))
+      → ReopensOver g old new reported
+  reopens_as old new r reported made done = record { done = done; any_moment = made.any_moment; recoverable = made.recoverable; bad = made.bad; idle = made.idle; alone = made.alone }
 
 module _ {D : Type 0} (g : Ghosts D) (old : D)
     (starts : (image : Image) → g.left_since old (g.instant old) image → AreImages (g.files old) image) where
@@ -148,21 +148,21 @@ module _ {D : Type 0} (g : Ghosts D) (old : D)
         let applicable = to.applicable in
         let fits : all_fit entries (contents now) ≡ true = to.fits in
         let opened : is_open (contents now journal_name) ≡ true = over.opened in
-        let told = over.found in
+        let reported = over.found in
         let can = λ (fit : IsRecoverable now). recoverable_replayable now own entries applicable over fits fit in
         record {
           done = on_ok_weaker r (λ done. record {
-            recovered_then = (let made : IsSomeAnd (recovered (contents now)) (SameFiles (contents (g.files new))) = rw (opened, told, fits) done.made in made);
+            recovered_then = (let made : IsSomeAnd (recovered (contents now)) (SameFiles (contents (g.files new))) = rw (opened, reported, fits) done.made in made);
             journal = done.journal ∙ sym (closed_open (contents now journal_name) opened);
             gate = done.gate;
             rest = λ fit each. done.rest (can fit);
           }) replays.done;
           any_moment = λ fit each. leaves_only (passes_as (replays.any_moment (can fit)) (open_before now entries own applicable over fits (can fit))) (before each);
           recoverable = λ fit each. replays.recoverable (can fit);
-          bad = λ none. absurd (found_good (contents now) (Open entries) (opened, told, fits) none);
+          bad = λ none. absurd (found_good (contents now) (Open entries) (opened, reported, fits) none);
           idle = not_open (contents now journal_name) opened;
           alone = alone_fewer g (IsUnconcerned (contents now journal_name)) (IsUnwritten entries) old new replays.alone
-              (λ name is. record { apart = is.apart; unnamed = is.unnamed opened entries told });
+              (λ name is. record { apart = is.apart; unnamed = is.unnamed opened entries reported });
         }
 
     -- a closed gate stays, where the journal is whole

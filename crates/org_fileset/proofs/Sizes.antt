@@ -27,12 +27,12 @@ found_few {answer = answer} found is e = apart found (cc (e, passed answer is))
 -- its fault, as an opening reports it
 pub answer_found : {T : Type 0} (before now : Image) (names : List (List ℕ)) (answer : Result (Unit {0}) OpenFault) (found : FindFault) → IsErrAnd answer (λ y. y ≡ fault_of found)
     → (IsErrOf {T = T} (Err found) find.BadJournal → (recovered before ≡ None) × (now ≡ before)) → IsAnswer before now names answer
-answer_found {T} before now names answer found is bad = subst (IsAnswer before now names) (sym (passed answer is)) (told found bad)
+answer_found {T} before now names answer found is bad = subst (IsAnswer before now names) (sym (passed answer is)) (reported found bad)
   where
-    told : (found : FindFault) → (IsErrOf {T = T} (Err found) find.BadJournal → (recovered before ≡ None) × (now ≡ before)) → IsAnswer before now names (Err (fault_of found))
-    told find.BadJournal bad = bad refl
-    told find.Device bad = tt
-    told find.OutOfMemory bad = tt
+    reported : (found : FindFault) → (IsErrOf {T = T} (Err found) find.BadJournal → (recovered before ≡ None) × (now ≡ before)) → IsAnswer before now names (Err (fault_of found))
+    reported find.BadJournal bad = bad refl
+    reported find.Device bad = tt
+    reported find.OutOfMemory bad = tt
 
 -- the sizes that are asked for once a record was brought to its end
 pub answer_sized : (old mid new : List ℕ → FileState) (names : List (List ℕ)) (answer : Result (Unit {0}) OpenFault) → IsReopened old mid → new ≡ mid → HaveSizes (contents mid) names answer

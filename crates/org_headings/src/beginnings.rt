@@ -83,7 +83,8 @@ impl Beginning {
     /// Whether these two bytes stand at a place, or the one where a title has no more. They are
     /// compared at once, since a look-up by title asks it twice of each heading.
     fn stands_at(self, place: Beginning) -> bool
-        ensures { result ≡ (place.byte == self.byte && (self.next == 0 || place.next == self.next)) }
+        ensures { result
+            ≡ (place.byte == self.byte && (self.next == 0 || place.next == self.next)) }
     {
         if self.next == 0 {
             place.byte == self.byte

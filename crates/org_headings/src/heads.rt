@@ -254,7 +254,8 @@ impl Heads {
     fn move_from(&mut self, first: usize, removed: usize, added: usize)
         requires within { first ≤ length self.old }
         requires room { AllByRecursion (λ h. CanMove removed added h) (drop first self.old) }
-        ensures { self.new ≡ take first self.old ++ map (moved removed added) (drop first self.old) }
+        ensures { self.new
+            ≡ take first self.old ++ map (moved removed added) (drop first self.old) }
     {
         let (_, later) = self.headings.as_mut_slice().split_at_mut(first);
         move_by(later, removed, added);

@@ -36,9 +36,9 @@ pub accounts_failed : {D : Type 0} {g : Ghosts D} {old new : D} {Failed : Type 0
 accounts_failed failed call = accounts_as (λ f. failed) (λ f. refl) call
 
 -- the fault of a call that failed, which a `?` made another
-pub accounts_told : {D : Type 0} {U E : Type 0} {fault : E} {answer : Result U E} {g : Ghosts D} {old new : D}
+pub accounts_reported : {D : Type 0} {U E : Type 0} {fault : E} {answer : Result U E} {g : Ghosts D} {old new : D}
     → IsErrAnd answer (λ y. y ≡ fault) → CountsFailures g old new (true ≡ true) → CountsFailures g old new (IsErrOf answer fault)
-accounts_told {answer = answer} is call =
+accounts_reported {answer = answer} is call =
     let p = err_from_is_err_and answer is in
     accounts_failed (cc (p.1, p.2)) call
 

@@ -48,7 +48,7 @@ at_first patches i place final size patch lt is so_far = subst (λ (left : List 
 pub fit_ends : (patches : List Patch) (i place final size : ℕ) (patch : Patch) → i < length patches → patch ≡ get_or patches i patch → FitSoFar (drop i patches) place final size patches → patch.from + length patch.bytes ≤ final
 fit_ends patches i place final size patch lt is so_far = grind (arith, common_steps, at_first, last_end_after)
 
--- ---- entries
+-- ---- the next patch
 
 pub fit_next : (patches : List Patch) (i place final size : ℕ) (patch : Patch) → i < length patches → patch ≡ get_or patches i patch → patch.from ≤ max size place
     → FitSoFar (drop i patches) place final size patches → FitSoFar (drop (i + 1) patches) (patch.from + length patch.bytes) final size patches

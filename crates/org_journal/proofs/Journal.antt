@@ -163,8 +163,8 @@ read_begins : (bytes : List ℕ) (read : Option (List Entry)) → IsBytes bytes 
 read_begins bytes (Some entries) fits e some = (entries, journal_takes bytes entries fits e)
 read_begins bytes None fits e some = absurd (false≢true some)
 
-pub tells_record : (bytes : List ℕ) (answer : Bool) → IsBytes bytes → answer ≡ is_some (journal_at bytes) → IsTrue answer ↔ ((entries : List Entry) × BeginsWith bytes entries)
-tells_record bytes answer fits is = (
+pub says_record : (bytes : List ℕ) (answer : Bool) → IsBytes bytes → answer ≡ is_some (journal_at bytes) → IsTrue answer ↔ ((entries : List Entry) × BeginsWith bytes entries)
+says_record bytes answer fits is = (
   (λ yes. read_begins bytes (journal_at bytes) fits refl (sym is ∙ yes)),
   (λ given. is ∙ ap is_some (journal_again bytes given.0 given.1)),
 )

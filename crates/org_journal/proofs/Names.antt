@@ -19,17 +19,17 @@ differ_in (Some found) = Some (names_differ found.0)
 differ_in None = None
 
 -- where something was read, it is this
-abbrev pub Tells : Option Bool → Bool → Type 0
-Tells (Some b) answer = answer ≡ b
-Tells None answer = Unit {0}
+abbrev pub Agrees : Option Bool → Bool → Type 0
+Agrees (Some b) answer = answer ≡ b
+Agrees None answer = Unit {0}
 
-pub named_tells : (name : List ℕ) (read : Option (List Entry × List ℕ)) (answer : Bool) → Tells (named_in name read) answer → IfSome read (λ found. answer ≡ is_named name found.0)
-named_tells name (Some found) answer tells = tells
-named_tells name None answer tells = tt
+pub named_agrees : (name : List ℕ) (read : Option (List Entry × List ℕ)) (answer : Bool) → Agrees (named_in name read) answer → IfSome read (λ found. answer ≡ is_named name found.0)
+named_agrees name (Some found) answer says = says
+named_agrees name None answer says = tt
 
-pub differ_tells : (read : Option (List Entry × List ℕ)) (answer : Bool) → Tells (differ_in read) answer → IfSome read (λ found. answer ≡ names_differ found.0)
-differ_tells (Some found) answer tells = tells
-differ_tells None answer tells = tt
+pub differ_agrees : (read : Option (List Entry × List ℕ)) (answer : Bool) → Agrees (differ_in read) answer → IfSome read (λ found. answer ≡ names_differ found.0)
+differ_agrees (Some found) answer says = says
+differ_agrees None answer says = tt
 
 -- ---- one name
 
@@ -37,7 +37,7 @@ named_first : (name : List ℕ) (first : Entry) (read : Option (List Entry × Li
 named_first name first (Some found) other = rw other refl
 named_first name first None other = refl
 
-named_here : (name : List ℕ) (first : Entry) (read : Option (List Entry × List ℕ)) → bytes_eq first.name name ≡ true → Tells (named_in name (with_first first read)) true
+named_here : (name : List ℕ) (first : Entry) (read : Option (List Entry × List ℕ)) → bytes_eq first.name name ≡ true → Agrees (named_in name (with_first first read)) true
 named_here name first (Some found) same = rw same refl
 named_here name first None same = tt
 
@@ -48,21 +48,21 @@ named_next version count i bytes name other after total lt found differs so_far 
     sym (ap (named_in name) (entries_next version count i bytes first.0 after lt first.1) ∙ named_first name first.0 (entries_at version (count - (i + 1)) after) (ap (λ (n : List ℕ). bytes_eq n name) first.2 ∙ differs)) ∙ so_far
 
 pub named_found : (version : Version) (count i : ℕ) (bytes name other after : List ℕ) (total : Option Bool) → i < count → name_behind (entry_at version bytes) ≡ Some (other, after) → bytes_eq other name ≡ true
-    → named_in name (entries_at version (count - i) bytes) ≡ total → Tells total true
+    → named_in name (entries_at version (count - i) bytes) ≡ total → Agrees total true
 named_found version count i bytes name other after total lt found same so_far =
     let first = entry_of_name (entry_at version bytes) other after found in
     let here = named_here name first.0 (entries_at version (count - (i + 1)) after) (ap (λ (n : List ℕ). bytes_eq n name) first.2 ∙ same) in
-    subst (λ (t : Option Bool). Tells t true) (sym (ap (named_in name) (entries_next version count i bytes first.0 after lt first.1)) ∙ so_far) here
+    subst (λ (t : Option Bool). Agrees t true) (sym (ap (named_in name) (entries_next version count i bytes first.0 after lt first.1)) ∙ so_far) here
 
 pub named_stop : (version : Version) (count i : ℕ) (bytes name : List ℕ) (total : Option Bool) → i < count → name_behind (entry_at version bytes) ≡ None
-    → named_in name (entries_at version (count - i) bytes) ≡ total → Tells total false
+    → named_in name (entries_at version (count - i) bytes) ≡ total → Agrees total false
 named_stop version count i bytes name total lt found so_far =
-    subst (λ (t : Option Bool). Tells t false) (sym (ap (named_in name) (entries_stop version count i bytes lt (no_entry (entry_at version bytes) found))) ∙ so_far) tt
+    subst (λ (t : Option Bool). Agrees t false) (sym (ap (named_in name) (entries_stop version count i bytes lt (no_entry (entry_at version bytes) found))) ∙ so_far) tt
 
 pub named_end : (version : Version) (count i : ℕ) (bytes name : List ℕ) (total : Option Bool) → count ≤ i
-    → named_in name (entries_at version (count - i) bytes) ≡ total → Tells total false
+    → named_in name (entries_at version (count - i) bytes) ≡ total → Agrees total false
 named_end version count i bytes name total le so_far =
-    subst (λ (t : Option Bool). Tells t false) (sym (ap (named_in name) (entries_end version count i bytes le)) ∙ so_far) refl
+    subst (λ (t : Option Bool). Agrees t false) (sym (ap (named_in name) (entries_end version count i bytes le)) ∙ so_far) refl
 
 -- ---- all names
 
@@ -70,7 +70,7 @@ differ_first : (first : Entry) (read : Option (List Entry × List ℕ)) → IfSo
 differ_first first (Some found) other = rw (← other) refl
 differ_first first None other = refl
 
-differ_here : (first : Entry) (read : Option (List Entry × List ℕ)) → IfSome read (λ found. true ≡ is_named first.name found.0) → Tells (differ_in (with_first first read)) false
+differ_here : (first : Entry) (read : Option (List Entry × List ℕ)) → IfSome read (λ found. true ≡ is_named first.name found.0) → Agrees (differ_in (with_first first read)) false
 differ_here first (Some found) same = rw (← same) refl
 differ_here first None same = tt
 
@@ -85,19 +85,19 @@ differ_next version count i bytes name after total lt found other so_far =
 
 pub differ_found : (version : Version) (count i : ℕ) (bytes name after : List ℕ) (total : Option Bool) → i < count → name_behind (entry_at version bytes) ≡ Some (name, after)
     → IfSome (entries_at version (count - i - 1) after) (λ found. true ≡ is_named name found.0)
-    → differ_in (entries_at version (count - i) bytes) ≡ total → Tells total false
+    → differ_in (entries_at version (count - i) bytes) ≡ total → Agrees total false
 differ_found version count i bytes name after total lt found same so_far =
     let first = entry_of_name (entry_at version bytes) name after found in
     let left : count - i - 1 ≡ count - (i + 1) = omega arith in
     let there : IfSome (entries_at version (count - (i + 1)) after) (λ found. true ≡ is_named first.0.name found.0) = rw (first.2, ← left) same in
-    subst (λ (t : Option Bool). Tells t false) (sym (ap differ_in (entries_next version count i bytes first.0 after lt first.1)) ∙ so_far) (differ_here first.0 (entries_at version (count - (i + 1)) after) there)
+    subst (λ (t : Option Bool). Agrees t false) (sym (ap differ_in (entries_next version count i bytes first.0 after lt first.1)) ∙ so_far) (differ_here first.0 (entries_at version (count - (i + 1)) after) there)
 
 pub differ_stop : (version : Version) (count i : ℕ) (bytes : List ℕ) (total : Option Bool) → i < count → name_behind (entry_at version bytes) ≡ None
-    → differ_in (entries_at version (count - i) bytes) ≡ total → Tells total false
+    → differ_in (entries_at version (count - i) bytes) ≡ total → Agrees total false
 differ_stop version count i bytes total lt found so_far =
-    subst (λ (t : Option Bool). Tells t false) (sym (ap differ_in (entries_stop version count i bytes lt (no_entry (entry_at version bytes) found))) ∙ so_far) tt
+    subst (λ (t : Option Bool). Agrees t false) (sym (ap differ_in (entries_stop version count i bytes lt (no_entry (entry_at version bytes) found))) ∙ so_far) tt
 
 pub differ_end : (version : Version) (count i : ℕ) (bytes : List ℕ) (total : Option Bool) → count ≤ i
-    → differ_in (entries_at version (count - i) bytes) ≡ total → Tells total true
+    → differ_in (entries_at version (count - i) bytes) ≡ total → Agrees total true
 differ_end version count i bytes total le so_far =
-    subst (λ (t : Option Bool). Tells t true) (sym (ap differ_in (entries_end version count i bytes le)) ∙ so_far) refl
+    subst (λ (t : Option Bool). Agrees t true) (sym (ap differ_in (entries_end version count i bytes le)) ∙ so_far) refl

@@ -86,7 +86,7 @@ number_again n x rest lt =
 -- what is read of the bytes in front, and the rest
 
 pub number_is : (n : ℕ) (bytes : List ℕ) (x : ℕ) → n ≤ length bytes → x ≡ big_number n bytes → number_at n bytes ≡ Some (x, take (length bytes - n) (drop n bytes))
-number_is n bytes x long told = rw (le-ltb _ _ long, told, take_all (length bytes - n) (drop n bytes) (omega (arith, length-drop n bytes))) refl
+number_is n bytes x long reported = rw (le-ltb _ _ long, reported, take_all (length bytes - n) (drop n bytes) (omega (arith, length-drop n bytes))) refl
 
 -- ---- bytes behind their count
 

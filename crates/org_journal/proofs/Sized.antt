@@ -20,6 +20,6 @@ module _ (header journal : List ℕ) (total : ℕ) (long : 16 ≤ total) (front 
   pub open_here : get_or header 0 0 ≡ 1 → is_open journal ≡ true
   open_here one = rw (le-leb _ _ longer, sym first ∙ one) refl
 
-  module _ (size : ℕ) (whole : length header ≡ front_size) (told : size ≡ big_number 8 (take (length header - 8) (drop 8 header))) where
+  module _ (size : ℕ) (whole : length header ≡ front_size) (reported : size ≡ big_number 8 (take (length header - 8) (drop 8 header))) where
     pub size_here : size ≡ record_size journal
-    size_here = told ∙ big_from-take 0 8 (length header - 8) (drop 8 header) (omega arith) ∙ ap (λ (l : List ℕ). big_number 8 (drop 8 l)) front ∙ ap (big_number 8) (drop-take 8 8 journal) ∙ big_from-take 0 8 8 (drop 8 journal) (omega arith)
+    size_here = reported ∙ big_from-take 0 8 (length header - 8) (drop 8 header) (omega arith) ∙ ap (λ (l : List ℕ). big_number 8 (drop 8 l)) front ∙ ap (big_number 8) (drop-take 8 8 journal) ∙ big_from-take 0 8 8 (drop 8 journal) (omega arith)

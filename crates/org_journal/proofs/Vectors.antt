@@ -40,20 +40,20 @@ image_of : List ℕ → List ℕ → Image
 image_of journal text name = if bytes_eq name journal_name then journal else if bytes_eq name (codes "inbox.org") then text else []
 
 -- what the image recovers to, of inbox.org
-recovered_told : List ℕ → List ℕ → Option (List ℕ)
-recovered_told journal text = elim (recovered (image_of journal text)) [ Some files ↦ Some (files (codes "inbox.org")) | None ↦ None ]
+recovered_reported : List ℕ → List ℕ → Option (List ℕ)
+recovered_reported journal text = elim (recovered (image_of journal text)) [ Some files ↦ Some (files (codes "inbox.org")) | None ↦ None ]
 
-old_open : recovered_told (1 ∷ old_journal) [] ≡ Some call_ann
-unfolding inbox call_ann entry old_journal image_of recovered_told is_utf8 chars encode counted_at name_at old_entry_at entry_at entries_at count_at record_at header_at journal_at
+old_open : recovered_reported (1 ∷ old_journal) [] ≡ Some call_ann
+unfolding inbox call_ann entry old_journal image_of recovered_reported is_utf8 chars encode counted_at name_at old_entry_at entry_at entries_at count_at record_at header_at journal_at
 old_open = refl
 
-old_closed : recovered_told (0 ∷ old_journal) (42 ∷ []) ≡ Some (42 ∷ [])
-unfolding inbox call_ann entry old_journal image_of recovered_told is_utf8 chars encode counted_at name_at old_entry_at entry_at entries_at count_at record_at header_at journal_at
+old_closed : recovered_reported (0 ∷ old_journal) (42 ∷ []) ≡ Some (42 ∷ [])
+unfolding inbox call_ann entry old_journal image_of recovered_reported is_utf8 chars encode counted_at name_at old_entry_at entry_at entries_at count_at record_at header_at journal_at
 old_closed = refl
 
 -- an open journal without its last byte is bad
-short_open : recovered_told (1 ∷ take 69 old_journal) [] ≡ None
-unfolding inbox call_ann entry old_journal image_of recovered_told is_utf8 chars encode counted_at name_at patch_at patches_at head_at old_entry_at entry_at entries_at count_at record_at header_at journal_at
+short_open : recovered_reported (1 ∷ take 69 old_journal) [] ≡ None
+unfolding inbox call_ann entry old_journal image_of recovered_reported is_utf8 chars encode counted_at name_at patch_at patches_at head_at old_entry_at entry_at entries_at count_at record_at header_at journal_at
 short_open = refl
 
 -- an entry of version 1 that lays the bytes from 1 on, of a file of 17 bytes
@@ -61,17 +61,17 @@ late_entry : Entry
 late_entry = record { name = inbox; length = 17; patches = record { from = 1; bytes = call_ann } ∷ [] }
 
 -- it doesn't fit a file that is absent
-late_absent : recovered_told (1 ∷ journal_bytes One (late_entry ∷ [])) [] ≡ None
-unfolding late_entry inbox call_ann entry old_journal image_of recovered_told is_utf8 chars encode counted_at name_at patch_at patches_at head_at old_entry_at entry_at entries_at count_at record_at header_at journal_at
+late_absent : recovered_reported (1 ∷ journal_bytes One (late_entry ∷ [])) [] ≡ None
+unfolding late_entry inbox call_ann entry old_journal image_of recovered_reported is_utf8 chars encode counted_at name_at patch_at patches_at head_at old_entry_at entry_at entries_at count_at record_at header_at journal_at
 late_absent = refl
 
-late_one_byte : recovered_told (1 ∷ journal_bytes One (late_entry ∷ [])) (97 ∷ []) ≡ Some (97 ∷ call_ann)
-unfolding late_entry inbox call_ann entry old_journal image_of recovered_told is_utf8 chars encode counted_at name_at patch_at patches_at head_at old_entry_at entry_at entries_at count_at record_at header_at journal_at
+late_one_byte : recovered_reported (1 ∷ journal_bytes One (late_entry ∷ [])) (97 ∷ []) ≡ Some (97 ∷ call_ann)
+unfolding late_entry inbox call_ann entry old_journal image_of recovered_reported is_utf8 chars encode counted_at name_at patch_at patches_at head_at old_entry_at entry_at entries_at count_at record_at header_at journal_at
 late_one_byte = refl
 
 -- two entries of one name
 doubled : journal_at (journal_bytes One (entry ∷ entry ∷ [])) ≡ None
-unfolding inbox call_ann entry old_journal image_of recovered_told is_utf8 chars encode counted_at name_at patch_at patches_at head_at old_entry_at entry_at entries_at count_at record_at header_at journal_at
+unfolding inbox call_ann entry old_journal image_of recovered_reported is_utf8 chars encode counted_at name_at patch_at patches_at head_at old_entry_at entry_at entries_at count_at record_at header_at journal_at
 doubled = refl
 
 -- what follows the gate, in version 2
@@ -83,22 +83,22 @@ new_journal =
     0x2a ∷ 0x20 ∷ 0x54 ∷ 0x4f ∷ 0x44 ∷ 0x4f ∷ 0x20 ∷ 0x43 ∷ 0x61 ∷ 0x6c ∷ 0x6c ∷ 0x20 ∷ 0x41 ∷ 0x6e ∷ 0x6e ∷ 0x0a ∷ []
 
 new_bytes : journal_bytes Two (entry ∷ []) ≡ new_journal
-unfolding new_journal inbox call_ann entry old_journal image_of recovered_told is_utf8 chars encode counted_at name_at patch_at patches_at head_at old_entry_at entry_at entries_at count_at record_at header_at journal_at
+unfolding new_journal inbox call_ann entry old_journal image_of recovered_reported is_utf8 chars encode counted_at name_at patch_at patches_at head_at old_entry_at entry_at entries_at count_at record_at header_at journal_at
 new_bytes = refl
 
-new_open : recovered_told (1 ∷ new_journal) [] ≡ Some call_ann
-unfolding new_journal inbox call_ann entry old_journal image_of recovered_told is_utf8 chars encode counted_at name_at patch_at patches_at head_at old_entry_at entry_at entries_at count_at record_at header_at journal_at
+new_open : recovered_reported (1 ∷ new_journal) [] ≡ Some call_ann
+unfolding new_journal inbox call_ann entry old_journal image_of recovered_reported is_utf8 chars encode counted_at name_at patch_at patches_at head_at old_entry_at entry_at entries_at count_at record_at header_at journal_at
 new_open = refl
 
 -- an entry of two patches, applied to a file of eight bytes
 two_patches : List ℕ → Entry
 two_patches last = record { name = inbox; length = 8; patches = record { from = 2; bytes = 67 ∷ [] } ∷ record { from = 6; bytes = last } ∷ [] }
 
-two_open : recovered_told (1 ∷ journal_bytes Two (two_patches (68 ∷ []) ∷ [])) (codes "* A.* B.") ≡ Some (codes "* C.* D.")
-unfolding two_patches inbox call_ann entry old_journal image_of recovered_told is_utf8 chars encode counted_at name_at patch_at patches_at head_at old_entry_at entry_at entries_at count_at record_at header_at journal_at
+two_open : recovered_reported (1 ∷ journal_bytes Two (two_patches (68 ∷ []) ∷ [])) (codes "* A.* B.") ≡ Some (codes "* C.* D.")
+unfolding two_patches inbox call_ann entry old_journal image_of recovered_reported is_utf8 chars encode counted_at name_at patch_at patches_at head_at old_entry_at entry_at entries_at count_at record_at header_at journal_at
 two_open = refl
 
 -- of two patches none may be empty
 two_empty : journal_at (journal_bytes Two (two_patches [] ∷ [])) ≡ None
-unfolding two_patches inbox call_ann entry old_journal image_of recovered_told is_utf8 chars encode counted_at name_at patch_at patches_at head_at old_entry_at entry_at entries_at count_at record_at header_at journal_at
+unfolding two_patches inbox call_ann entry old_journal image_of recovered_reported is_utf8 chars encode counted_at name_at patch_at patches_at head_at old_entry_at entry_at entries_at count_at record_at header_at journal_at
 two_empty = refl

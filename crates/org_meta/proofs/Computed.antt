@@ -17,28 +17,28 @@ module _ (now : Moment) where
   matched_first true a b x A one is = one is
   matched_first false a b x A one is = sym is
 
-  told : (e : PlanningEntry) (r : Result (List ℕ) Refusal) (q : Result StampValue Refusal) → repeated e.stamp now ≡ q
+  reported : (e : PlanningEntry) (r : Result (List ℕ) Refusal) (q : Result StampValue Refusal) → repeated e.stamp now ≡ q
       → MatchResult q (λ s. r ≡ Ok (entry_with e s)) (λ why. r ≡ Err why) → result_map_both (entry_with e) (λ why. why) (repeated e.stamp now) ≡ r
-  told e r (Ok s) same is = ap (result_map_both (entry_with e) (λ (why : Refusal). why)) same ∙ sym is
-  told e r (Err fault) same is = ap (result_map_both (entry_with e) (λ (why : Refusal). why)) same ∙ sym is
+  reported e r (Ok s) same is = ap (result_map_both (entry_with e) (λ (why : Refusal). why)) same ∙ sym is
+  reported e r (Err fault) same is = ap (result_map_both (entry_with e) (λ (why : Refusal). why)) same ∙ sym is
 
   entry_computed : (e : PlanningEntry) (r : Result (List ℕ) Refusal) → IsRepeatedEntry e now r → repeated_entry now e ≡ r
   entry_computed e r is =
       let made = result_map_both (entry_with e) (λ why. why) (repeated e.stamp now) in
-      let Told : Type 0 = (q : Result StampValue Refusal) × IsRepeated e.stamp now q × MatchResult q (λ s. r ≡ Ok (entry_with e s)) (λ why. r ≡ Err why) in
-      matched (is_closed e) (Ok []) (if is_repeating e then made else Ok (entry_text e)) r (MatchBool (is_repeating e) Told (r ≡ Ok (entry_text e)))
-      (λ rest. matched_first (is_repeating e) made (Ok (entry_text e)) r Told (λ (q, repeats, is). told e r q (sym repeats) is) rest) is
+      let Reported : Type 0 = (q : Result StampValue Refusal) × IsRepeated e.stamp now q × MatchResult q (λ s. r ≡ Ok (entry_with e s)) (λ why. r ≡ Err why) in
+      matched (is_closed e) (Ok []) (if is_repeating e then made else Ok (entry_text e)) r (MatchBool (is_repeating e) Reported (r ≡ Ok (entry_text e)))
+      (λ rest. matched_first (is_repeating e) made (Ok (entry_text e)) r Reported (λ (q, repeats, is). reported e r q (sym repeats) is) rest) is
 
-  all_told : (e : PlanningEntry) (es : List PlanningEntry) (r : Result (List ℕ) Refusal) (first : Result (List ℕ) Refusal) → repeated_entry now e ≡ first
+  all_reported : (e : PlanningEntry) (es : List PlanningEntry) (r : Result (List ℕ) Refusal) (first : Result (List ℕ) Refusal) → repeated_entry now e ≡ first
       → ((more : Result (List ℕ) Refusal) → AreRepeated es now more → repeated_entries now es ≡ more)
       → MatchResult first (λ text. (more : Result (List ℕ) Refusal) × AreRepeated es now more × (r ≡ behind_text text more)) (λ fault. r ≡ Err fault) → repeated_entries now (e ∷ es) ≡ r
-  all_told e es r (Ok text) same computed (more, are, is) = ap (λ (f : Result (List ℕ) Refusal). behind_first f (repeated_entries now es)) same ∙ ap (behind_text text) (computed more are) ∙ sym is
-  all_told e es r (Err fault) same computed is = ap (λ (f : Result (List ℕ) Refusal). behind_first f (repeated_entries now es)) same ∙ sym is
+  all_reported e es r (Ok text) same computed (more, are, is) = ap (λ (f : Result (List ℕ) Refusal). behind_first f (repeated_entries now es)) same ∙ ap (behind_text text) (computed more are) ∙ sym is
+  all_reported e es r (Err fault) same computed is = ap (λ (f : Result (List ℕ) Refusal). behind_first f (repeated_entries now es)) same ∙ sym is
 
   pub entries_computed : (es : List PlanningEntry) (r : Result (List ℕ) Refusal) → AreRepeated es now r → repeated_entries now es ≡ r
   entries_computed [] r is = sym is
   entries_computed (e ∷ es) r (first, one, rest) =
-      all_told e es r first (entry_computed e first one) (λ more are. entries_computed es more are) rest
+      all_reported e es r first (entry_computed e first one) (λ more are. entries_computed es more are) rest
 
   -- the text of an entry, by whether it is CLOSED and whether it repeats
   abbrev made : PlanningEntry → Bool → Bool → Result (List ℕ) Refusal

@@ -11,9 +11,9 @@ use Rattle.org_program.specs.declared.fault.Fault.{Fault}
 use Rattle.org_program.specs.declared.fault.Fault.TheVariants.{Usage, BadName, BadStates, Locked, SameFile, Open, Ended}
 
 -- what a `?` passed on is the fault that it says
-pub passed_told : {A E : Type 0} (e : E) (P : E → Type 0) (answer : Result A E) → IsErrAnd answer (λ y. y ≡ e) → P e → IfErr answer P
-passed_told e P (Ok x) is held = absurd is
-passed_told e P (Err f) is held = subst P (sym is) held
+pub passed_reported : {A E : Type 0} (e : E) (P : E → Type 0) (answer : Result A E) → IsErrAnd answer (λ y. y ≡ e) → P e → IfErr answer P
+passed_reported e P (Ok x) is held = absurd is
+passed_reported e P (Err f) is held = subst P (sym is) held
 
 -- the cause that some names are, for all of which it is the first bad one
 pub of_all : (some all : List (List ℕ)) → ((found : List ℕ) → first_bad some ≡ Some found → first_bad all ≡ Some found)
@@ -24,7 +24,7 @@ of_all some all first (Open refused.Device) is = is
 of_all some all first (Open refused.TooManyFiles) is = is
 of_all some all first (Open refused.BadJournal) is = is
 of_all some all first (Open (refused.TooLarge name)) is = is
-of_all some all first (Usage told) is = is
+of_all some all first (Usage reported) is = is
 of_all some all first BadStates is = is
 of_all some all first Locked is = is
 of_all some all first (SameFile name) is = is

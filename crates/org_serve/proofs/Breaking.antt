@@ -32,7 +32,7 @@ pub breaks_by_count : {D : Type 0} {g : Ghosts D} {disk new : D} (store after : 
     → (IsTrue after.session.broken → HasRisen (g.failures disk) (g.failures new)) × (IsFalse after.session.broken → g.failures new ≡ g.failures disk)
 breaks_by_count {D} {g = g} {disk = disk} store after opened served sound is = grind (arith, common_steps)
 
--- a store that was opened and served, as its disk's count tells it
+-- a store that was opened and served, by its disk's count
 pub served_accounts : {D : Type 0} {g : Ghosts D} {disk new : D} (end : ServeEnd) (store after : StoreView D)
     → CountsFailures g disk store.disk ⊥ → CountsFailures g store.disk after.disk (HasBroken store.session after.session)
     → store.session.broken ≡ false → EndSaysBroken end after.session → new ≡ after.disk
@@ -72,8 +72,8 @@ pub write_unread : Write ≡ Read → ⊥
 write_unread is = cc is
 
 -- how an input ends of which a line isn't done
-pub refused_told : (s : Session) (end : ServeEnd) → end ≡ refused_end s → (end ≢ Read) × (end ≢ Write)
-refused_told s end is = subst (λ e. (e ≢ Read) × (e ≢ Write)) (sym is) (by_broken s.broken)
+pub refused_reported : (s : Session) (end : ServeEnd) → end ≡ refused_end s → (end ≢ Read) × (end ≢ Write)
+refused_reported s end is = subst (λ e. (e ≢ Read) × (e ≢ Write)) (sym is) (by_broken s.broken)
   where
     by_broken : (broken : Bool) → ((if broken then Device else Unsettled) ≢ Read) × ((if broken then Device else Unsettled) ≢ Write)
     by_broken true = (λ e. absurd (cc), λ e. absurd (cc))

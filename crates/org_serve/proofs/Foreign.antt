@@ -28,7 +28,7 @@ use Rattle.org_serve.specs.Whole.{IsForeign, LeavesForeign, ServesOver}
 use Rattle.org_serve.proofs.Honest.{sound_traced, sound_traces, up_to}
 
 module _ {D : Type 0} (g : Ghosts D) where
-  -- a store whose waiting files are its own
+  -- a store whose dirty files are its own
   abbrev Ready : Trace D → Type 0
   Ready past = AreNames past.store.session.names past.store.dirty
 

@@ -167,6 +167,6 @@ pub passed_never : {A E : Type 0} (P : E → Type 0) (Q : Type 0) (answer : Resu
 passed_never P Q (Ok x) is = absurd is
 passed_never P Q (Err e) is = tt
 
-pub passed_told : {A E : Type 0} (e : E) (P : E → Type 0) (answer : Result A E) → IsErrAnd answer (λ y. y ≡ e) → P e → IfErr answer P
-passed_told e P (Ok x) is held = absurd is
-passed_told e P (Err f) is held = subst P (sym is) held
+pub passed_reported : {A E : Type 0} (e : E) (P : E → Type 0) (answer : Result A E) → IsErrAnd answer (λ y. y ≡ e) → P e → IfErr answer P
+passed_reported e P (Ok x) is held = absurd is
+passed_reported e P (Err f) is held = subst P (sym is) held

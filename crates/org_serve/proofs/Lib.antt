@@ -23,7 +23,7 @@ mod Places
 mod Settled
 mod Opened
 mod Times
-mod Told
+mod Reported
 mod Listed
 mod Again
 mod Files

@@ -202,13 +202,13 @@ module _ {D : Type 0} {g : Ghosts D}
       end_of_all : (group : Group) → ServesAll group model served.first.store.session end served.last.store.session io
           → (served.last.store.session.broken ≡ false) × (served.last.store.session.accepted ≤ served.last.store.session.acknowledged)
       end_of_all (Of size) all =
-          let tells = all.4 in
-          let finish : FinishesGroups model tells.0 End tells.3 served.last.store.session = subst (λ e. FinishesGroups model tells.0 e tells.3 served.last.store.session) well tells.6 in
-          ended tells.0.broken (nat_lt tells.0.acknowledged tells.0.accepted) tells.0 tells.3 served.last.store.session finish refl (not_less tells.0.acknowledged tells.0.accepted)
+          let says = all.4 in
+          let finish : FinishesGroups model says.0 End says.3 served.last.store.session = subst (λ e. FinishesGroups model says.0 e says.3 served.last.store.session) well says.6 in
+          ended says.0.broken (nat_lt says.0.acknowledged says.0.accepted) says.0 says.3 served.last.store.session finish refl (not_less says.0.acknowledged says.0.accepted)
       end_of_all Whole all =
-          let tells = all.4 in
-          let whole = ended_whole (cut all.0).rest tells.0 (sym well ∙ tells.6.0) in
-          subst (λ (t : Session). (t.broken ≡ false) × (t.accepted ≤ t.acknowledged)) (sym tells.6.2) whole
+          let says = all.4 in
+          let whole = ended_whole (cut all.0).rest says.0 (sym well ∙ says.6.0) in
+          subst (λ (t : Session). (t.broken ≡ false) × (t.accepted ≤ t.acknowledged)) (sym says.6.2) whole
 
       all_of : (group : Group) → ServesInput group model served.first.store.session end served.last.store.session io
           → (served.last.store.session.broken ≡ false) × (served.last.store.session.accepted ≤ served.last.store.session.acknowledged)

@@ -35,7 +35,7 @@ use Rattle.org_commands.specs.Files.{has_large}
 use Rattle.org_commands.specs.InOrder.{AreNames, is_name, text_at, with_all}
 use Rattle.org_commands.specs.Refile.{text_within, texts_across}
 use Rattle.org_commands.specs.Session.{Session}
-use Rattle.org_commands.specs.Outcome.{Accepts, AsksToSettle, Outcome, Refuses, Shows, Tells, written, changed, with_document, with_entry, capture, refile, with_moved, with_minutes, with_replaced, with_state, time, todo, edit, with_clock_moved, clock_in_beside, clock_in, clock_out, archive_to, archive_at, archive, show, outcome}
+use Rattle.org_commands.specs.Outcome.{Accepts, AsksToSettle, Outcome, Refuses, Shows, Reports, written, changed, with_document, with_entry, capture, refile, with_moved, with_minutes, with_replaced, with_state, time, todo, edit, with_clock_moved, clock_in_beside, clock_in, clock_out, archive_to, archive_at, archive, show, outcome}
 
 -- texts of which none is past the limit
 abbrev pub AreWithin : List (List ℕ × List ℕ) → Type 0
@@ -221,7 +221,7 @@ written_named s command = go (outcome s command) refl
     go : (does : Outcome) → outcome s command ≡ does → AreNames s.names (written does)
     go (Refuses why) is = tt
     go (Shows text) is = tt
-    go (Tells minutes) is = tt
+    go (Reports minutes) is = tt
     go AsksToSettle is = tt
     go (Accepts touched files) is = elim (command_changes s command) [
       | inl makes ↦ let so = changed_accepts s makes.0 touched files (sym makes.2 ∙ is) in subst (AreNames s.names) (sym so.1) makes.1

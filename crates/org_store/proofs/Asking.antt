@@ -39,7 +39,7 @@ use Rattle.org_commands.specs.Refile.{text_within, texts_across}
 use Rattle.org_store.specs.Left.{PutsOnDisk}
 use Rattle.org_commands.specs.Session.{Session}
 use Rattle.org_commands.specs.Step.{Step, done, fills}
-use Rattle.org_commands.specs.Outcome.{Accepts, AsksToSettle, Outcome, Refuses, Shows, Tells, changed, with_document, with_entry, capture, refile, with_moved, with_minutes, with_replaced, with_state, time, todo, edit, with_clock_moved, clock_in_beside, clock_in, clock_out, archive_to, archive_at, archive, show, outcome}
+use Rattle.org_commands.specs.Outcome.{Accepts, AsksToSettle, Outcome, Refuses, Shows, Reports, changed, with_document, with_entry, capture, refile, with_moved, with_minutes, with_replaced, with_state, time, todo, edit, with_clock_moved, clock_in_beside, clock_in, clock_out, archive_to, archive_at, archive, show, outcome}
 
 -- it isn't to settle
 abbrev IsElse : Outcome → Type 0
@@ -170,7 +170,7 @@ pub puts_settled : (s : Session) (does : Outcome) (accepted : ℕ) (texts : List
 puts_settled s (Accepts names files) accepted texts whole puts = absurd (false≢true (sym (never_full s whole) ∙ puts.1))
 puts_settled s AsksToSettle accepted texts whole puts = (refl, puts)
 puts_settled s (Shows text) accepted texts whole puts = absurd puts
-puts_settled s (Tells minutes) accepted texts whole puts = absurd puts
+puts_settled s (Reports minutes) accepted texts whole puts = absurd puts
 puts_settled s (Refuses why) accepted texts whole puts = absurd puts
 
 -- What is acknowledged after a command: what was so before, or, where it is to settle, all that was

@@ -26,11 +26,11 @@ any_back : (dirty more : List (List ℕ)) (name : List ℕ) → is_listed more n
 any_back [] more name there = there
 any_back (one ∷ dirty) more name there = elim (cases_Bool (bytes_eq name one)) [ inl t ↦ rw t refl | inr f ↦ rw f (any_back dirty more name there) ]
 
--- none waits, whatever was changed
+-- none is dirty, whatever was changed
 pub dirties_none : (old names : List (List ℕ)) → Dirties old names []
 dirties_none old names name there = absurd (false≢true there)
 
--- those of before wait
+-- those of before are dirty
 pub dirties_same : (old names : List (List ℕ)) → Dirties old names old
 dirties_same old names name there = any_front old names name there
 
@@ -38,11 +38,11 @@ pub names_in : (set : TextSet) (names : List (List ℕ)) → map (λ change. cha
 names_in set [] = refl
 names_in set (name ∷ names) = ap (λ ns. name ∷ ns) (names_in set names)
 
--- a plan's files join those that waited before the command
+-- a plan's files join those that were dirty before the command
 pub dirties_planned : (plan : Plan) (held : Holding) → AreTouched (files_of plan) held → Dirties held.before.dirty (files_of plan) (planned plan held.now).dirty
 dirties_planned plan held touched name there = grind (arith, common_steps, cases_Bool, any_back, named_any, any_front, plan_other)
 
--- what none of them is, no file is that waits now
+-- what none of them is, no file is that is dirty now
 pub other_joined : (old names now : List (List ℕ)) → Dirties old names now → (name : List ℕ) → IsOther (old ++ names) name → IsOther now name
 other_joined old names [] dirties name other = tt
 other_joined old names (first ∷ now) dirties name other = go (old ++ names) refl other

@@ -1,4 +1,4 @@
--- The list of texts by which a run is told: what a command adds to it, and what of a session stands
+-- The list of texts that describes a run: what a command adds to it, and what of a session stands
 -- in it.
 use Rattle.std.proofs.Common.{◌≡◌, ◌⊎◌, inl, inr, ⊎_elim, ℕ, zero, suc, ◌+◌, ◌<◌, false, List, [], ◌∷◌, ◌++◌, length, Option, Some, None, Result, Ok, Err, refl, sym, ap, ◌∙◌, subst, arith}
 use Rattle.std.proofs.lemmas.Grind.{common_steps}
@@ -11,7 +11,7 @@ use Rattle.org_commands.specs.declared.command.Reply.TheVariants.{Done, Safe, Te
 use Rattle.org_commands.specs.declared.command.RunFault.{RunFault}
 use Rattle.org_commands.specs.declared.command.RunFault.TheVariants.{Refused, OutOfMemory, Device, Broken}
 use Rattle.org_store.specs.History.{Trace, Adds, Lists}
-use Rattle.org_commands.specs.Outcome.{IsAccepted, Outcome, Accepts, Shows, Tells, AsksToSettle, Refuses, outcome}
+use Rattle.org_commands.specs.Outcome.{IsAccepted, Outcome, Accepts, Shows, Reports, AsksToSettle, Refuses, outcome}
 use Rattle.org_commands.specs.Session.{Session}
 use Rattle.org_commands.specs.Step.{Step, Settles, fills, done, settled}
 use Rattle.org_store.proofs.Runs.{done_accepted, done_files}
@@ -33,7 +33,7 @@ pub at_end : (some : Texts) (files : List (List ℕ)) → slice_get (some ++ fil
 at_end [] files = refl
 at_end (one ∷ some) files = at_end some files
 
-pub same_accepted : {told : Outcome} (files more : List (List ℕ)) → IsAccepted told files → IsAccepted told more → files ≡ more
+pub same_accepted : {reported : Outcome} (files more : List (List ℕ)) → IsAccepted reported files → IsAccepted reported more → files ≡ more
 same_accepted files more one other = let same : Accepts one.0 files ≡ Accepts other.0 more = sym one.1 ∙ other.1 in cc
 
 pub done_broken : (s : Session) (files : List (List ℕ)) → (done s files).broken ≡ s.broken
@@ -44,17 +44,17 @@ done_broken s files = elim (cases_Bool (fills s)) [ inl t ↦ rw t refl | inr f 
 abbrev pub texts_after : Outcome → ℕ → ℕ → Texts → Texts
 texts_after (Accepts names files) before now texts = if nat_eq now before then texts else texts ++ files ∷ []
 texts_after (Shows text) before now texts = texts
-texts_after (Tells minutes) before now texts = texts
+texts_after (Reports minutes) before now texts = texts
 texts_after AsksToSettle before now texts = texts
 texts_after (Refuses why) before now texts = texts
 
-adds_one : (told : Outcome) (files : List (List ℕ)) (before now : ℕ) (texts : Texts) → IsAccepted told files → now ≡ before + 1 → Adds told before now texts (texts_after told before now texts)
-adds_one told files before now texts accepts risen = grind (arith, common_steps)
+adds_one : (reported : Outcome) (files : List (List ℕ)) (before now : ℕ) (texts : Texts) → IsAccepted reported files → now ≡ before + 1 → Adds reported before now texts (texts_after reported before now texts)
+adds_one reported files before now texts accepts risen = grind (arith, common_steps)
 
-adds_none : (told : Outcome) (before now : ℕ) (texts : Texts) → now ≡ before → Adds told before now texts (texts_after told before now texts)
+adds_none : (reported : Outcome) (before now : ℕ) (texts : Texts) → now ≡ before → Adds reported before now texts (texts_after reported before now texts)
 adds_none (Accepts names files) before now texts same = grind (arith, common_steps)
 adds_none (Shows text) before now texts same = inl (same, refl)
-adds_none (Tells minutes) before now texts same = inl (same, refl)
+adds_none (Reports minutes) before now texts same = inl (same, refl)
 adds_none AsksToSettle before now texts same = inl (same, refl)
 adds_none (Refuses why) before now texts same = inl (same, refl)
 
@@ -77,8 +77,8 @@ lists_same old new texts more same is lists = subst (λ s. Lists s more) (sym sa
 pub none_added : (outcome : Outcome) (before now : ℕ) (old new : Texts) → Adds outcome before now old new → now ≡ before → new ≡ old
 none_added outcome before now old new added same = elim added [ inl none ↦ none.1 | inr one ↦ absurd (omega (arith, one.0, same)) ]
 
-lists_done : (old : Session) (told : Outcome) (files : List (List ℕ)) (texts more : Texts) → IsAccepted told files → Adds told old.accepted (done old files).accepted texts more → Lists old texts → Lists (done old files) more
-lists_done old told files texts more accepted added lists = grind (arith, common_steps, done_accepted, same_accepted, at_end, done, cases_Bool, fills, length-append, settled, begin_append)
+lists_done : (old : Session) (reported : Outcome) (files : List (List ℕ)) (texts more : Texts) → IsAccepted reported files → Adds reported old.accepted (done old files).accepted texts more → Lists old texts → Lists (done old files) more
+lists_done old reported files texts more accepted added lists = grind (arith, common_steps, done_accepted, same_accepted, at_end, done, cases_Bool, fills, length-append, settled, begin_append)
 
 lists_settled : (old new : Session) (texts : Texts) → old.broken ≡ false → new ≡ settled old → Lists old texts → Lists new texts
 lists_settled old new texts sound is lists =

@@ -9,16 +9,16 @@ use Rattle.org_commands.specs.Files.{has_large}
 use Rattle.org_commands.specs.InOrder.{texts_of, with_all, with_texts}
 use Rattle.org_commands.specs.Session.{Session, Holds}
 use Rattle.org_commands.specs.Outcome.{Refuses, changed, counted, Outcome}
-use Rattle.org_commands.proofs.InOrder.{told_by_texts, holds_told}
+use Rattle.org_commands.proofs.InOrder.{reported_by_texts, holds_reported}
 use Rattle.org_commands.specs.declared.command.RunFault.{RunFault}
 use Rattle.org_store.specs.Left.{IsLeft, MayHaveWritten}
 
 -- what a crash leaves of files at rest
 pub at_rest_holds : (s : Session) (files : List ℕ → FileState) → IsAtRest files → (image : Image) → AreImages files image → Holds s (contents files) (texts_of (contents files) s.names) image
-at_rest_holds s files rest image left = holds_told s.names (contents files) (contents files) image (λ name outside. refl) (at_rest_recovers files rest image left)
+at_rest_holds s files rest image left = holds_reported s.names (contents files) (contents files) image (λ name outside. refl) (at_rest_recovers files rest image left)
 
 pub others_same : (names : List (List ℕ)) (files : Image) → SameFiles files (with_texts names (texts_of files names) files)
-others_same names files name not = told_by_texts names files files name (λ outside. refl)
+others_same names files name not = reported_by_texts names files files name (λ outside. refl)
 
 -- files that no call wrote, and the store's texts of them
 pub others_unwritten : (names : List (List ℕ)) (settled : List (List ℕ)) (old new : List ℕ → FileState) → settled ≡ texts_of (contents new) names → new ≡ old

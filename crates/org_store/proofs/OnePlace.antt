@@ -80,8 +80,8 @@ pub accepted_keeps : (s : Session) (command : Command) (files : List (List ℕ))
     → HaveSameNodes files s.files
 accepted_keeps s command files apart small is accepts rest section =
     let it = is.0 in
-    let told = subst (λ (c : Command). outcome s c ≡ Accepts accepts.0 files) is.1 accepts.1 in
-    refile_keeps s apart small.one_each rest section it.file it.path it.to_file it.to_path it.place (text_at s.names s.files it.file) (text_at s.names s.files it.to_file) files refl refl told
+    let reported = subst (λ (c : Command). outcome s c ≡ Accepts accepts.0 files) is.1 accepts.1 in
+    refile_keeps s apart small.one_each rest section it.file it.path it.to_file it.to_path it.place (text_at s.names s.files it.file) (text_at s.names s.files it.to_file) files refl refl reported
 
 then_keeps : (old mid new : Session) → HaveSameNodes new.files mid.files → HaveSameNodes mid.files old.files → HaveSameNodes new.files old.files
 then_keeps old mid new later first rest section = later rest section ∙ first rest section

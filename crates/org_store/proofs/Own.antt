@@ -17,7 +17,7 @@ use Rattle.org_store.specs.Calls.Call.{Ran, Settled, Grouped}
 use Rattle.org_store.specs.History.{Trace}
 use Rattle.org_commands.specs.InOrder.{AreNames, is_name}
 use Rattle.org_store.specs.Left.{IsApart, IsLeftAlone, IsSpared}
-use Rattle.org_commands.specs.Outcome.{Outcome, Accepts, AsksToSettle, Refuses, Shows, Tells, written, outcome}
+use Rattle.org_commands.specs.Outcome.{Outcome, Accepts, AsksToSettle, Refuses, Shows, Reports, written, outcome}
 use Rattle.org_store.specs.Runs.{RunsOver, SettlesOver}
 use Rattle.org_commands.specs.Session.{Session, StoreView}
 use Rattle.org_commands.specs.Step.{Settles}
@@ -25,7 +25,7 @@ use Rattle.org_store.specs.Dirty.{Dirties, DirtyAfter, DirtyAfterSettled, is_lis
 use Rattle.org_store.proofs.Accepted.{written_named}
 use Rattle.org_store.proofs.Follows.{step_setting}
 
--- Files that wait, as names and by the test of one name.
+-- Dirty files, as names and by the test of one name.
 
 named_dirty : (names some : List (List ℕ)) → AreNames names some → (name : List ℕ) → is_listed some name ≡ true → is_name names name ≡ true
 named_dirty names [] all name there = absurd (false≢true there)
@@ -58,7 +58,7 @@ spared : (s : Session) (dirty : List (List ℕ)) (does : Outcome) (accepted : �
 spared s dirty (Accepts names files) accepted name dirty_files gives apart = λ full counts. other_named s.names (dirty ++ names) name (named_both s.names dirty names dirty_files gives) apart
 spared s dirty AsksToSettle accepted name dirty_files gives apart = other_named s.names dirty name dirty_files apart
 spared s dirty (Shows text) accepted name dirty_files gives apart = tt
-spared s dirty (Tells minutes) accepted name dirty_files gives apart = tt
+spared s dirty (Reports minutes) accepted name dirty_files gives apart = tt
 spared s dirty (Refuses why) accepted name dirty_files gives apart = tt
 
 joined_named : (names old some new : List (List ℕ)) → AreNames names old → AreNames names some → Dirties old some new → AreNames names new
@@ -84,7 +84,7 @@ settles_names old new (Err Device) step = ap (λ (s : Session). s.names) step.1.
 settles_names old new (Err Broken) step = ap (λ (s : Session). s.names) step.1
 
 module _ {D : Type 0} (g : Ghosts D) where
-  -- Calls of a store whose waiting files are its own: they still are, and no other file was
+  -- Calls of a store whose dirty files are its own: they still are, and no other file was
   -- written.
   pub record KeepsToItsOwn (old new : StoreView D) : Type 0 where
     pub names : new.session.names ≡ old.session.names

@@ -22,7 +22,7 @@ use Rattle.org_commands.specs.declared.command.RunFault.{RunFault}
 use Rattle.org_commands.specs.declared.command.RunFault.TheVariants as run
 use Rattle.org_commands.specs.InOrder.{texts_of, with_all, with_text, with_texts}
 use Rattle.org_commands.specs.Session.{Session, Holds}
-use Rattle.org_commands.specs.Outcome.{IsAccepted, Outcome, Accepts, Shows, Tells, AsksToSettle, Refuses, outcome}
+use Rattle.org_commands.specs.Outcome.{IsAccepted, Outcome, Accepts, Shows, Reports, AsksToSettle, Refuses, outcome}
 use Rattle.org_commands.specs.Step.{Step, fills, done, settled}
 use Rattle.org_store.specs.Left.{IsLeft, PutsOnDisk}
 use Rattle.org_store.specs.Reopening.{AreSameNames, IsOpenable, AreSmall}
@@ -175,7 +175,7 @@ small_put : (s : Session) (outcome : Outcome) (accepted : ℕ) (texts : List (Li
 small_put s (Accepts names files) accepted texts are small puts = subst (AreSmall s.names) (sym puts.0) (small files (names, refl))
 small_put s AsksToSettle accepted texts are small puts = subst (AreSmall s.names) (sym puts) are
 small_put s (Shows text) accepted texts are small puts = absurd puts
-small_put s (Tells minutes) accepted texts are small puts = absurd puts
+small_put s (Reports minutes) accepted texts are small puts = absurd puts
 small_put s (Refuses why) accepted texts are small puts = absurd puts
 
 pub left_opens : (given : List (List ℕ)) (s : Session) (others image : Image) (command : Command) (answer : Result Reply RunFault) (accepted : ℕ) → AreFew given → AreSorted (with_archives given) s.names

@@ -18,7 +18,7 @@ use Rattle.org_commands.specs.declared.command.RunFault.{RunFault}
 use Rattle.org_commands.specs.declared.command.RunFault.TheVariants.{Refused, OutOfMemory, Device, Broken}
 use Rattle.org_commands.specs.InOrder.{text_at, with_all, with_text, with_texts}
 use Rattle.org_commands.specs.Session.{Session, StoreView, Holds}
-use Rattle.org_commands.specs.Outcome.{IsAccepted, Outcome, Accepts, Shows, Tells, AsksToSettle, Refuses, outcome}
+use Rattle.org_commands.specs.Outcome.{IsAccepted, Outcome, Accepts, Shows, Reports, AsksToSettle, Refuses, outcome}
 use Rattle.org_commands.specs.Step.{Steps, Step, Settles, fills, done, settled}
 use Rattle.org_store.specs.Left.{IsLeft, PutsOnDisk}
 use Rattle.org_store.proofs.Accepted.{accepted_puts}
@@ -151,7 +151,7 @@ left_of old others outcome answer accepted image IsReached self full left = ⊎_
     some (Accepts names files) full texts puts now = (done old files, full files (names, refl) puts.1 puts.2, subst (λ t. Holds old others t image) (puts.0 ∙ sym (done_files old files)) now)
     some AsksToSettle full texts puts now = (old, self, subst (λ t. Holds old others t image) puts now)
     some (Shows text) full texts puts now = absurd puts
-    some (Tells minutes) full texts puts now = absurd puts
+    some (Reports minutes) full texts puts now = absurd puts
     some (Refuses why) full texts puts now = absurd puts
 
 -- a command that is counted, and met no failure of the disk, is done

@@ -454,7 +454,7 @@ fn left_of(
     for call in calls {
         if call.name == *name {
             leave(alloc, outcome, call, &content, &mut left)?;
-            act(alloc, &mut content, &call.effect)?;
+            execute(alloc, &mut content, &call.effect)?;
         }
     }
     Ok(left)
@@ -550,16 +550,16 @@ fn keep(
     ensures err { OnErr result (Keeps Effect.Nothing name.now contents.old contents.new) }
 {
     if let Some(content) = contents.get_mut(name) {
-        return act(alloc, content, effect);
+        return execute(alloc, content, effect);
     }
     let mut content = Vec::new(alloc);
-    act(alloc, &mut content, effect)?;
+    execute(alloc, &mut content, effect)?;
     contents.insert(name.clone()?, content)?;
     Ok(())
 }
 
 // Makes of a content what it is after a call; where memory is refused, nothing changes.
-fn act(alloc: Global, content: &mut Vec<u8>, effect: &Effect) -> Result<(), AllocError>
+fn execute(alloc: Global, content: &mut Vec<u8>, effect: &Effect) -> Result<(), AllocError>
     ensures ok { OnOk result ((file : FileState) → file.content ≡ content.old.items →
         content.new.items ≡ (effect_of effect.now file).content) }
     ensures err { OnErr result (content.new.items ≡ content.old.items) }

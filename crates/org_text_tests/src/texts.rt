@@ -173,7 +173,7 @@ fn headings(held: &Held, states: &States) -> (usize, Option<Span>) {
     (count, second)
 }
 
-fn act(rt: &impl Abort, alloc: Global, texts: &mut Texts, action: &Action) {
+fn execute(rt: &impl Abort, alloc: Global, texts: &mut Texts, action: &Action) {
     match action {
         Action::Hold(name, text) => hold(rt, alloc, texts, name, text),
         Action::Ready(name) => make_ready(rt, alloc, texts, name),
@@ -204,7 +204,7 @@ fn is_so(rt: &impl Abort, alloc: Global, states: &States, texts: &Texts, fact: &
 /// Does what a step says, or answers whether it is so.
 fn go(rt: &impl Abort, alloc: Global, states: &States, texts: &mut Texts, step: &Step) -> bool {
     match step {
-        Step::Do(action) => act(rt, alloc, texts, action),
+        Step::Do(action) => execute(rt, alloc, texts, action),
         Step::Is(fact) => return is_so(rt, alloc, states, texts, fact),
     }
     true

@@ -10,7 +10,7 @@ use Rattle.org_capture.specs.Lengths.{AnswersLength, Grows}
 use Rattle.org_capture.proofs.Filling.{fills, fills_badly}
 use Rattle.org_capture.proofs.lengths.expanded_length.Goals as goal
 
--- a length that isn't told: the template is bad, or memory ran out
+-- where there is no length: the template is bad, or memory ran out
 not_filled : (more : Option (List ℕ)) (whole : Result (List ℕ) Refusal) (text : List ℕ) (r : Result ℕ (Fault Refusal)) (fault same : Fault Refusal) → r ≡ Err same → same ≡ fault → Grows more text (Err fault) → (more ≡ None → whole ≡ Err BadTemplate) → AnswersLength whole r
 not_filled more whole text r (Refused why) same is e none bad = rw (is, e, none.0) (bad none.1)
 not_filled more whole text r OutOfMemory same is e none bad = rw (is, e) tt

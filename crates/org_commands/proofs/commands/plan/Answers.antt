@@ -39,8 +39,8 @@ returns-in-Capture g c = record {
       let texts : g.row.D.Denot → Image = λ disk. contents (g.D.Disk.files disk) in
       let s = session_over texts c.args.states.now c.args.files.now tally in
       let new = session_over texts c.args.states.now c.plan_capture.new.files tally in
-      let told = some_planned s _ c.plan_capture.result c.plan_capture.new.files.held new c.map.result c.map.ensures.cases (c.plan_capture.ensures.plans tally honest) in
-      subst (λ (change : Change). PlansOrStays s (outcome s (changing change)) c.map.result c.plan_capture.new.files.held new) (sym c.in-Capture.is) told;
+      let reported = some_planned s _ c.plan_capture.result c.plan_capture.new.files.held new c.map.result c.map.ensures.cases (c.plan_capture.ensures.plans tally honest) in
+      subst (λ (change : Change). PlansOrStays s (outcome s (changing change)) c.map.result c.plan_capture.new.files.held new) (sym c.in-Capture.is) reported;
   disk = some_reads c.plan_capture.result c.map.result c.map.ensures.cases c.plan_capture.ensures.disk;
 }
 
@@ -51,8 +51,8 @@ returns-in-Refile g c = record {
       let texts : g.row.D.Denot → Image = λ disk. contents (g.D.Disk.files disk) in
       let s = session_over texts c.args.states.now c.args.files.now tally in
       let new = session_over texts c.args.states.now c.plan_refile.new.files tally in
-      let told = some_planned s _ c.plan_refile.result c.plan_refile.new.files.held new c.map-in-Refile.result c.map-in-Refile.ensures.cases (c.plan_refile.ensures.plans tally honest) in
-      subst (λ (change : Change). PlansOrStays s (outcome s (changing change)) c.map-in-Refile.result c.plan_refile.new.files.held new) (sym c.in-Refile.is) told;
+      let reported = some_planned s _ c.plan_refile.result c.plan_refile.new.files.held new c.map-in-Refile.result c.map-in-Refile.ensures.cases (c.plan_refile.ensures.plans tally honest) in
+      subst (λ (change : Change). PlansOrStays s (outcome s (changing change)) c.map-in-Refile.result c.plan_refile.new.files.held new) (sym c.in-Refile.is) reported;
   disk = some_reads c.plan_refile.result c.map-in-Refile.result c.map-in-Refile.ensures.cases c.plan_refile.ensures.disk;
 }
 
@@ -63,8 +63,8 @@ returns-in-Archive g c = record {
       let texts : g.row.D.Denot → Image = λ disk. contents (g.D.Disk.files disk) in
       let s = session_over texts c.args.states.now c.args.files.now tally in
       let new = session_over texts c.args.states.now c.plan_archive.new.files tally in
-      let told = some_planned s _ c.plan_archive.result c.plan_archive.new.files.held new c.map-in-Archive.result c.map-in-Archive.ensures.cases (c.plan_archive.ensures.plans tally honest) in
-      subst (λ (change : Change). PlansOrStays s (outcome s (changing change)) c.map-in-Archive.result c.plan_archive.new.files.held new) (sym c.in-Archive.is) told;
+      let reported = some_planned s _ c.plan_archive.result c.plan_archive.new.files.held new c.map-in-Archive.result c.map-in-Archive.ensures.cases (c.plan_archive.ensures.plans tally honest) in
+      subst (λ (change : Change). PlansOrStays s (outcome s (changing change)) c.map-in-Archive.result c.plan_archive.new.files.held new) (sym c.in-Archive.is) reported;
   disk = some_reads c.plan_archive.result c.map-in-Archive.result c.map-in-Archive.ensures.cases c.plan_archive.ensures.disk;
 }
 
@@ -110,7 +110,7 @@ returns-in-Edit g c =
           let texts : g.row.D.Denot → Image = λ disk. contents (g.D.Disk.files disk) in
           let s = session_over texts c.args.states.now c.args.files.now tally in
           let new = session_over texts c.args.states.now c.plan_edit.new.files tally in
-          let told = some_planned s _ c.plan_edit.result c.plan_edit.new.files.held new c.map-in-Edit.result c.map-in-Edit.ensures.cases (planned.plans tally honest) in
-          subst (λ (change : Change). PlansOrStays s (outcome s (changing change)) c.map-in-Edit.result c.plan_edit.new.files.held new) (sym c.in-Edit.is) told;
+          let reported = some_planned s _ c.plan_edit.result c.plan_edit.new.files.held new c.map-in-Edit.result c.map-in-Edit.ensures.cases (planned.plans tally honest) in
+          subst (λ (change : Change). PlansOrStays s (outcome s (changing change)) c.map-in-Edit.result c.plan_edit.new.files.held new) (sym c.in-Edit.is) reported;
       disk = some_reads c.plan_edit.result c.map-in-Edit.result c.map-in-Edit.ensures.cases planned.disk;
     }

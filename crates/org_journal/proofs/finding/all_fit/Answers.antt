@@ -13,8 +13,8 @@ use Rattle.org_journal.proofs.finding.all_fit.Goals as goal
 
 -- the test of an entry is that of its file's length
 test_is : (entry : Entry) (patches : List Patch) (size long : ℕ) (answer is : Bool) → size ≡ long → patches ≡ entry.patches → answer ≡ fits (pairs_of patches) entry.length size → answer ≡ is → fits (pairs_of entry.patches) entry.length long ≡ is
-test_is entry patches size long answer is same own tells was =
-    ap (fits (pairs_of entry.patches) entry.length) (sym same) ∙ ap (λ (p : List Patch). fits (pairs_of p) entry.length size) (sym own) ∙ sym tells ∙ was
+test_is entry patches size long answer is same own says was =
+    ap (fits (pairs_of entry.patches) entry.length) (sym same) ∙ ap (λ (p : List Patch). fits (pairs_of p) entry.length size) (sym own) ∙ sym says ∙ was
 
 pub loop-entry-preserved : goal.loop-entry-preserved
 loop-entry-preserved g c =

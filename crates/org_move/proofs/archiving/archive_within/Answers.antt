@@ -14,8 +14,8 @@ use Rattle.org_move.proofs.archiving.archive_within.Goals as goal
 -- a fault that is handed on
 handed : {A B : Type 0} (said : Result B Refusal) (Fits : B → A → Type 0) (P : Fault Refusal → Type 0) (r : Result A (Fault Refusal)) → IsErrAnd r P → ((fault : Fault Refusal) → P fault → IsMadeAs said Fits (Err fault)) → IsMadeAs said Fits r
 handed said Fits P r is gives =
-    let told = err_from_is_err_and r is in
-    subst (IsMadeAs said Fits) (sym told.1) (gives told.0 told.2)
+    let reported = err_from_is_err_and r is in
+    subst (IsMadeAs said Fits) (sym reported.1) (gives reported.0 reported.2)
 
 pub returns-in_err-up : goal.returns-in_err-up
 returns-in_err-up c =

@@ -13,19 +13,19 @@ behind_stars : (states : Keywords) (line : List ℕ) (level : ℕ) → eqb (leng
 behind_stars states [] level full stars = absurd cc
 behind_stars states (b ∷ bs) level full stars = ap (option_and_then (titled_line states (b ∷ bs))) stars
 
-told : (states : Keywords) (line rest : List ℕ) (level : ℕ) (parts : HeadParts) (alone : Bool) → rest ≡ drop level line → AreParts parts (parts_of states rest)
+reported : (states : Keywords) (line rest : List ℕ) (level : ℕ) (parts : HeadParts) (alone : Bool) → rest ≡ drop level line → AreParts parts (parts_of states rest)
     → ((said : Parts) → AreParts parts said → alone ≡ is_title_alone said)
     → titled_line states line level ≡ (if alone then Some (heading_made (level, parts.title)) else None)
-told states line rest level parts alone rest_is read tells =
+reported states line rest level parts alone rest_is read says =
     let make : Bool → List ℕ → Option Heading = λ b title. if b then Some (record { level = level; title = title }) else None in
-    sym (ap (λ b. make b parts.title.now) (tells (parts_of states rest) read) ∙ ap (make (is_title_alone (parts_of states rest))) read.title
+    sym (ap (λ b. make b parts.title.now) (says (parts_of states rest) read) ∙ ap (make (is_title_alone (parts_of states rest))) read.title
     ∙ ap (λ l. let parts = parts_of states l in make (is_title_alone parts) parts.title) rest_is)
 
 -- the heading of a line with stars
 heading_is : (states : Keywords) (line rest : List ℕ) (level : ℕ) (parts : HeadParts) (alone made : Bool) → eqb (length line) 0 ≡ false → level_of line ≡ Some level → rest ≡ drop level line → AreParts parts (parts_of states rest)
     → ((said : Parts) → AreParts parts said → alone ≡ is_title_alone said) → alone ≡ made → (if made then Some (heading_made (level, parts.title)) else None) ≡ heading_of states line
-heading_is states line rest level parts alone made full stars rest_is read tells is =
-    sym (behind_stars states line level full stars ∙ told states line rest level parts alone rest_is read tells ∙ ap (λ (b : Bool). if b then Some (heading_made (level, parts.title)) else None) is)
+heading_is states line rest level parts alone made full stars rest_is read says is =
+    sym (behind_stars states line level full stars ∙ reported states line rest level parts alone rest_is read says ∙ ap (λ (b : Bool). if b then Some (heading_made (level, parts.title)) else None) is)
 
 pub returns-then-is_title_alone-clause-value : goal.returns-then-is_title_alone-clause-value
 returns-then-is_title_alone-clause-value c =

@@ -8,8 +8,8 @@ pub returns-in_err-matches-clause-fault : goal.returns-in_err-matches-clause-fau
 returns-in_err-matches-clause-fault c =
     let words = map string_bytes c.args.words.now in
     let why = refused words (app_of c.in_ok-command.command) c.in_ok-command.ensures c.in_err-matches.field-0.0 c.in_err-matches.ensures.kinds in
-    let told = err_from_is_err_and c.from_residual-in_err-matches.result c.from_residual-in_err-matches.ensures.1 in
-    rw (told.1, told.2) why
+    let reported = err_from_is_err_and c.from_residual-in_err-matches.result c.from_residual-in_err-matches.ensures.1 in
+    rw (reported.1, reported.2) why
 
 pub returns-clause-said : goal.returns-clause-said
 returns-clause-said c =
@@ -17,7 +17,7 @@ returns-clause-said c =
     let app = app_of c.in_ok-command.command in
     let rows = rows_are words app c.in_ok-command.ensures c.in_ok-matches.matches c.in_ok-matches.ensures.ok.2 in
     let none = none_refused words app c.in_ok-command.ensures c.in_ok-matches.ensures.kinds in
-    IfOk-weaker c.arguments_of.result _ _ (λ arguments told. told words rows none) c.arguments_of.ensures.said
+    IfOk-weaker c.arguments_of.result _ _ (λ arguments reported. reported words rows none) c.arguments_of.ensures.said
 
 pub returns-clause-fault : goal.returns-clause-fault
 returns-clause-fault c =

@@ -4,7 +4,7 @@ use Rattle.std.proofs.lemmas.List.Elements.{All-append}
 use Rattle.org_disk.specs.Names.{IsOrgFile}
 use Rattle.org_folder.specs.OrgFiles.{is_org_file}
 use Rattle.org_program.specs.Causes.{first_bad, IsCauseOfNames}
-use Rattle.org_program.proofs.Causing.{of_all, passed_told}
+use Rattle.org_program.proofs.Causing.{of_all, passed_reported}
 use Rattle.org_program.proofs.Firsts.{first_behind, first_of_front}
 use Rattle.org_program.proofs.names.given_names.Goals as goal
 
@@ -13,7 +13,7 @@ returns-in_err-names-clause-cause c =
     let new : List (List ℕ) = map string_bytes c.args.arguments.now.new.items in
     let only : List (List ℕ) = map string_bytes c.args.arguments.now.only.items in
     let cause = subst (λ (names : List (List ℕ)). IsCauseOfNames names c.in_err-names.field-0.0) (ap (map string_bytes) c.deref.ensures.value) c.in_err-names.ensures.cause in
-    passed_told _ _ c.from_residual.result c.from_residual.ensures.1
+    passed_reported _ _ c.from_residual.result c.from_residual.ensures.1
     (of_all new (new ++ only) (λ found at. first_of_front (λ name. not (is_org_file name)) new only found at) _ cause)
 
 pub returns-in_err-org_names-clause-cause : goal.returns-in_err-org_names-clause-cause
@@ -22,7 +22,7 @@ returns-in_err-org_names-clause-cause c =
     let only : List (List ℕ) = map string_bytes c.args.arguments.now.only.items in
     let good : first_bad new ≡ None = ap first_bad (sym (ap (map string_bytes) c.deref.ensures.value)) ∙ c.in_ok-names.ensures.good in
     let cause = subst (λ (names : List (List ℕ)). IsCauseOfNames names c.in_err-org_names.field-0.0) (ap (map string_bytes) c.deref-2.ensures.value) c.in_err-org_names.ensures.cause in
-    passed_told _ _ c.from_residual-in_err-org_names.result c.from_residual-in_err-org_names.ensures.1
+    passed_reported _ _ c.from_residual-in_err-org_names.result c.from_residual-in_err-org_names.ensures.1
     (of_all only (new ++ only) (λ found at. first_behind (λ name. not (is_org_file name)) new only good ∙ at) _ cause)
 
 pub returns-clause-openable : goal.returns-clause-openable

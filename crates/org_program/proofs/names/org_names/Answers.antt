@@ -11,8 +11,8 @@ pub returns-in_err-org_name-clause-cause : goal.returns-in_err-org_name-clause-c
 returns-in_err-org_name-clause-cause c =
     let cause = of_all (c.deref.result.now ∷ []) (map string_bytes c.args.texts.now) (λ found at. first_at (λ name. not (is_org_file name)) string_bytes c.loop-text.text-index c.args.texts.now c.text-item.result found
     c.loop-text-test.true c.text-item.is c.loop-text.invariant.2 (rw (sym c.deref.ensures) at)) c.in_err-org_name.field-0.0 c.in_err-org_name.ensures.cause in
-    let told = err_from_is_err_and c.from_residual.result c.from_residual.ensures.1 in
-    rw (told.1, told.2) cause
+    let reported = err_from_is_err_and c.from_residual.result c.from_residual.ensures.1 in
+    rw (reported.1, reported.2) cause
 
 pub loop-text-preserved : goal.loop-text-preserved
 loop-text-preserved c =

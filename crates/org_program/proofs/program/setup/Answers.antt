@@ -8,7 +8,7 @@ use Rattle.org_outline.specs.States.{Keywords, are_states}
 use Rattle.org_program.specs.Causes.{MayShare, NameAStore}
 use Rattle.org_program.specs.Runs.{ListsNames}
 use Rattle.org_program.specs.Lists.{names_in, states_in, states_of}
-use Rattle.org_program.proofs.Causing.{passed_told}
+use Rattle.org_program.proofs.Causing.{passed_reported}
 use Rattle.org_program.proofs.Files.{shared}
 use Rattle.org_program.proofs.program.setup.Given.{Over}
 use Rattle.org_program.proofs.program.setup.Goals as goal
@@ -31,7 +31,7 @@ returns-in_err-absent-clause-cause g c =
     let listed : List (List ℕ) = c.in_ok-listed_names.field-0.items in
     let all : c.deref-4.result.now ≡ names_in c.args.arguments.now ++ listed = c.deref-4.ensures.value ∙ c.in_ok-append.ensures.items ∙ ap (λ l. l ++ listed) c.in_ok-names.ensures.names in
     let may = subst (λ (names : List (List ℕ)). MayShare names c.in_err-absent.field-0.0) all c.in_err-absent.ensures.fault in
-    passed_told _ _ c.from_residual-in_err-absent.result c.from_residual-in_err-absent.ensures.1
+    passed_reported _ _ c.from_residual-in_err-absent.result c.from_residual-in_err-absent.ensures.1
     (shared c.args.arguments.now listed _ (good g (goal.at.returns-in_err-absent-clause-cause g c).In_ok-states) c.in_ok-listed_names.ensures.listed may)
 
 -- the folder is locked, and only looks were made since

@@ -8,8 +8,8 @@ returns-in_err-setup-clause-looks g c = looks_on _ _ _ (one_look _ _ _ tt c.in_o
 
 pub returns-in_err-setup-clause-fault : goal.returns-in_err-setup-clause-fault
 returns-in_err-setup-clause-fault g c =
-    let told = err_from_is_err_and c.from_residual-in_err-setup.result c.from_residual-in_err-setup.ensures.1 in
-    rw (told.1, told.2) (inr (record {
+    let reported = err_from_is_err_and c.from_residual-in_err-setup.result c.from_residual-in_err-setup.ensures.1 in
+    rw (reported.1, reported.2) (inr (record {
       arguments = c.in_ok-arguments.arguments;
       said = c.in_ok-arguments.ensures.said;
       cause = c.in_err-setup.ensures.cause;

@@ -1,4 +1,4 @@
-use Rattle.org_serve.proofs.Told.{safe_written}
+use Rattle.org_serve.proofs.Reported.{safe_written}
 use Rattle.org_serve.proofs.laws.safe_is_acknowledged.Goals as goal
 
 pub returns-clause-written : goal.returns-clause-written

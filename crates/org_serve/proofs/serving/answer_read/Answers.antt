@@ -16,9 +16,9 @@ returns-in-Ok-clause-step g c =
     let next = c.behind-next.ensures ∙ ap (behind group) c.is_ok.ensures.value in
     let leads = subst (λ n. ReadLeadsTo group n m old (Ok c.in-Ok.command) text new) (sym next)
     (leads_run group m old c.in-Ok.command answer new (record { before = e.accounts.was_honest; did = e.did })) in
-    let told = then_leads g.W.Sink group c.behind-next.result m old (Ok c.in-Ok.command) text new c.args.writer.now c.write_answer.new.writer c.write_answer.result _ c.and.ensures leads
+    let reported = then_leads g.W.Sink group c.behind-next.result m old (Ok c.in-Ok.command) text new c.args.writer.now c.write_answer.new.writer c.write_answer.result _ c.and.ensures leads
     (rw (c.acknowledged-before.ensures, c.acknowledged.ensures) at c.write_answer.ensures) in
-    rw c.in-Ok.is (text, told.0, told.1)
+    rw c.in-Ok.is (text, reported.0, reported.1)
 
 pub returns-in-Err-clause-step : goal.returns-in-Err-clause-step
 returns-in-Err-clause-step g c =
@@ -27,6 +27,6 @@ returns-in-Err-clause-step g c =
     let old = c.args.store.now in
     let fault = c.in-Err.fault in
     let leads = subst (λ n. ReadLeadsTo group n m old (Err fault) (fault_text fault) old) (sym c.behind.ensures) (leads_unread group m old fault) in
-    let told = then_leads g.W.Sink group c.behind.result m old (Err fault) (fault_text fault) old c.args.writer.now c.write_unread.new.writer c.write_unread.result _ c.and-in-Err.ensures leads
+    let reported = then_leads g.W.Sink group c.behind.result m old (Err fault) (fault_text fault) old c.args.writer.now c.write_unread.new.writer c.write_unread.result _ c.and-in-Err.ensures leads
     c.write_unread.ensures in
-    rw c.in-Err.is (fault_text fault, told.0, told.1)
+    rw c.in-Err.is (fault_text fault, reported.0, reported.1)

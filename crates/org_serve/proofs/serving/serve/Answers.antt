@@ -10,7 +10,7 @@ use Rattle.org_serve.proofs.Cuts.{rest-free}
 use Rattle.org_serve.proofs.Inputs.{Served-none, Served-more, Served-some, Served-some_wrote, Served-stop, Served-no_more, serves_read, serves_some, serves_stop, serves_end}
 use Rattle.org_serve.proofs.Joins.{Consumes-kept}
 use Rattle.org_serve.proofs.Counting.{HasRisenBy-counted, within_counted, within_all, read_none, read_more, ended_read, ended_otherwise}
-use Rattle.org_serve.proofs.Breaking.{untouched_then, breaks_then, accounts_still, refused_told}
+use Rattle.org_serve.proofs.Breaking.{untouched_then, breaks_then, accounts_still, refused_reported}
 use Rattle.org_serve.proofs.Honest.{sound_end, sound_may, sound_runs, sound_served, sound_some, sound_stop, sound_stores}
 use Rattle.org_serve.proofs.Crashes.{ends_by, runs_finish, runs_keep, runs_read, runs_some, runs_stop, served_by, session_calls, settled_by, some_by, stop_by}
 use Rattle.org_serve.proofs.serving.serve.Goals as goal
@@ -95,7 +95,7 @@ returns-in-Ok-Stop-clause-calls g c =
     let within : length piece ≤ most_read = omega (arith, c.read.auto.into, length-take c.in-Ok.n c.read.new.into) in
     let fed = subst (λ k. FeedsToEnd k (stores_while_honest g.D.Disk) c.loop.store ((cut s.input).rest ++ piece) (length piece) c.feed.new.store (output g.W.Sink c.loop.writer c.feed.new.writer)) c.group-group.ensures
     ((rw c.in-Ok-Stop.field-0-is at c.in-Ok-Stop.ensures.fed) (cut s.input).rest (rest-free s.input) s.stands) in
-    runs_stop end io (refused_told c.feed.new.store.session end c.refused_end.ensures.value).1
+    runs_stop end io (refused_reported c.feed.new.store.session end c.refused_end.ensures.value).1
     (Served-stop io s piece c.feed.new.store c.in-Ok.ensures.bytes.0 end within fed c.refused_end.ensures.value)
 
 pub returns-in-Ok-Stop-clause-did : goal.returns-in-Ok-Stop-clause-did
@@ -103,14 +103,14 @@ returns-in-Ok-Stop-clause-did g c = λ honest.
     let d = g.D.Disk in
     let group = c.args.store.now.session.group in
     let end = c.refused_end.result in
-    let told = refused_told c.feed.new.store.session end c.refused_end.ensures.value in
+    let reported = refused_reported c.feed.new.store.session end c.refused_end.ensures.value in
     let io = exchange g.R.Source g.W.Sink c.args.reader.now c.read.new.self c.args.writer.now c.feed.new.writer in
     let s = c.loop.invariant.0 in
     let piece = take c.in-Ok.n c.read.new.into in
     let within : length piece ≤ most_read = omega (arith, c.read.auto.into, length-take c.in-Ok.n c.read.new.into) in
     let fed = subst (λ k. FeedsToEnd k (stores_while_honest d) c.loop.store ((cut s.input).rest ++ piece) (length piece) c.feed.new.store (output g.W.Sink c.loop.writer c.feed.new.writer)) c.group-group.ensures
     ((rw c.in-Ok-Stop.field-0-is at c.in-Ok-Stop.ensures.fed) (cut s.input).rest (rest-free s.input) s.stands) in (
-      serves_stop io told.0 told.1
+      serves_stop io reported.0 reported.1
           (stop_by (sound_stores d) model (λ store. store.session) (λ store. refl) (session_calls d) group c.args.store.now end c.feed.new.store io (sound_stop d group c.args.store.now end c.feed.new.store io
           (Served-stop io s piece c.feed.new.store c.in-Ok.ensures.bytes.0 end within fed c.refused_end.ensures.value) honest)),
       runs_keep d (sound_runs d (returns-in-Ok-Stop-clause-calls g c).0 honest),

@@ -61,13 +61,13 @@ returns-in_ok-put-in-Ok-Some-clause-executes g c =
     let fits = c.plan.ensures.plan in
     let is_plan = c.in-Ok-Some.ensures.plan plan c.in-Ok-Some.field-0-is in
     let new = view_over d.files states c.count.new.files c.count.new.tally in
-    let told = counted_texts (λ disk. contents (d.files disk)) states mid edited tally plan put.memory.disk put.memory.names put.puts.1 is_plan put.puts.0 in
+    let reported = counted_texts (λ disk. contents (d.files disk)) states mid edited tally plan put.memory.disk put.memory.names put.puts.1 is_plan put.puts.0 in
     let same : view_over d.files states edited tally ≡ now = view_same d.files states mid edited tally put.memory put.before in
     let dirties : Dirties edited.held.before.dirty (files_of plan) edited.held.now.dirty = rw (put.puts.1, put.before) (dirties_planned plan mid.held is_plan.touched) in
     executes_after d states files tally (λ honest image left. g.met.D.Disk.only_now files.disk image honest left) c.requires.between.unbroken mid c.plan.result c.in-Ok-Some.field-0 c.in-Ok-Some.is c.plan.ensures.disk asked later
     (λ honest. let plans = subst (λ (r : Result (Option Plan) RunFault). PlansOrStays old.session asked r mid.held now.session) (c.in-Ok-Some.is ∙ ap (λ (o : Option Plan). Ok o) c.in-Ok-Some.field-0-is) (c.plan.ensures.plans tally honest) in
     (plans.0 ∙ ap (λ s. changed s (new_texts plan mid.held.now)) (sym plans.1), plans.1)) new c.count.result
-    (subst (λ (o : Outcome). Executes d now o c.count.result new) (sym told)
+    (subst (λ (o : Outcome). Executes d now o c.count.result new) (sym reported)
     (subst (λ (k : StoreView g.row.D.Denot). Executes d k (counted k.session (files_of plan) (texts_now d edited)) c.count.result new) same (c.count.ensures.executes states (files_of plan) dirties)))
 
 pub returns-in-Ok-None-clause-executes : goal.returns-in-Ok-None-clause-executes

@@ -9,7 +9,7 @@ use Rattle.org_test_disks.specs.RecordLaws.{own_image}
 use Rattle.org_test_disks.specs.declared.memory.Call.{Call}
 use Rattle.org_test_disks.proofs.Calls.{files_after-push}
 use Rattle.org_test_disks.proofs.memory.left_of.Goals as goal
-use Rattle.org_test_disks.proofs.memory.left_of.Goals.{then-eq+in_ok-leave+in_ok-act, else-eq}
+use Rattle.org_test_disks.proofs.memory.left_of.Goals.{then-eq+in_ok-leave+in_ok-execute, else-eq}
 
 pub loop-call-preserved : goal.loop-call-preserved
 loop-call-preserved c =
@@ -21,11 +21,11 @@ loop-call-preserved c =
     let one_more : take (i + 1) calls ≡ take i calls ++ call ∷ [] = take_more calls i call c.loop-call-test.true ∙ ap (λ (x : Call). take i calls ++ x ∷ []) (sym c.call-item.is) in
     let after : files_after (take (i + 1) calls) name ≡ step call name before = ap (λ (cs : List Call). files_after cs name) one_more ∙ files_after-push (take i calls) call name in
     elim c.if-eq.branch [
-      | then-eq+in_ok-leave+in_ok-act w ↦
+      | then-eq+in_ok-leave+in_ok-execute w ↦
           let now : files_after (take (i + 1) calls) name ≡ effect_of call.effect before = after ∙ cond-true (bytes_eq call.name name) (effect_of call.effect before) before (sym c.eq.ensures ∙ w.if-eq.true) in
           let here : before.content ≡ c.loop-call.content.items = sym c.loop-call.invariant.0 in
           let own : IsImage before w.deref.result.now = subst (λ (b : List ℕ). IsImage before b) (here ∙ sym w.deref.ensures.value) (own_image (take i calls) name) in (
-            ap (λ v. v.items) w.content-is ∙ w.in_ok-act.ensures.ok before here ∙ sym (ap (λ (f : FileState). f.content) now),
+            ap (λ v. v.items) w.content-is ∙ w.in_ok-execute.ensures.ok before here ∙ sym (ap (λ (f : FileState). f.content) now),
             subst (λ (f : FileState). IsImage f c.if-eq.left.items) (sym now)
                 (subst (λ (v : Vec ℕ Global). IsImage (effect_of call.effect before) v.items) (sym w.left-is)
                 (w.in_ok-leave.ensures before (here ∙ sym w.deref.ensures.value) own c.loop-call.invariant.1)),

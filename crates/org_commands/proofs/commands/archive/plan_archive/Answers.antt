@@ -68,11 +68,11 @@ returns-in_err-to g c = plans_refused g.D.Disk c.args.states.now _ c.from_residu
     let ready = subst (λ (f : OpenFiles g.row.D.Denot). AreReady (k.file ∷ []) f.held) (sym same) (one_ready k.file c.requires.between c.in_ok-ready.ensures.ready) in
     let names = ap (λ (f : OpenFiles g.row.D.Denot). f.names) same ∙ c.ready.ensures.files.disk.names in
     let own = store_text g.D.Disk c.args.states.now files tally s (k.file ∷ []) k.file read ready (one_name k.file) (still_named k.file names c.in_ok-check_name.ensures) in
-    let told = archive s k.file k.path k.moment (text_at s.names s.files k.file) in
+    let reported = archive s k.file k.path k.moment (text_at s.names s.files k.file) in
     let seen = held_bytes files.held k.file in
     let found = ap (λ (b : List ℕ). find_path c.args.states.now (tree b) k.path) (ap (λ (f : OpenFiles g.row.D.Denot). held_bytes f.held k.file) same ∙ ap (bytes_or []) c.held.ensures.text) ∙ sym c.heading_at.ensures.value ∙ c.in_ok-node.was in
     let gives = subst (λ (r : Result Destination Refusal). IsPlaceAs r c.find_location.result) (sym (place_is c.args.states.now k.file k.path seen c.in_ok-node.node found)) c.find_location.ensures.place in
-    plans_not_fit s (session_in g.D.Disk c.args.states.now files tally) told files.held (fault_of c.in_err-to.field-0.0) c.from_residual-in_err-to.result c.from_residual-in_err-to.ensures.1 read
+    plans_not_fit s (session_in g.D.Disk c.args.states.now files tally) reported files.held (fault_of c.in_err-to.field-0.0) c.from_residual-in_err-to.result c.from_residual-in_err-to.ensures.1 read
     (place_refused s k.file k.path k.moment own.0 seen c.find_location.result c.in_err-to.field-0.0 c.requires.between.unbroken own.1 own.2 c.in_err-to.was gives))
     (subst (λ (f : OpenFiles g.row.D.Denot). OnlyReads g.D.Disk c.args.files.now f c.from_residual-in_err-to.result) (sym c.find_location.ensures.same)
     (only_reads_own c.from_residual-in_err-to.result (fault_of c.in_err-to.field-0.0) (handed_on c.from_residual-in_err-to.result _ c.from_residual-in_err-to.ensures.1) (planned_own c.in_err-to.field-0.0) c.in_ok-ready.ensures.files.disk))

@@ -7,5 +7,5 @@ pub returns : goal.returns
 returns c =
     let command = c.args.command.now in
     let said = expanded command.template command.moment command.initial in
-    let told : said ≡ Ok c.in_ok-text.text.items = rw (c.as_slice-template.ensures, c.as_slice.ensures) at c.in_ok-text.ensures in
-    entry_made c.in_ok-text.text.items said c.entry.result told c.entry.ensures.value
+    let reported : said ≡ Ok c.in_ok-text.text.items = rw (c.as_slice-template.ensures, c.as_slice.ensures) at c.in_ok-text.ensures in
+    entry_made c.in_ok-text.text.items said c.entry.result reported c.entry.ensures.value

@@ -25,8 +25,8 @@ returns-in_err-entry g c = record {
       let k = c.args.command.now in
       let files = c.args.files.now in
       let s = session_in g.D.Disk c.args.states.now files tally in
-      let told = capture s k.file k.target k.place k.moment k.template k.initial (text_at s.names s.files k.file) in
-      plans_not_fit s s told files.held (fault_of c.in_err-entry.field-0.0) c.from_residual-in_err-entry.result c.from_residual-in_err-entry.ensures.1 refl
+      let reported = capture s k.file k.target k.place k.moment k.template k.initial (text_at s.names s.files k.file) in
+      plans_not_fit s s reported files.held (fault_of c.in_err-entry.field-0.0) c.from_residual-in_err-entry.result c.from_residual-in_err-entry.ensures.1 refl
       (entry_refused s k.file k.target k.place k.moment k.template k.initial (text_at s.names s.files k.file) c.new_entry.result c.in_err-entry.field-0.0 (has_text g.D.Disk files k.file (sym c.in_ok-check_name.ensures)) c.requires.between.unbroken c.in_err-entry.was c.new_entry.ensures);
   disk =
       let why = c.in_err-entry.field-0.0 in

@@ -3,7 +3,7 @@ use Rattle.org_outline.specs.declared.paths.PathFault.{PathFault}
 use Rattle.org_outline.specs.Tree.{tree}
 use Rattle.org_state.specs.Clock.{clocked_at}
 use Rattle.org_commands.proofs.MadeReady.{one_is_ready, sees_one}
-use Rattle.org_commands.proofs.Times.{time_refused, time_told, time_unread}
+use Rattle.org_commands.proofs.Times.{time_refused, time_reported, time_unread}
 use Rattle.org_commands.proofs.commands.time.clocked_in_file.Goals as goal
 
 pub returns-in_err-ready-clause-does : goal.returns-in_err-ready-clause-does
@@ -27,4 +27,4 @@ returns-clause-does g c tally honest =
     let sees = sees_one a.file.now c.requires.between g.D.Disk a.states.now c.ready.new.self c.requires.name c.in_ok-ready.ensures.ready c.ready.ensures.files.disk.names c.in_ok-ready.ensures.files.reads c.held-held.ensures.text in
     let minutes = c.in_ok-clocked.field-0 in
     let said : ◌≡◌ {A = Result ℕ PathFault} (Ok minutes) (clocked_at a.states.now a.path.now (tree c.held-held.result.now.text.bytes)) = search rules in
-    time_told sees a.path.now tally honest minutes said
+    time_reported sees a.path.now tally honest minutes said

@@ -1,4 +1,4 @@
--- What a reply tells of the commands that are on the disk.
+-- What a reply reports of the commands that are on the disk.
 use Rattle.std.proofs.Common.{◌≡◌, ℕ, Bool, true, false, nat_lt, List, [], ◌++◌, Option, Some, None, Result, Ok, Err, ap, codes}
 use Rattle.std.specs.Prelude.{decimal, if◌then◌else◌}
 use Rattle.org_commands.specs.declared.command.Reply.{Reply}
