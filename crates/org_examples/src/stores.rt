@@ -7,7 +7,7 @@ use org_disk::FileName;
 use org_folder::org_file;
 use org_outline::States;
 use org_serve::{Counted, ServeEnd, read_command, serve};
-use org_store::{Command, Group, Reply, Store};
+use org_store::{Command, Edit, Group, Reply, Store};
 use org_test_disks::MemoryDisk;
 use std::test::Fail;
 
@@ -64,8 +64,9 @@ fn store_run(rt: HostRuntime) -> Result<(), Fail> {
 #[test]
 fn store_settle(rt: HostRuntime) -> Result<(), Fail> {
     let alloc = rt.alloc();
-    let todo = read_command(alloc, b"todo\ta.org\tA\tDONE\t2026-07-01 10:00")?;
     let mut store = store(&rt, alloc, "* TODO A\n")?;
+    let line = b"todo\ta.org\tA\tDONE\t2026-07-01 10:00";
+    let todo = read_command(alloc, line).expect(&rt, "a command");
     // Shown:
     store.set_group(Group::Of(1_000));
     assert!(rt; store.run(&todo).is_ok());
@@ -83,13 +84,11 @@ fn store_settle(rt: HostRuntime) -> Result<(), Fail> {
 fn reads_a_command(rt: HostRuntime) -> Result<(), Fail> {
     let alloc = rt.alloc();
     // Shown:
-    let line = b"edit\ta.org\t2\tA\tC";
-    let Command::Edit(edit) = read_command(alloc, line)? else {
-        panic!(rt; "another command")
-    };
-    assert_eq!(rt; edit.at, 2);
-    assert_eq!(rt; edit.new.as_slice(), b"C".as_slice());
+    let edit = read_command(alloc, b"edit\ta.org\t2\tA\tC")?;
+    assert!(rt; matches!(&edit, Command::Edit(Edit { at: 2, .. })));
     assert!(rt; read_command(alloc, b"edit\ta.org").is_err());
+    // Not shown:
+    drop(edit);
     Ok(())
 }
 

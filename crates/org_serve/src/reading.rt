@@ -28,12 +28,8 @@ const MOST_FIELDS: usize = 7;
 /// # Examples
 ///
 /// ```
-/// let line = b"edit\ta.org\t2\tA\tC";
-/// let Command::Edit(edit) = read_command(alloc, line)? else {
-///     panic!(rt; "another command")
-/// };
-/// assert_eq!(rt; edit.at, 2);
-/// assert_eq!(rt; edit.new.as_slice(), b"C".as_slice());
+/// let edit = read_command(alloc, b"edit\ta.org\t2\tA\tC")?;
+/// assert!(rt; matches!(&edit, Command::Edit(Edit { at: 2, .. })));
 /// assert!(rt; read_command(alloc, b"edit\ta.org").is_err());
 /// ```
 pub fn read_command(alloc: Global, line: &[u8]) -> Result<Command<'_>, Fault<BadLine>>
