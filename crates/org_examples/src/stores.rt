@@ -88,6 +88,7 @@ fn reads_a_command(rt: HostRuntime) -> Result<(), Fail> {
     assert!(rt; matches!(&edit, Command::Edit(Edit { at: 2, .. })));
     assert!(rt; read_command(alloc, b"edit\ta.org").is_err());
     // Not shown:
+    assert!(rt; matches!(&edit, Command::Edit(edit) if edit.new.as_slice() == b"C".as_slice()));
     drop(edit);
     Ok(())
 }
