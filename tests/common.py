@@ -1,4 +1,4 @@
-"""What the scripts of this folder share: their words, the program that they try, and their end.
+"""What the scripts of this folder share: their words, the program that they try, what they count, and their end.
 
 A Python script begins with
 
@@ -21,14 +21,68 @@ import os
 import signal
 import subprocess
 import sys
+import tempfile
 import time
-from typing import List, Optional, Tuple
+from typing import List, Mapping, Optional, Tuple, Union
+
+import needs
 
 TOP = os.path.dirname(os.path.dirname(os.path.abspath(__file__)))
 PARENT_ENDS, ADOPT = 1, 36  # PR_SET_PDEATHSIG, PR_SET_CHILD_SUBREAPER
 NEW_MOUNTS, ALL_PRIVATE = 0x20000, 0x44000  # CLONE_NEWNS, MS_REC | MS_PRIVATE
 ENDING = signal.SIGTERM, signal.SIGHUP, signal.SIGINT
 SECONDS_TO_END = 5
+
+
+class Count:
+    """How many rows were as wanted, and how many weren't."""
+
+    def __init__(self) -> None:
+        self.passed = self.failed = 0
+
+    def judge(self, name: str, got: object, wanted: object = True) -> None:
+        """Counts a row, and prints it where it isn't as wanted."""
+        if got == wanted:
+            self.passed += 1
+        else:
+            self.failed += 1
+            print("FAILED %s\n    got    %s\n    wanted %s" % (name, brief(got), brief(wanted)), flush=True)
+
+    def holds(self, name: str, condition: object, told: object) -> None:
+        """Counts a condition, and prints what was told where it fails."""
+        if condition:
+            self.passed += 1
+        else:
+            self.failed += 1
+            print("FAILED %s\n    %s" % (name, str(told).replace("\n", "\n    ")), flush=True)
+
+    def end(self) -> int:
+        """Prints a script's last line, and answers its status."""
+        print("%d passed, %d failed" % (self.passed, self.failed))
+        return 1 if self.failed else 0
+
+
+class Room(Count):
+    """A count with new folders. They lie in memory where they may, since syncs cost nothing there."""
+
+    def __init__(self, name: str) -> None:
+        super().__init__()
+        in_memory = "/dev/shm" if os.access("/dev/shm", os.W_OK) else None
+        self.made = tempfile.TemporaryDirectory(prefix="orgstore-%s." % name, dir=in_memory)
+
+    def folder(self, texts: Mapping[str, Union[str, bytes]]) -> str:
+        """A new folder with files of these names and texts."""
+        folder = tempfile.mkdtemp(dir=self.made.name)
+        for name, text in texts.items():
+            with open("%s/%s" % (folder, name), "wb") as file:
+                file.write(text if isinstance(text, bytes) else text.encode())
+        return folder
+
+
+def brief(value: object) -> str:
+    """A value, as a failure shows it."""
+    text = repr(value)
+    return text if len(text) < 2000 else text[:2000] + ".."
 
 
 def given(about: Optional[str], words: str = "", flags: Tuple[str, ...] = (), takes_program: bool = True) -> None:
@@ -50,9 +104,17 @@ def given(about: Optional[str], words: str = "", flags: Tuple[str, ...] = (), ta
         named, more = None, [named, *more]
     if named and not os.access(named, os.X_OK):
         parser.error("there is no program " + named)
+    say_missing(script)
     supervise()
     program = [os.path.abspath(named) if named else the_program()] if takes_program else []
     sys.argv[1:] = [*program, *(flag for flag in flags if getattr(found, flag.lstrip("-"))), *more]
+
+
+def say_missing(script: str) -> None:
+    """Says what a script lacks that runs without ./test: what needs it fails there."""
+    name = "" if os.path.basename(os.path.dirname(script)) == "long" else os.path.basename(script)
+    for packages in needs.missing([name]).values():
+        print("%s: not installed: %s; ./test --install installs them" % (script, " ".join(packages)), file=sys.stderr)
 
 
 def the_program() -> str:
@@ -147,6 +209,8 @@ def kill_tree(process: int) -> None:
 
 def main() -> None:
     """Runs a command as a script of this folder: common.py COMMAND.."""
+    if "--help" not in sys.argv:
+        say_missing(os.path.realpath(sys.argv[1]))
     supervise()
     os.environ["SUPERVISOR"] = str(os.getppid())
     for number in ENDING:

@@ -5,7 +5,8 @@ A script calls `use(PROGRAM)` before all else.
 import os
 import subprocess
 import sys
-import tempfile
+
+import common
 
 TOP = os.path.dirname(os.path.dirname(os.path.abspath(__file__)))
 ORGS = os.path.join(TOP, "clients", "shell", "orgs")
@@ -20,38 +21,12 @@ def use(program):
     ENVIRONMENT["ORGSTORE_PROGRAM"] = os.path.abspath(program)
 
 
-class Room:
-    """New folders, and how many judgements were as wanted, and how many weren't."""
+class Room(common.Room):
+    """New folders, with a state of `orgs` beside them, and what was judged so far."""
 
     def __init__(self):
-        self.passed = self.failed = 0
-        in_memory = "/dev/shm" if os.access("/dev/shm", os.W_OK) else None
-        self.made = tempfile.TemporaryDirectory(prefix="orgstore-orgs.", dir=in_memory)
+        super().__init__("orgs")
         ENVIRONMENT["XDG_STATE_HOME"] = os.path.join(self.made.name, "state")  # where `orgs undo` keeps what it needs
-
-    def folder(self, texts):
-        """A new folder with files of these names and texts."""
-        folder = tempfile.mkdtemp(dir=self.made.name)
-        for name, text in texts.items():
-            with open(os.path.join(folder, name), "wb") as file:
-                file.write(text if isinstance(text, bytes) else text.encode())
-        return folder
-
-    def judge(self, name, got, wanted):
-        if got == wanted:
-            self.passed += 1
-        else:
-            self.failed += 1
-            print("FAILED %s\n    got    %s\n    wanted %s" % (name, brief(got), brief(wanted)))
-
-    def holds(self, name, condition, got):
-        """Judges a condition on what is printed where it fails."""
-        self.judge(name, True if condition else got, True)
-
-
-def brief(value):
-    text = repr(value)
-    return text if len(text) < 2000 else text[:2000] + ".."
 
 
 class Ended:

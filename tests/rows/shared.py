@@ -3,7 +3,6 @@ import os
 import shutil
 import subprocess
 import sys
-import tempfile
 
 PROGRAM = os.path.abspath(sys.argv[1])
 NOW = "2026-07-01 10:00"
@@ -32,36 +31,6 @@ CLOCK_BACKWARDS = Refusal("13 ClockBackwards")
 BAD_LOCATION = Refusal("15 BadLocation")
 NOT_THERE = Refusal("16 NotThere")
 BAD_LINE = Refusal("20 BadLine")
-
-
-class Room:
-    """New folders, and how many rows were as wanted, and how many weren't."""
-
-    def __init__(self):
-        self.passed = self.failed = 0
-        # in memory, where syncs cost nothing
-        in_memory = "/dev/shm" if os.access("/dev/shm", os.W_OK) else None
-        self.made = tempfile.TemporaryDirectory(prefix="orgstore-commands.", dir=in_memory)
-
-    def folder(self, texts):
-        """A new folder with files of these names and texts."""
-        folder = tempfile.mkdtemp(dir=self.made.name)
-        for name, text in texts.items():
-            with open("%s/%s" % (folder, name), "wb") as file:
-                file.write(text if isinstance(text, bytes) else text.encode())
-        return folder
-
-    def judge(self, name, got, wanted):
-        if got == wanted:
-            self.passed += 1
-        else:
-            self.failed += 1
-            print("FAILED %s\n    got    %s\n    wanted %s" % (name, brief(got), brief(wanted)))
-
-
-def brief(value):
-    text = repr(value)
-    return text if len(text) < 2000 else text[:2000] + ".."
 
 
 def run(folder, lines, *words):

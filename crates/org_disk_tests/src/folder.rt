@@ -5,7 +5,6 @@ ghost use Rattle.org_folder.specs.Calls.Event.{Locked};
 
 mod failures;
 mod files;
-mod listing;
 mod refusals;
 
 use crate::disk::name_of;

@@ -1,4 +1,5 @@
-//! Inputs that are whole steps, each ended by a settling, or nothing.
+//! Inputs that are whole steps, over disks that crash or fail. What they do on other disks, rows
+//! of commands show.
 use super::crashes::{done_in, done_stopped, way, ways};
 use super::steps::{
     BETWEEN_TWINS, CAPTURES, LINE_MOVED, Step, TWO_LINES, WITHIN_TWINS, all_of, files,
@@ -15,104 +16,8 @@ use std::process::Abort;
 const ONE_STEP: &str = "capture\ta.org\ttop\tlast\t2026-07-01 10:00\t* N\t\n\
         capture\tb.org\ttop\tlast\t2026-07-01 10:00\t* K\t\nsettle\n";
 
-// The first of them is a step, and the other isn't settled.
-const STEP_AND_MORE: &str = "capture\ta.org\ttop\tlast\t2026-07-01 10:00\t* N\t\nsettle\n\
-        capture\tb.org\ttop\tlast\t2026-07-01 10:00\t* K\t\n";
-
 fn run_whole(rt: &(impl Abort + AllocGlobal), disk: MemoryDisk, lines: &[u8]) -> Ended<MemoryDisk> {
     run_in(rt, disk, Group::Whole, lines)
-}
-
-// Lines, and more lines; what is written for them, how it ends, and how many of the captures are
-// done then.
-type Row = (&'static str, &'static str, &'static str, ServeEnd, u64);
-
-const ROWS: &[Row] = &[
-    ("", "", "", ServeEnd::End, 0),
-    ("", "settle\n", "safe 0\n", ServeEnd::End, 0),
-    ("", "show\tb.org\n", "text 3\n* Z\n", ServeEnd::End, 0),
-    (ONE_STEP, "", "ok 1\nok 2\nsafe 2\n", ServeEnd::End, 2),
-    // without a settling, and with one behind a line that isn't done
-    (TWO_LINES, "", "ok 1\nok 2\n", ServeEnd::Unsettled, 0),
-    (
-        TWO_LINES,
-        "show\tq.org\nsettle\n",
-        "ok 1\nok 2\nrefused 1 NoSuchFile\n",
-        ServeEnd::Unsettled,
-        0,
-    ),
-    (
-        TWO_LINES,
-        "nothing\nsettle\n",
-        "ok 1\nok 2\nrefused 20 BadLine\n",
-        ServeEnd::Unsettled,
-        0,
-    ),
-    // a last line without its newline
-    (
-        TWO_LINES,
-        "settle",
-        "ok 1\nok 2\nrefused 20 BadLine\n",
-        ServeEnd::Unsettled,
-        0,
-    ),
-    (
-        ONE_STEP,
-        "settle",
-        "ok 1\nok 2\nsafe 2\nrefused 20 BadLine\n",
-        ServeEnd::Unsettled,
-        2,
-    ),
-    // one step is settled, and what follows is given up
-    (
-        STEP_AND_MORE,
-        "",
-        "ok 1\nsafe 1\nok 2\n",
-        ServeEnd::Unsettled,
-        1,
-    ),
-    (
-        STEP_AND_MORE,
-        "clock-out\t2026-07-01 10:00\nsettle\nsettle\n",
-        "ok 1\nsafe 1\nok 2\nrefused 12 NoClock\n",
-        ServeEnd::Unsettled,
-        1,
-    ),
-];
-
-fn joined(rt: &(impl Abort + AllocGlobal), row: &Row) -> Vec<u8> {
-    let mut lines = Vec::new(rt.alloc());
-    lines
-        .extend_from_slice(row.0.as_bytes())
-        .expect(rt, "memory");
-    lines
-        .extend_from_slice(row.1.as_bytes())
-        .expect(rt, "memory");
-    lines
-}
-
-#[test]
-fn inputs_done_whole(rt: HostRuntime) {
-    for row in ROWS {
-        let (_, _, written, wanted, done) = row;
-        let ended = run_whole(&rt, files(&rt, CAPTURES), &joined(&rt, row));
-        assert!(rt; matches!(&ended.end, Ok(end) if *end == *wanted));
-        assert!(rt; ended.written.as_slice() == written.as_bytes());
-        assert!(rt; done_in(&rt, disk_of(ended), CAPTURES) == *done);
-    }
-}
-
-// The input ends behind each of its bytes.
-#[test]
-fn an_input_cut_at_each_byte(rt: HostRuntime) {
-    for size in 0..ONE_STEP.len() {
-        let ended = run_whole(&rt, files(&rt, CAPTURES), &ONE_STEP.as_bytes()[..size]);
-        assert!(rt; matches!(&ended.end, Ok(ServeEnd::Unsettled)) || size == 0);
-        assert!(rt;
-            done_in(&rt, disk_of(ended), CAPTURES) == 0,
-            "cut at {size}"
-        );
-    }
 }
 
 // Two edits that stand for one change of two files.
@@ -148,24 +53,6 @@ fn calls_of(rt: &(impl Abort + AllocGlobal), step: &Step, lines: &str) -> u64 {
     let calls = disk.calls();
     drop(disk);
     calls
-}
-
-// What is written for lines, and how much of the step is done then.
-fn check_served(rt: &(impl Abort + AllocGlobal), row: &(&Step, &str, &str), done: u64) {
-    let (step, lines, written) = row;
-    let ended = run_whole(rt, files(rt, step), lines.as_bytes());
-    assert!(rt; ended.written.as_slice() == written.as_bytes());
-    assert!(rt; done_in(rt, disk_of(ended), step) == done);
-}
-
-#[test]
-fn steps_done_and_given_up(rt: HostRuntime) {
-    for row in WHOLE {
-        check_served(&rt, row, all_of(row.0));
-    }
-    for row in GIVEN_UP {
-        check_served(&rt, row, 0);
-    }
 }
 
 // The disk crashes in this way as lines are served: so much of the step is done, or nothing where
