@@ -85,6 +85,11 @@ def brief(value: object) -> str:
     return text if len(text) < 2000 else text[:2000] + ".."
 
 
+def unmount(folder: str) -> None:
+    """Takes a mount away. `--lazy`, since a child that another thread is just starting may hold a file there for a moment."""
+    subprocess.run(["umount", "--lazy", folder], check=True)
+
+
 def given(about: Optional[str], words: str = "", flags: Tuple[str, ...] = (), takes_program: bool = True) -> None:
     """Reads a script's command line, and has it end as it is said above. `words` says what its further words are for; flags
     stand between the program and these."""

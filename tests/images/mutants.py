@@ -24,11 +24,12 @@ class Mutant:
 
 
 def gate(event: Event) -> str:
-    """What an event does to the journal: its 'body' is written, its gate is set 'open' or 'closed'; else nothing."""
+    """What an event does to the journal: its 'body' is written, its gate is set 'open' or 'closed', or it gets its 'mark',
+    the byte 0 after the record that a replay begins with; else nothing."""
     if not (isinstance(event, Changed) and event.name == JOURNAL and isinstance(event.change, Write)):
         return ""
     if event.change.at > 0:
-        return "body"
+        return "mark" if event.change.data == b"\0" else "body"
     return "open" if event.change.data == b"\1" else "closed"
 
 
@@ -161,12 +162,13 @@ def openings(trace: Trace) -> Iterator[Mutant]:
 
 
 def journal_shows(trace: Trace, first: int) -> Tuple[int, bool]:
-    """Up to where a journal that wasn't synced as it was found may show, and whether it can: its gate was written, and
-    where that is open a replay changes files, else a record is written behind it before the journal is synced."""
+    """Up to where a journal that wasn't synced as it was found may show, and whether it can: its gate was written and is
+    closed, and a record is written after it before the journal is synced. An open one is marked and synced before a file
+    changes."""
     journal = trace.disks[0][JOURNAL]
     written = any(isinstance(change, Write) and change.at == 0 for change in journal.changes)
     if journal.content[:1] == b"\1":
-        return trace.serves, written and trace.has_file(first, trace.serves)
+        return trace.serves, False
     body = trace.next(first, "body")
     return trace.journal_sync(body), written and body < min(trace.journal_sync(first), len(trace.events))
 

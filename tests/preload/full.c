@@ -46,6 +46,9 @@ ssize_t pwrite(int file, const void *bytes, size_t size, off_t from) {
     return size > 0 && fit == 0 ? refuse() : real(file, bytes, fit, from);
 }
 
+// as programs for large files call it
+ssize_t pwrite64(int, const void *, size_t, off64_t) __attribute__((alias("pwrite")));
+
 int ftruncate(int file, off_t size) { return fails() ? refuse() : REAL(int (*)(int, off_t), "ftruncate")(file, size); }
 
 int fsync(int file) { return fails() ? refuse() : REAL(int (*)(int), "fsync")(file); }

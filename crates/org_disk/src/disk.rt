@@ -15,6 +15,17 @@ use thiserror::Error;
 #[error("device failure")]
 pub struct DiskFault;
 
+/// How a file stands that the record of an open journal names, as far as the disk can see.
+#[derive(Clone, Copy, Debug, PartialEq, Eq)]
+pub enum Standing {
+    /// A crash in the middle of the record's commit may have left it so.
+    Left,
+    /// It was put there or changed since.
+    Changed,
+    /// Its name leads out of the disk.
+    Outside,
+}
+
 /// A disk that holds files by name; an absent file and an empty one are the same.
 ///
 /// What a call asks of contents, lengths and images is asked of an honest disk alone, and what is
@@ -93,6 +104,13 @@ pub trait Disk {
         ensures time { honest self.new →
             PassesInCall instant left_since self.old self.new
             (AreLeftBy sync name.now (files self.old)) }
+        ensures accounts { AccountsOfCall truthful honest failures self.old self.new result };
+
+    /// How the file of a name stands, beside the journal. Where nothing was written since a crash,
+    /// that says whether the journal's record may be done. No clause says what is answered. It
+    /// changes nothing, failed or not.
+    fn standing(&mut self, name: &FileName) -> Result<Standing, DiskFault>
+        ensures looks { honest self.new → LooksInCall files instant left_since self.old self.new }
         ensures accounts { AccountsOfCall truthful honest failures self.old self.new result };
 
     /// The content is one of the images.

@@ -13,5 +13,5 @@ mod disk;
 pub mod laws;
 mod name;
 
-pub use disk::{Disk, DiskFault};
+pub use disk::{Disk, DiskFault, Standing};
 pub use name::{BadName, FileName};

@@ -100,7 +100,7 @@ where
     ensures { result.folder.system.log.events ≡ Locked folder.now ∷ [] }
 {
     let system = locked(rt, files, folder);
-    CallsDisk::over(host.alloc(), system, IndexSet::new(host.alloc()))
+    CallsDisk::over(host.alloc(), system, IndexSet::new(host.alloc()), false)
 }
 
 // A call of a disk on a file.

@@ -98,6 +98,20 @@ module _ (entries : List Entry) (files : List ℕ → FileState) (can : AreAppli
             | inr closed ↦ inl (recovers_closed (contents files) image closed other_is)
           ]
 
+-- Where the gate stands open over the record, and every other file is as it was when all was on the
+-- disk: what is left with the journal's body recovers to the files before, or to those after.
+pub stands_open : (entries : List Entry) (files : List ℕ → FileState) → AreApplicableTo entries files → (last : List ℕ → FileState) → IsOpenOver entries last
+    → ((other : List ℕ) → other ≢ journal_name → last other ≡ files other) → IsAtRest files → (image : Image) → LeavesBody journal_name last image
+    → IsBeforeOrAfter (contents files) (replayed entries (contents files)) image
+stands_open entries files can last over same rest image left =
+    let other_is : (name : List ℕ) → name ≢ journal_name → image name ≡ contents files name =
+    λ name not. only_image (rest.stable name) (image name) (subst (λ f. IsImage f (image name)) (same name not) (left.others name not)) in
+    elim (cases_Bool (is_open (image journal_name))) [
+      | inl opened ↦ inr (recovers_open entries (replayed entries (contents files)) image can.applicable opened (ap journal_at left.body ∙ over.found)
+          (λ name not. takes entries files can name (image name) (other_is name not)))
+      | inr closed ↦ inl (recovers_closed (contents files) image closed other_is)
+    ]
+
 -- What calls do that write a record behind a closed gate and open the gate over it, where the disk is honest after them. The journal alone is written; where all was on the disk, a crash leaves
 -- what recovers to the files before, or to those that the record makes of them.
 pub record WritesRecord {D : Type 0} (g : Ghosts D) (entries : List Entry) (old new : D) (result : Result (Unit {0}) DiskFault) : Type 0 where

@@ -4,7 +4,7 @@ use Rattle.std.specs.Prelude.{slice_get}
 use Rattle.std.specs.List.{Contains}
 use Rattle.std.specs.Option.{option_map}
 use Rattle.std.proofs.lemmas.Option.{slice_get_read, slice_get-map}
-use Rattle.org_disk.specs.Disk.{FileState, IsStable, AreImages, AreLeftBy, Changes, write, cut, sync}
+use Rattle.org_disk.specs.Disk.{FileState, IsImage, IsStable, AreImages, AreLeftBy, Changes, write, cut, sync}
 use Rattle.org_disk.specs.Names.{journal_name}
 use Rattle.org_disk.specs.declared.disk.DiskFault.{DiskFault}
 use Rattle.org_disk.proofs.Images.{only_image, stable_is, left_after}
@@ -48,9 +48,9 @@ module _ (entries : List Entry) (texts : Image) (files : List ℕ → FileState)
 
   over : IsOpenOver entries files
   over = record {
-    stable = is.over_record.stable;
-    opened = is.over_record.opened;
-    found = is.over_record.found ∙ ap (λ (l : List Entry). let o : Option (List Entry) = Some l in o) is.same_entries;
+    stable = is.stable;
+    opened = is.over_record.opened (contents files journal_name) (own journal_name);
+    found = is.over_record.found (contents files journal_name) (own journal_name) ∙ ap (λ (l : List Entry). let o : Option (List Entry) = Some l in o) is.same_entries;
   }
 
   stand : (image : Image) → AreImages files image → RecoversTo texts image
@@ -87,12 +87,14 @@ module _ (entries : List Entry) (texts : Image) (files : List ℕ → FileState)
     open_after : (new : List ℕ → FileState) (result : Result (Unit {0}) DiskFault) → Changes effect entry.name files new result → IsOpenFor entries texts new
     open_after new result changes =
         let same : new journal_name ≡ files journal_name = changes.others journal_name (λ name. apart (sym name)) in
+        let journal_is : (bytes : List ℕ) → IsImage (new journal_name) bytes → bytes ≡ (files journal_name).content =
+        λ bytes image. only_image over.stable bytes (subst (λ (f : FileState). IsImage f bytes) same image) in
         record {
+          stable = subst IsStable (sym same) over.stable;
           over_record = record {
-            stable = subst IsStable (sym same) over.stable;
-            opened = ap (λ (f : FileState). is_open f.content) same ∙ over.opened;
             entries = entries;
-            found = ap (λ (f : FileState). journal_at (drop 1 f.content)) same ∙ over.found;
+            opened = λ bytes image. ap is_open (journal_is bytes image) ∙ over.opened;
+            found = λ bytes image. ap (λ (l : List ℕ). journal_at (drop 1 l)) (journal_is bytes image) ∙ over.found;
             others = λ name not none. subst IsStable (sym (changes.others name (named_apart entries member.0 entry name none at)))
                 (is.over_record.others name not (ap (λ (l : List Entry). is_named name l) is.same_entries ∙ none));
             texts = texts;

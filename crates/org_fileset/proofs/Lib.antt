@@ -2,6 +2,7 @@ mod Accounted
 mod Sets
 mod Sizes
 mod Starting
+mod Strange
 mod Patching
 pub mod Elements
 pub mod Sorted
@@ -23,3 +24,4 @@ mod Kept
 pub mod Crashed
 pub mod Middle
 mod Tried
+mod Again

@@ -32,10 +32,9 @@ taking_recovers entries texts journal applicable opened found image left =
 -- such a disk is one with an open record
 pub replayable_open : (entries : List Entry) (files : List ℕ → FileState) → AreApplicable entries → IsOpenOver entries files → IsReplayable entries files → IsOpenOverRecord files
 replayable_open entries files applicable is can = record {
-  stable = is.stable;
-  opened = is.opened;
   entries = entries;
-  found = is.found;
+  opened = λ bytes image. ap is_open (only_image is.stable bytes image) ∙ is.opened;
+  found = λ bytes image. ap (λ (l : List ℕ). journal_at (drop 1 l)) (only_image is.stable bytes image) ∙ is.found;
   others = can.others;
   texts = can.texts;
   same = λ image left.

@@ -3,7 +3,7 @@ use Rattle.std.proofs.Common.{◌≡◌, ⊎_elim, ℕ, ◌≤◌, List, length,
 use Rattle.std.specs.Prelude.{slice_get}
 use Rattle.org_disk.specs.Disk.{FileState, IsImage, MayLeave, AreLeftBy, Changes, AreImages, Passes, write, cut}
 use Rattle.org_disk.specs.declared.disk.DiskFault.{DiskFault}
-use Rattle.org_disk.proofs.Moments.{Image, passes_none, passes_then}
+use Rattle.org_disk.proofs.Moments.{Image, passes_as, passes_none, passes_then}
 use Rattle.org_disk.proofs.Back.{before_write, before_cut}
 use Rattle.org_splice.specs.Patches.{AreWellFormed, PatchedTo}
 use Rattle.org_splice.proofs.Again.{PatchedTo-written, PatchedTo-cut}
@@ -63,6 +63,18 @@ module _ {patches : List (ℕ × List ℕ)} {final : ℕ} {name to : List ℕ} w
     takes = λ text image. sofar.takes text (subst (λ (f : List ℕ → FileState). IsImage (f name) text) same image);
     others = λ other apart. ap (λ (f : List ℕ → FileState). f other) same ∙ sofar.others other apart;
   }
+
+  -- calls behind one that changes nothing
+  pub applies_behind : {m n k : ℕ} {s u v : ℕ → Image → Type 0} {old mid new : List ℕ → FileState} → EachPatchedTo patches final to (old name)
+      → mid ≡ old → Passes m n s u (AreImages old) → (EachPatchedTo patches final to (mid name) → AppliesPatches patches final name to n k u v mid new)
+      → AppliesPatches patches final name to m k s v old new
+  applies_behind {n = n} {k = k} {u = u} {v = v} {old = old} {mid = mid} {new = new} takes same time made =
+      let all = subst (λ (f : List ℕ → FileState). EachPatchedTo patches final to (f name) → AppliesPatches patches final name to n k u v f new) same made takes in
+      record {
+        any_moment = passes_then (passes_as time (λ image left. record { here = takes (image name) (left name); others = λ other apart. left other })) all.any_moment (λ image left. left);
+        takes = all.takes;
+        others = all.others;
+      }
 
   -- a write of one of the patches
   pub applies_write : {m n k : ℕ} {s u v : ℕ → Image → Type 0} {old mid new : List ℕ → FileState} (i : ℕ) {from : ℕ} {bytes : List ℕ} (r : Result (Unit {0}) DiskFault)

@@ -19,7 +19,8 @@ use Rattle.org_journal.specs.Reading.{journal_at}
 use Rattle.org_journal.specs.declared.record.Version.TheVariants.{Two}
 use Rattle.org_journal.specs.Record.{is_named, IsEntry, IsWellFormed}
 use Rattle.org_journal.specs.Recovered.{Image, SameFiles, RecoversTo, IsOpenOverRecord, IsRecoverable, OthersStable, recovered, all_fit, replayed, contents}
-use Rattle.org_fileset.specs.Recovery.{EachRecovers, RecoversAsBefore, is_closed, closed_journal}
+use Rattle.org_fileset.specs.Opening.{IsFit}
+use Rattle.org_fileset.specs.Recovery.{EachRecovers, RecoversAsBefore, is_closed, closed_journal, marked}
 use Rattle.org_fileset.specs.Replay.{TakesTo, IsApplicable, AreApplicable, EachTakes, IsOpenOver, IsReplayable, IsAtRest}
 use Rattle.org_fileset.proofs.Recovers.{recovers_open, recovers_closed, open_recovers, takes-replayed}
 
@@ -118,14 +119,12 @@ pub sync_recoverable : (old new : List ℕ → FileState) (r : Result (Unit {0})
     → Changes sync journal_name old new r → IsRecoverable old → IsRecoverable new
 sync_recoverable old new r own images changes (inl stable) = inl (λ name not. subst IsStable (sym (changes.others name not)) (stable name not))
 sync_recoverable old new r own images changes (inr over_record) =
-    let only : (bytes : List ℕ) → IsImage (new journal_name) bytes → bytes ≡ (old journal_name).content =
-    λ bytes image. only_image over_record.stable bytes (sync_after journal_name old new r own changes journal_name bytes image) in
-    let same : (new journal_name).content ≡ (old journal_name).content = only (new journal_name).content (images journal_name) in
+    let before : (bytes : List ℕ) → IsImage (new journal_name) bytes → IsImage (old journal_name) bytes =
+    λ bytes image. sync_after journal_name old new r own changes journal_name bytes image in
     inr (record {
-      stable = stable_from_only (new journal_name) (images journal_name) (λ bytes image. only bytes image ∙ sym same);
-      opened = ap is_open same ∙ over_record.opened;
       entries = over_record.entries;
-      found = ap (λ (l : List ℕ). journal_at (drop 1 l)) same ∙ over_record.found;
+      opened = λ bytes image. over_record.opened bytes (before bytes image);
+      found = λ bytes image. over_record.found bytes (before bytes image);
       others = λ name not none. subst IsStable (sym (changes.others name not)) (over_record.others name not none);
       texts = over_record.texts;
       same = λ image left. over_record.same image (λ name. sync_after journal_name old new r own changes name (image name) (left name));
@@ -184,7 +183,7 @@ module _ (files : List ℕ → FileState) (own : (name : List ℕ) → IsImage (
 
   pub open_replayable : IsOpenOverRecord files → IsReplayable entries files
   open_replayable over_record =
-      let one : Some over_record.entries ≡ Some entries = sym over_record.found ∙ over.found in
+      let one : Some over_record.entries ≡ Some entries = sym (over_record.found (contents files journal_name) (own journal_name)) ∙ over.found in
       let same : over_record.entries ≡ entries = cc in
       record {
         others = λ name not none. over_record.others name not (ap (λ (l : List Entry). is_named name l) same ∙ none);
@@ -201,9 +200,10 @@ module _ (files : List ℕ → FileState) (own : (name : List ℕ) → IsImage (
   contents_recover can = recovers_open entries can.texts (contents files) applicable over.opened over.found (λ name not. can.takes.each name not (contents files name) (own name))
 
 -- A closed gate on a recoverable disk: all other files are on the disk.
-pub closed_stable : (files : List ℕ → FileState) → is_open (contents files journal_name) ≡ false → IsRecoverable files → OthersStable files
-closed_stable files shut (inl stable) = stable
-closed_stable files shut (inr over_record) = absurd (false≢true (sym shut ∙ over_record.opened))
+pub closed_stable : (files : List ℕ → FileState) → IsImage (files journal_name) (files journal_name).content → is_open (contents files journal_name) ≡ false → IsRecoverable files
+    → OthersStable files
+closed_stable files own shut (inl stable) = stable
+closed_stable files own shut (inr over_record) = absurd (false≢true (sym shut ∙ over_record.opened (contents files journal_name) own))
 
 -- a stable journal of which the gate is closed has it on the disk
 pub shut_gate : (file : FileState) → IsStable file → is_open file.content ≡ false → front_size ≤ length file.content → HasClosedGate file
@@ -264,18 +264,23 @@ closed_rest files gate only stable = record {
 }
 
 -- what an opening makes of the journal
-closed_when : (journal : List ℕ) (test : Bool) → is_closed journal ≡ test → closed_journal journal ≡ (if test then journal else 0 ∷ drop 1 journal)
-closed_when journal test is = ap (λ (b : Bool). if b then journal else 0 ∷ drop 1 journal) is
+closed_when : (journal : List ℕ) (test : Bool) → is_closed journal ≡ test
+    → closed_journal journal ≡ (if test then journal else 0 ∷ drop 1 (if is_open journal then marked journal else journal))
+closed_when journal test is = ap (λ (b : Bool). if b then journal else 0 ∷ drop 1 (if is_open journal then marked journal else journal)) is
 
 and_false : (b : Bool) → (b && false) ≡ false
 and_false true = refl
 and_false false = refl
 
-pub closed_open : (journal : List ℕ) → is_open journal ≡ true → closed_journal journal ≡ 0 ∷ drop 1 journal
-closed_open journal opened = closed_when journal false (ap (λ (b : Bool). nat_le front_size (length journal) && not b) opened ∙ and_false (nat_le front_size (length journal)))
+pub closed_open : (journal : List ℕ) → is_open journal ≡ true → closed_journal journal ≡ 0 ∷ drop 1 (marked journal)
+closed_open journal opened =
+    closed_when journal false (ap (λ (b : Bool). nat_le front_size (length journal) && not b) opened ∙ and_false (nat_le front_size (length journal)))
+    ∙ ap (λ (b : Bool). 0 ∷ drop 1 (if b then marked journal else journal)) opened
 
 pub closed_short : (journal : List ℕ) → length journal < front_size → closed_journal journal ≡ 0 ∷ drop 1 journal
-closed_short journal short = closed_when journal false (ap (λ (b : Bool). b && not (is_open journal)) not_long)
+closed_short journal short =
+    closed_when journal false (ap (λ (b : Bool). b && not (is_open journal)) not_long)
+    ∙ ap (λ (b : Bool). 0 ∷ drop 1 (if b then marked journal else journal)) (ap (λ (b : Bool). b && (slice_index journal 0 == 1)) not_long)
   where
     not_long : nat_le front_size (length journal) ≡ false
     not_long = elim (cases_Bool (nat_le front_size (length journal))) [
@@ -300,11 +305,11 @@ pub recovered_closed : (files new : Image) → is_open (files journal_name) ≡ 
 recovered_closed files new shut same = rw shut same
 
 -- A journal that was found isn't bad.
-pub found_good : (files : Image) (found : Found) → Finds files (Ok found) → recovered files ≡ None → ⊥
-found_good files Closed shut none = subst (λ (o : Option Image). IsSomeAnd o (λ f. Unit {0})) none (rw shut tt)
-found_good files (Open entries) found none =
+pub found_good : (files : Image) (found : Found) → Finds files (Ok found) → IsFit found files → recovered files ≡ None → ⊥
+found_good files Closed shut fit none = subst (λ (o : Option Image). IsSomeAnd o (λ f. Unit {0})) none (rw shut tt)
+found_good files (Open entries end) found fit none =
     let opened = found.0 in
     let reported = found.1 in
-    let fits = found.2 in
+    let fits : all_fit entries files ≡ true = fit in
     let good : IsSomeAnd (recovered files) (λ f. Unit {0}) = rw (opened, reported, fits) tt in
     subst (λ (o : Option Image). IsSomeAnd o (λ f. Unit {0})) none good

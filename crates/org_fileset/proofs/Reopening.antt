@@ -1,11 +1,12 @@
 -- An opening's steps: a look at the journal, and what finishes what was found there.
-use Rattle.std.proofs.Common.{◌≡◌, ◌≢◌, inl, inr, ℕ, ◌<◌, ◌≤◌, List, ◌∷◌, length, drop, true, false, Result, Ok, Err, IfOk, OnOk, None, sym, ◌∙◌, ap, subst}
+use Rattle.std.proofs.Common.{◌≡◌, ◌≢◌, inl, inr, ℕ, ◌<◌, ◌≤◌, List, [], ◌∷◌, length, drop, true, false, Result, Ok, Err, IfOk, OnOk, None, refl, sym, ◌∙◌, ap, subst, arith}
 use Rattle.org_disk.specs.declared.disk.Disk.{Ghosts}
 use Rattle.std.specs.Prelude.{IsSomeAnd}
 use Rattle.std.proofs.lemmas.Result.{on_ok_weaker}
 use Rattle.org_disk.specs.Disk.{FileState, IsImage, IsStable, AreImages, AreLeftBy, Changes, sync}
 use Rattle.org_disk.specs.CountsFailures.{LooksOver, PassesOver}
 use Rattle.org_disk.specs.Names.{journal_name}
+use Rattle.org_splice.specs.Overwritten.{overwritten}
 use Rattle.org_disk.specs.declared.disk.DiskFault.{DiskFault}
 use Rattle.org_disk.proofs.Images.{stable_is}
 use Rattle.org_disk.proofs.Moments.{leaves_only, passes_as, passes_then}
@@ -15,16 +16,23 @@ use Rattle.org_journal.specs.declared.fault.FindFault.{FindFault}
 use Rattle.org_journal.specs.declared.fault.FindFault.TheVariants.{BadJournal}
 use Rattle.org_journal.specs.declared.finding.Found.{Found}
 use Rattle.org_journal.specs.declared.finding.Found.TheVariants.{Open, Closed}
-use Rattle.org_journal.specs.Finding.{Finds, IsWritable}
-use Rattle.org_journal.specs.Gate.{front_size, is_open, HasClosedGate, LeavesClosed, Puts}
-use Rattle.org_journal.specs.Recovered.{Image, SameFiles, IsRecoverable, recovered, all_fit, contents}
+use Rattle.org_journal.specs.Finding.{EndsAt, Finds, IsWritable}
+use Rattle.org_journal.specs.Gate.{front_size, is_open, HasClosedGate, HasSameRecord, LeavesClosed, LeavesRecord, Puts}
+use Rattle.org_journal.specs.Reading.{journal_at}
+use Rattle.org_journal.specs.Recovered.{Image, SameFiles, IsRecoverable, recovered, all_fit, contents, replayed}
 use Rattle.org_fileset.specs.Looking.{IsLookedAt, IsFoundIn}
+use Rattle.org_fileset.specs.Opening.{IsFit}
 use Rattle.org_fileset.specs.Recovery.{EachRecovers, RecoversAsBefore, IsReopened, ReopensOver, is_closed, closed_journal}
-use Rattle.org_fileset.specs.Replay.{AreApplicableTo, IsOpenOver, IsAtRest, ReplaysOver}
+use Rattle.org_fileset.specs.Replay.{AreApplicableTo, IsOpenOver, IsAtRest, IsReplayable, ReplaysOver, TakesTo}
 use Rattle.org_fileset.specs.Writes.{LeavesAlone, IsUnconcerned, IsUnwritten}
+use Rattle.org_fileset.proofs.Recovers.{all_fit-takes, recovers_open, replayed-takes, takes-replayed}
 use Rattle.org_fileset.proofs.OpenGate.{closed_after, on_ok_both}
 use Rattle.org_fileset.proofs.Writes.{alone_fewer, alone_journal, alone_looks, alone_then}
 use Rattle.org_fileset.proofs.Recovering.{as_before, formed_applicable, sync_left, sync_after, sync_recoverable, open_before, closed_before, recoverable_replayable, closed_stable, closed_rest, shut_gate, closed_open, closed_short, closed_shut, not_short, not_open, recovered_closed, found_good}
+
+-- an open gate over no record
+no_record : (image : Image) → is_open (image journal_name) ≡ true → journal_at (drop 1 (image journal_name)) ≡ None → recovered image ≡ None
+no_record image opened none = rw (opened, none) refl
 
 -- What is found behind a sync that succeeded: it stands in a journal that is on the disk, and each content is as it was.
 module _ (journal : List ℕ) (old mid new : List ℕ → FileState) (name_is : journal ≡ journal_name) (synced : Changes sync journal old mid (Ok tt)) (looked : new ≡ mid) where
@@ -45,7 +53,11 @@ module _ (journal : List ℕ) (old mid new : List ℕ → FileState) (name_is : 
       subst (λ (f : List ℕ → FileState). IsFoundIn old f found) (sym looked) (record { stable = subst IsStable (sym changes.ok) (stable_is (old journal_name).content); same = contents_are; holds = finds })
 
   pub bad_in : Finds (contents mid) (Err BadJournal) → (recovered (contents old) ≡ None) × (contents new ≡ contents old)
-  bad_in finds = (ap recovered (sym contents_are) ∙ finds.1, ap (λ (f : List ℕ → FileState). contents f) looked ∙ contents_are)
+  bad_in finds = (ap recovered (sym contents_are) ∙ no_record (contents mid) finds.0 finds.1, ap (λ (f : List ℕ → FileState). contents f) looked ∙ contents_are)
+
+-- a file that is on the disk has its content for an image
+stable_own_image : {file : FileState} → IsStable file → IsImage file file.content
+stable_own_image stable = record { no_shorter = omega (arith, stable.least); no_longer = omega (arith, stable.greatest); fixed = λ i fixed. refl }
 
 -- said of each answer of a search
 pub found_by : {Honest : Type 0} (r : Result Found FindFault) (image : Image) {P : Found → Type 0} → (Honest → Finds image r) → (Honest → (found : Found) → Finds image (Ok found) → P found)
@@ -54,17 +66,20 @@ found_by (Ok found) image finds reported = λ honest. reported honest found (fin
 found_by (Err fault) image finds reported = tt
 
 -- what was found is these entries
-pub open_as : {found : Found} {record_entries entries : List Entry} → found ≡ Open record_entries → entries ≡ record_entries → found ≡ Open entries
-open_as is same = is ∙ ap (λ (l : List Entry). let x : Found = Open l in x) (sym same)
+pub open_as : {found : Found} {record_entries entries : List Entry} {end : ℕ} → found ≡ Open record_entries end → entries ≡ record_entries → found ≡ Open entries end
+open_as {end = end} is same = is ∙ ap (λ (l : List Entry). let x : Found = Open l end in x) (sym same)
 
--- a record that was found stands behind an open gate, and can be applied to its files
-pub open_over : (files : List ℕ → FileState) (found : Found) (entries : List Entry) → IsStable (files journal_name) → found ≡ Open entries → IsWritable found → Finds (contents files) (Ok found)
-    → IsOpenOver entries files × AreApplicableTo entries files
-open_over files found entries stable is writable finds =
-    let over_record = subst (λ (x : Found). Finds (contents files) (Ok x)) is finds in (
-      record { stable = stable; opened = over_record.0; found = over_record.1 },
-      record { applicable = formed_applicable entries (subst IsWritable is writable); fits = over_record.2 },
-    )
+-- a record that was found stands behind an open gate ..
+pub open_over : (files : List ℕ → FileState) (found : Found) (entries : List Entry) (end : ℕ) → IsStable (files journal_name) → found ≡ Open entries end → Finds (contents files) (Ok found)
+    → IsOpenOver entries files × EndsAt (contents files journal_name) end
+open_over files found entries end stable is finds =
+    let over_record = subst (λ (x : Found). Finds (contents files) (Ok x)) is finds in
+    (record { stable = stable; opened = over_record.0; found = over_record.1 }, over_record.2)
+
+-- .. and can be applied to its files, which it fits
+pub open_applicable : (files : List ℕ → FileState) (found : Found) (entries : List Entry) (end : ℕ) → found ≡ Open entries end → IsWritable found → IsFit found (contents files)
+    → AreApplicableTo entries files
+open_applicable files found entries end is writable fit = record { applicable = formed_applicable entries (subst IsWritable is writable).0; fits = subst (λ (x : Found). IsFit x (contents files)) is fit }
 
 module _ {D : Type 0} (g : Ghosts D) where
   -- a sync of the journal, whatever it answers
@@ -140,30 +155,113 @@ module _ {D : Type 0} (g : Ghosts D) (old : D)
       still each image left = each image (look.images image left)
 
   module _ (own : (name : List ℕ) → IsImage (g.files old name) (g.files old name).content) where
-    -- the record of an open journal is applied
-    pub replayed_reopens : (entries : List Entry) (new : D) (r : Result (Unit {0}) DiskFault) → IsOpenOver entries (g.files old) → AreApplicableTo entries (g.files old)
-        → ReplaysOver g entries old new r → ReopensOver g old new r
-    replayed_reopens entries new r over to replays =
-        let now = g.files old in
-        let applicable = to.applicable in
-        let fits : all_fit entries (contents now) ≡ true = to.fits in
-        let opened : is_open (contents now journal_name) ≡ true = over.opened in
-        let reported = over.found in
-        let can = λ (fit : IsRecoverable now). recoverable_replayable now own entries applicable over fits fit in
-        record {
-          done = on_ok_weaker r (λ done. record {
-            recovered_then = (let made : IsSomeAnd (recovered (contents now)) (SameFiles (contents (g.files new))) = rw (opened, reported, fits) done.made in made);
-            journal = done.journal ∙ sym (closed_open (contents now journal_name) opened);
-            gate = done.gate;
-            rest = λ fit each. done.rest (can fit);
-          }) replays.done;
-          any_moment = λ fit each. leaves_only (passes_as (replays.any_moment (can fit)) (open_before now entries own applicable over fits (can fit))) (before each);
-          recoverable = λ fit each. replays.recoverable (can fit);
-          bad = λ none. absurd (found_good (contents now) (Open entries) (opened, reported, fits) none);
-          idle = not_open (contents now journal_name) opened;
-          alone = alone_fewer g (IsUnconcerned (contents now journal_name)) (IsUnwritten entries) old new replays.alone
-              (λ name is. record { apart = is.apart; unnamed = is.unnamed opened entries reported });
+    -- the record of an open journal, which is marked and then applied
+    module _ (entries : List Entry) (end : ℕ) (over : IsOpenOver entries (g.files old)) (to : AreApplicableTo entries (g.files old)) (ends : EndsAt (contents (g.files old) journal_name) end)
+        (journal : List ℕ) (name_is : journal ≡ journal_name) (mid : D) (time : PassesOver g old mid (LeavesRecord journal (g.files old))) where
+      abbrev pub now : List ℕ → FileState
+      now = g.files old
+
+      fits : all_fit entries (contents now) ≡ true
+      fits = to.fits
+
+      opened : is_open (contents now journal_name) ≡ true
+      opened = over.opened
+
+      good : recovered (contents now) ≡ None → ⊥
+      good none = found_good (contents now) (Open entries end) (opened, over.found, ends) fits none
+
+      can : IsRecoverable now → IsReplayable entries now
+      can fit = recoverable_replayable now own entries to.applicable over fits fit
+
+      -- what is left while it is marked
+      marking : (fit : IsRecoverable now) (image : Image) → LeavesRecord journal now image → RecoversAsBefore now image
+      marking fit image left =
+          let here = subst (λ (n : List ℕ). LeavesRecord n now image) name_is left in
+          open_before now entries own to.applicable over fits (can fit) image
+          (recovers_open entries (can fit).texts image to.applicable (here.here.opened ∙ opened) (here.here.found ∙ over.found)
+          (λ name not. (can fit).takes.each name not (image name) (here.others name not)))
+
+      -- the mark alone, whatever came of it
+      module _ {r : Result (Unit {0}) DiskFault} (put : Puts journal (overwritten end (0 ∷ []) (now journal).content) now (g.files mid) r)
+          (images : (bytes : List ℕ) → IsImage (g.files mid journal) bytes → HasSameRecord (now journal).content bytes) where
+        puts : Puts journal_name (overwritten end (0 ∷ []) (now journal_name).content) now (g.files mid) r
+        puts = subst (λ (n : List ℕ). Puts n (overwritten end (0 ∷ []) (now n).content) now (g.files mid) r) name_is put
+
+        same_record : (bytes : List ℕ) → IsImage (g.files mid journal_name) bytes → HasSameRecord (now journal_name).content bytes
+        same_record = subst (λ (n : List ℕ). (bytes : List ℕ) → IsImage (g.files mid n) bytes → HasSameRecord (now n).content bytes) name_is images
+
+        abbrev still_can : IsReplayable entries now → IsReplayable entries (g.files mid)
+        still_can was = record {
+          others = λ name not none. subst IsStable (sym (puts.others name not)) (was.others name not none);
+          texts = was.texts;
+          takes = record { each = λ name not text image. was.takes.each name not text (subst (λ (f : FileState). IsImage f text) (puts.others name not) image) };
         }
+
+        still_recoverable : IsRecoverable now → IsRecoverable (g.files mid)
+        still_recoverable fit = inr (record {
+          entries = entries;
+          opened = λ bytes image. (same_record bytes image).opened ∙ opened;
+          found = λ bytes image. (same_record bytes image).found ∙ over.found;
+          others = (still_can (can fit)).others;
+          texts = (can fit).texts;
+          same = λ image left. recovers_open entries (can fit).texts image to.applicable ((same_record (image journal_name) (left journal_name)).opened ∙ opened)
+              ((same_record (image journal_name) (left journal_name)).found ∙ over.found) (λ name not. (still_can (can fit)).takes.each name not (image name) (left name));
+        })
+
+        alone_marked : LeavesAlone g (IsUnconcerned (contents now journal_name)) old mid
+        alone_marked = alone_journal g journal (IsUnconcerned (contents now journal_name)) (LeavesRecord journal now) old mid name_is (λ name is. is.apart) put.others time (λ image left. left.others)
+
+        -- it failed
+        pub mark_reopens : {A E : Type 0} (result : Result A E) → OnOk result (IsReopened now (g.files mid)) → ReopensOver g old mid result
+        mark_reopens result failed = record {
+          done = failed;
+          any_moment = λ fit each. leaves_only (passes_as time (marking fit)) (before each);
+          recoverable = λ fit each. still_recoverable fit;
+          bad = λ none. absurd (good none);
+          idle = not_open (contents now journal_name) opened;
+          alone = alone_marked;
+        }
+
+        -- the gate is open over the same record still
+        pub marked_over : OnOk r (IsOpenOver entries (g.files mid))
+        marked_over = on_ok_both r puts.stable puts.stable (λ stable again. record {
+          stable = stable;
+          opened = (same_record (contents (g.files mid) journal_name) (stable_own_image stable)).opened ∙ opened;
+          found = (same_record (contents (g.files mid) journal_name) (stable_own_image stable)).found ∙ over.found;
+        })
+
+        pub marked_applicable : AreApplicableTo entries (g.files mid)
+        marked_applicable = record {
+          applicable = to.applicable;
+          fits = all_fit-takes entries (contents (g.files mid)) (replayed entries (contents now)) to.applicable (λ name not.
+              subst (λ (t : List ℕ). TakesTo entries name t (replayed entries (contents now) name)) (ap (λ (f : FileState). f.content) (sym (puts.others name not)))
+              (takes-replayed entries (contents now) name (replayed entries (contents now) name) fits refl));
+        }
+
+        -- and then applied
+        pub redone_reopens : (new : D) (q : Result (Unit {0}) DiskFault) → (contents (g.files mid) journal_name ≡ overwritten end (0 ∷ []) (contents now journal_name))
+            → ReplaysOver g entries mid new q → ReopensOver g old new q
+        redone_reopens new q is replays = record {
+          done = on_ok_weaker q (λ done. record {
+            recovered_then = (let made : IsSomeAnd (recovered (contents now)) (SameFiles (contents (g.files new))) = rw (opened, over.found, fits) (λ name not. done.made name not ∙ same_made name not) in made);
+            journal = done.journal ∙ ap (λ (l : List ℕ). 0 ∷ drop 1 l) (is ∙ ap (λ (n : ℕ). overwritten n (0 ∷ []) (contents now journal_name)) ends.end_is) ∙ sym (closed_open (contents now journal_name) opened);
+            gate = done.gate;
+            rest = λ fit each. done.rest (still_can (can fit));
+          }) replays.done;
+          any_moment = λ fit each. leaves_only (passes_then (passes_as time (marking fit)) (replays.any_moment (still_can (can fit)))
+              (open_before now entries own to.applicable over fits (can fit))) (before each);
+          recoverable = λ fit each. replays.recoverable (still_can (can fit));
+          bad = λ none. absurd (good none);
+          idle = not_open (contents now journal_name) opened;
+          alone = alone_then g (IsUnconcerned (contents now journal_name)) old mid new alone_marked
+              (alone_fewer g (IsUnconcerned (contents now journal_name)) (IsUnwritten entries) mid new replays.alone
+              (λ name is. record { apart = is.apart; unnamed = is.unnamed opened entries over.found }));
+        }
+          where
+            same_made : (name : List ℕ) → name ≢ journal_name → replayed entries (contents (g.files mid)) name ≡ replayed entries (contents now) name
+            same_made name not = replayed-takes entries (contents (g.files mid)) name (replayed entries (contents now) name)
+                (subst (λ (t : List ℕ). TakesTo entries name t (replayed entries (contents now) name)) (ap (λ (f : FileState). f.content) (sym (puts.others name not)))
+                (takes-replayed entries (contents now) name (replayed entries (contents now) name) fits refl))
 
     -- a closed gate stays, where the journal is whole
     pub gate_stays : {A E : Type 0} (new : D) (r : Result A E) → IsStable (g.files old journal_name) → is_open (contents (g.files old) journal_name) ≡ false → LooksOver g old new
@@ -178,7 +276,7 @@ module _ {D : Type 0} (g : Ghosts D) (old : D)
                 recovered_then = recovered_closed (contents now) (contents (g.files new)) shut (λ name not. ap (λ (f : Image). f name) read);
                 journal = ap (λ (f : Image). f journal_name) read ∙ sym (closed_shut (contents now journal_name) shut long);
                 gate = subst (λ (f : List ℕ → FileState). HasClosedGate (f journal_name)) (sym looks.same) gate;
-                rest = λ fit each. subst IsAtRest (sym looks.same) (closed_rest now gate stable (closed_stable now shut fit));
+                rest = λ fit each. subst IsAtRest (sym looks.same) (closed_rest now gate stable (closed_stable now (own journal_name) shut fit));
               }) whole;
           any_moment = λ fit each. leaves_only (passes_as looks.time (as_before now each)) (before each);
           recoverable = λ fit each. subst IsRecoverable (sym looks.same) fit;
@@ -196,7 +294,7 @@ module _ {D : Type 0} (g : Ghosts D) (old : D)
         let last = g.files new in
         let puts = subst (λ (n : List ℕ). Puts n (0 ∷ drop 1 (g.files mid n).content) (g.files mid) last r) name_is put in
         let same : (name : List ℕ) → g.files mid name ≡ now name = λ name. ap (λ (f : List ℕ → FileState). f name) looks.same in
-        let others = λ (fit : IsRecoverable now) (name : List ℕ) (not : name ≢ journal_name). subst IsStable (sym (puts.others name not ∙ same name)) (closed_stable now shut fit name not) in
+        let others = λ (fit : IsRecoverable now) (name : List ℕ) (not : name ≢ journal_name). subst IsStable (sym (puts.others name not ∙ same name)) (closed_stable now (own journal_name) shut fit name not) in
         record {
           done = on_ok_both r puts.stable puts.is (λ stable is.
               let gate = closed_after (last journal_name) (drop 1 (g.files mid journal_name).content) stable is in
@@ -206,10 +304,10 @@ module _ {D : Type 0} (g : Ghosts D) (old : D)
                 gate = gate;
                 rest = λ fit each. closed_rest last gate stable (others fit);
               });
-          any_moment = λ fit each. leaves_only (passes_then (passes_as looks.time (as_before now each)) time (λ image left. closed_before now own shut (closed_stable now shut fit) image
+          any_moment = λ fit each. leaves_only (passes_then (passes_as looks.time (as_before now each)) time (λ image left. closed_before now own shut (closed_stable now (own journal_name) shut fit) image
               (subst (λ (f : List ℕ → FileState). LeavesClosed journal_name f image) looks.same (subst (λ (n : List ℕ). LeavesClosed n (g.files mid) image) name_is left)))) (before each);
           recoverable = λ fit each. inl (others fit);
-          bad = λ none. absurd (found_good (contents now) Closed shut none);
+          bad = λ none. absurd (found_good (contents now) Closed shut tt none);
           idle = not_short (contents now journal_name) short;
           alone = alone_then g (IsUnconcerned (contents now journal_name)) old mid new (alone_looks g (IsUnconcerned (contents now journal_name)) old mid looks)
               (alone_journal g journal (IsUnconcerned (contents now journal_name)) (LeavesClosed journal (g.files mid)) mid new name_is (λ name is. is.apart) put.others time (λ image left. left.others));

@@ -17,6 +17,7 @@ use Rattle.org_fileset.specs.Replay.{IsAtRest}
 -- these texts.
 pub record IsOpenFor (entries : List Entry) (texts : Image) (files : List ℕ → FileState)
     : Type 0 where
+  pub stable : IsStable (files journal_name)
   pub over_record : IsOpenOverRecord files
   pub same_entries : over_record.entries ≡ entries
   pub same_texts : over_record.texts ≡ texts

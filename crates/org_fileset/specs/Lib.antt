@@ -6,4 +6,5 @@ pub mod Names
 pub mod Opening
 pub mod Writes
 pub mod Looking
+pub mod Forgetting
 pub mod Laws

@@ -1,9 +1,11 @@
 -- What an opening may leave.
-use Rattle.std.specs.Prelude.{◌≡◌, ℕ, nat_le, Bool, ◌&&◌, not, List, ◌∷◌, length, drop, Result, OnOk, IsSomeAnd, IsTrue, is_some, None, if◌then◌else◌}
+use Rattle.std.specs.Prelude.{◌≡◌, ℕ, nat_le, ◌+◌, Bool, ◌&&◌, not, List, [], ◌∷◌, length, drop, Result, OnOk, IsSomeAnd, IsTrue, is_some, None, if◌then◌else◌}
 use Rattle.org_disk.specs.declared.disk.Disk.{Ghosts}
 use Rattle.org_disk.specs.Disk.{FileState, AreImages}
 use Rattle.org_disk.specs.CountsFailures.{LeavesOver}
 use Rattle.org_disk.specs.Names.{journal_name}
+use Rattle.org_splice.specs.Overwritten.{overwritten}
+use Rattle.org_journal.specs.Finding.{record_size}
 use Rattle.org_journal.specs.Gate.{front_size, is_open, HasClosedGate}
 use Rattle.org_journal.specs.Recovered.{Image, SameFiles, RecoversTo, IsRecoverable, contents, recovered}
 use Rattle.org_fileset.specs.Replay.{IsAtRest}
@@ -26,10 +28,17 @@ pub record RecoversAsBefore (files : List ℕ → FileState) (image : Image) : T
 abbrev pub is_closed : List ℕ → Bool
 is_closed journal = nat_le front_size (length journal) && not (is_open journal)
 
+-- a journal with 0 behind its record
+abbrev pub marked : List ℕ → List ℕ
+marked journal = overwritten (front_size + record_size journal) (0 ∷ []) journal
+
 -- What an opening makes of the journal. A whole one with a closed gate stays as it is, whatever
--- byte closes it; of another the first byte is 0 then, and the rest as it was.
+-- byte closes it; of another the first byte is 0 then, the one behind the record of an open one is
+-- 0 too, and the rest is as it was.
 abbrev pub closed_journal : List ℕ → List ℕ
-closed_journal journal = if is_closed journal then journal else 0 ∷ drop 1 journal
+closed_journal journal =
+    if is_closed journal then journal
+    else 0 ∷ drop 1 (if is_open journal then marked journal else journal)
 
 -- the journal is bad, as it reads, and each content is as it was
 abbrev pub IsFoundBad : Image → Image → Type 0

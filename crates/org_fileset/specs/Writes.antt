@@ -8,7 +8,7 @@ use Rattle.org_disk.specs.Disk.{AreImages, FileState, IsImage}
 use Rattle.org_disk.specs.CountsFailures.{LooksOver, PassesOver}
 use Rattle.org_disk.specs.Names.{journal_name}
 use Rattle.org_journal.specs.declared.record.Entry.{Entry}
-use Rattle.org_journal.specs.Gate.{is_open}
+use Rattle.org_journal.specs.Gate.{is_open, LeavesBody}
 use Rattle.org_journal.specs.Reading.{journal_at}
 use Rattle.org_journal.specs.Record.{is_named}
 use Rattle.org_journal.specs.Recovered.{Image}
@@ -43,6 +43,19 @@ pub record IsUnconcerned (journal : List ℕ) (name : List ℕ) : Type 0 where
   pub unnamed : IsTrue (is_open journal) → (entries : List Entry)
       → journal_at (drop 1 journal) ≡ Some entries
       → IsFalse (is_named name entries)
+
+-- Calls that try the files of a record behind a journal that is open over it, and close the gate
+-- where one fails, where the disk is honest after them. After Ok they only looked. After a failure
+-- each file but the journal has no other image than it had, and none but those of the record's was
+-- called; what a crash leaves meanwhile recovers to the files as they were or, where the gate still
+-- stands, to what the record makes of them.
+pub record TriesAgainOver {D : Type 0} (g : Ghosts D) (entries : List Entry) (old new : D)
+    (result : Result (Unit {0}) DiskFault) : Type 0 where
+  pub ok : OnOk result (LooksOver g old new)
+  pub time : PassesOver g old new (LeavesBody journal_name (g.files old))
+  pub images : (name : List ℕ) → name ≢ journal_name → (bytes : List ℕ)
+      → IsImage (g.files new name) bytes → IsImage (g.files old name) bytes
+  pub others : (name : List ℕ) → IsUnwritten entries name → g.files new name ≡ g.files old name
 
 -- Calls that try the journal and the files of a record, where the disk is honest after them. After
 -- Ok they only looked. After a failure all other files are the same, and what a crash leaves of

@@ -34,9 +34,10 @@ fn write_patch<D: Disk>(disk: &mut D, name: &FileName, patch: &Patch) -> Result<
     disk.write_at(name, patch.from, patch.bytes.as_slice())
 }
 
-/// Applies an entry's patches to its file, and cuts it to the entry's length. Before, within and
-/// after it, also where it fails, the entry makes the same text of whatever a crash leaves of the
-/// file.
+/// Applies an entry's patches to its file, and cuts it to the entry's length where it was longer
+/// before. What the file got meanwhile, past its end, is another program's, and isn't cut off.
+/// Before, within and after it, also where it fails, the entry makes the same text of whatever a
+/// crash leaves of the file.
 ///
 /// # Errors
 ///
@@ -51,11 +52,30 @@ pub fn apply_entry<D: Disk>(disk: &mut D, entry: &Entry) -> Result<(), DiskFault
         (λ other. other ≢ entry.now.name) disk.old disk.new }
     ensures accounts { CountsFailures D.Disk disk.old disk.new (IsErr result) }
 {
+    let before = disk.length(&entry.name)?;
+    apply_patches(disk, entry, before)
+}
+
+// Applies an entry's patches to its file, which had so many bytes before. The length that is asked
+// for behind the patches is what the disk takes the file to have from here on.
+fn apply_patches<D: Disk>(disk: &mut D, entry: &Entry, before: u64) -> Result<(), DiskFault>
+    requires can { D.honest disk.old
+        → CanPatch entry.now (D.files disk.old entry.now.name).content }
+    requires before { D.honest disk.old
+        → before ≡ length (D.files disk.old entry.now.name).content }
+    ensures applies { D.honest disk.new → AppliesPatchesOver D.Disk entry.now disk.old disk.new }
+    ensures content { OnOk result (D.honest disk.new → (D.files disk.new entry.now.name).content
+        ≡ patched (pairs_of entry.now.patches) entry.now.length
+        (D.files disk.old entry.now.name).content) }
+    ensures alone { D.honest disk.new → LeavesAlone D.Disk
+        (λ other. other ≢ entry.now.name) disk.old disk.new }
+    ensures accounts { CountsFailures D.Disk disk.old disk.new (IsErr result) }
+{
     for patch in entry.patches.as_slice() {
         write_patch(disk, &entry.name, patch)?;
     }
     let length = disk.length(&entry.name)?;
-    if length > entry.length {
+    if before > entry.length && length > entry.length {
         disk.cut(&entry.name, entry.length)?;
     }
     Ok(())

@@ -9,6 +9,7 @@ ghost use Rattle.org_disk.specs.Names.{journal_name};
 ghost use Rattle.org_journal.specs.Gate.{HasClosedGate};
 ghost use Rattle.org_journal.specs.Record.{BeginsWith};
 ghost use Rattle.org_fileset.specs.Replay.{AreApplicableTo, CommitsEntriesOver, IsOpenOver, ReplaysOver};
+ghost use Rattle.org_fileset.specs.Writes.{TriesAgainOver};
 
 use crate::apply::{apply_all, sync_all};
 use crate::trying::{try_all, try_files};
@@ -40,8 +41,10 @@ pub fn replay<D: Disk>(disk: &mut D, journal: &FileName, entries: &[Entry]) -> R
 /// the record stays.
 ///
 /// Before anything is written, the journal and the files are tried: where one can't be written, the
-/// gate stays closed. Once all is done the files are tried again: where another program replaced
-/// one meanwhile, its change went astray, and isn't reported as done.
+/// gate stays closed. Behind the opened gate the files are tried again, just before the first of
+/// them is written: where another program changed one meanwhile, the gate is closed, and none is
+/// written. Once all is done they are tried a last time: where another program replaced one
+/// meanwhile, its change went astray, and isn't reported as done.
 ///
 /// # Errors
 ///
@@ -63,6 +66,25 @@ pub fn commit_entries<D: Disk>(
     try_all(disk, journal, entries)?;
     arm(disk, journal, body)?;
     open_gate(disk, journal)?;
+    try_again(disk, journal, entries)?;
     replay(disk, journal, entries)?;
     try_files(disk, entries)
+}
+
+// Tries the files once more behind the opened gate. Where another program changed one meanwhile,
+// the gate is closed again, and each file stays as it is.
+fn try_again<D: Disk>(disk: &mut D, journal: &FileName, entries: &[Entry]) -> Result<(), DiskFault>
+    requires journal { journal.now ≡ journal_name }
+    requires applicable { D.honest disk.old → AreApplicableTo entries.now (D.files disk.old) }
+    requires opened { D.honest disk.old → IsOpenOver entries.now (D.files disk.old) }
+    ensures again { D.honest disk.new → TriesAgainOver D.Disk entries.now disk.old disk.new result }
+    ensures accounts { CountsFailures D.Disk disk.old disk.new (IsErr result) }
+{
+    match try_files(disk, entries) {
+        Ok(()) => Ok(()),
+        Err(fault) => {
+            close_gate(disk, journal)?;
+            Err(fault)
+        }
+    }
 }

@@ -19,4 +19,5 @@ mod trying;
 pub use fault::SetFault;
 pub use names::{in_order, with_archives};
 pub use open::{MOST_NAMES, OpenFault, OpenRefused};
+pub use recover::forget;
 pub use set::{FileSet, LIMIT};

@@ -34,6 +34,13 @@ pub enum OpenFault {
     /// its files. No content was changed.
     #[error("BadJournal")]
     BadJournal,
+    /// The journal's gate is open, and the file of this name, which its record names, was put there
+    /// or changed since. No content was changed.
+    #[error("Changed {0}")]
+    Changed(FileName),
+    /// .. or leads out of the folder. No content was changed.
+    #[error("Outside {0}")]
+    Outside(FileName),
     /// The file of this name has more than 67,108,864 bytes: the first such file, in byte order of
     /// the names. What a crash had cut short was finished.
     #[error("TooLarge {0}")]

@@ -1,19 +1,27 @@
 //! What an opening does first: it finishes what a crash cut short, and leaves the gate closed.
 //!
 //! It may be stopped at any call and begun anew. A bad journal is left as it is.
-ghost use Rattle.std.specs.Prelude.{◌≡◌, Ok, IfOk, IsErr, IsErrOf, IsFalse};
-ghost use Rattle.org_disk.specs.CountsFailures.{CountsFailures};
+ghost use Rattle.std.specs.Prelude.{◌≡◌, ◌+◌, ◌<◌, ◌^◌, Ok, IfOk, IfErr, IsErr, IsErrOf, IsFalse, IsTrue};
+ghost use Rattle.org_disk.specs.CountsFailures.{CountsFailures, Looks};
 ghost use Rattle.org_disk.specs.Disk.{IsStable};
 ghost use Rattle.org_disk.specs.Names.{journal_name};
-ghost use Rattle.org_journal.specs.Finding.{Finds, IsWritable};
-ghost use Rattle.org_journal.specs.Recovered.{contents};
+ghost use Rattle.org_journal.specs.Finding.{EndsAt, Finds, IsWritable};
+ghost use Rattle.org_journal.specs.Recovered.{all_fit, contents};
 ghost use Rattle.org_journal.specs.Gate.{is_open};
+ghost use Rattle.org_journal.specs.Record.{is_named, IsWellFormed};
+ghost use Rattle.org_journal.specs.declared.record.Version.TheVariants.{Two};
+ghost use Rattle.org_fileset.specs.Opening.{IsFaultOfRecovery, IsFit, IsStrange, IsUnfit, Names};
+ghost use Rattle.org_fileset.specs.Replay.{AreApplicableTo, IsOpenOver};
+ghost use Rattle.org_fileset.specs.Forgetting.{ForgetsOver, IsTransient};
 ghost use Rattle.org_fileset.specs.Looking.{IsLookedAt, IsFoundIn};
 ghost use Rattle.org_fileset.specs.Recovery.{IsFoundBad, Reopens};
 
 use crate::commit::replay;
-use org_disk::{Disk, DiskFault, FileName};
-use org_journal::{FRONT, FindFault, Found, find, prepare};
+use crate::open::OpenFault;
+use org_disk::{Disk, DiskFault, FileName, Standing};
+use org_journal::{
+    Entry, FRONT, FindFault, Found, all_fit, close_gate, find, is_open, mark, prepare,
+};
 use std::alloc::Global;
 
 /// Syncs the journal and looks at it. Nothing else is done.
@@ -48,17 +56,39 @@ fn give_gate<D: Disk>(disk: &mut D, journal: &FileName) -> Result<(), DiskFault>
     Ok(())
 }
 
+/// Does again what an open journal's record says, once the journal is marked. So a recovery that is
+/// stopped here leaves a journal that changed after the files did, and isn't taken for the work of
+/// another program.
+fn redo<D: Disk>(
+    disk: &mut D,
+    journal: &FileName,
+    entries: &[Entry],
+    end: u64,
+) -> Result<(), DiskFault>
+    requires journal { journal.now ≡ journal_name }
+    requires room { end + 1 < 2 ^ 64 }
+    requires applicable { D.honest disk.old → AreApplicableTo entries.now (D.files disk.old) }
+    requires opened { D.honest disk.old → IsOpenOver entries.now (D.files disk.old) }
+    requires end { D.honest disk.old → EndsAt (contents (D.files disk.old) journal_name) end }
+    ensures reopens { Reopens D.Disk disk.old disk.new result }
+    ensures accounts { CountsFailures D.Disk disk.old disk.new (IsErr result) }
+{
+    mark(disk, journal, end)?;
+    replay(disk, journal, entries)
+}
+
 /// Finishes what was found in the journal, which is on the device.
 fn finish<D: Disk>(disk: &mut D, journal: &FileName, found: &Found) -> Result<(), DiskFault>
     requires journal { journal.now ≡ journal_name }
     requires stable { D.honest disk.old → IsStable (D.files disk.old journal_name) }
     requires found { D.honest disk.old → Finds (contents (D.files disk.old)) (Ok found.now) }
+    requires fit { D.honest disk.old → IsFit found.now (contents (D.files disk.old)) }
     requires writable { IsWritable found.now }
     ensures reopens { Reopens D.Disk disk.old disk.new result }
     ensures accounts { CountsFailures D.Disk disk.old disk.new (IsErr result) }
 {
     match found {
-        Found::Open(record) => replay(disk, journal, record.as_slice()),
+        Found::Open(record, end) => redo(disk, journal, record.as_slice(), *end),
         Found::Closed => give_gate(disk, journal),
     }
 }
@@ -74,18 +104,110 @@ fn finish<D: Disk>(disk: &mut D, journal: &FileName, found: &Found) -> Result<()
 ///
 /// # Errors
 ///
-/// - `BadJournal`: the gate is open, and no whole record that fits its files stands behind it.
-///   Nothing was changed.
+/// In this order, and the first three before anything is changed:
+///
+/// - `BadJournal`: the gate is open, and no whole record stands behind it.
+/// - `Changed`, `Outside`: the gate is open over a record, and this is the first of its files that
+///   doesn't stand as a crash may have left it.
+/// - `BadJournal`: the record doesn't fit its files.
 /// - `Device`: a call of the disk failed.
 /// - `OutOfMemory`.
-pub fn recover<D: Disk>(alloc: Global, disk: &mut D, journal: &FileName) -> Result<(), FindFault>
+pub fn recover<D: Disk>(alloc: Global, disk: &mut D, journal: &FileName) -> Result<(), OpenFault>
     requires { journal.now ≡ journal_name }
     ensures reopens { Reopens D.Disk disk.old disk.new result }
-    ensures bad { IsErrOf result FindFault.BadJournal → D.honest disk.new
-        → IsFoundBad (contents (D.files disk.old)) (contents (D.files disk.new)) }
-    ensures accounts { CountsFailures D.Disk disk.old disk.new (IsErrOf result FindFault.Device) }
+    ensures fault { IfErr result (IsFaultOfRecovery (D.honest disk.new)
+        (contents (D.files disk.old)) (contents (D.files disk.new))) }
+    ensures accounts { CountsFailures D.Disk disk.old disk.new (IsErrOf result OpenFault.Device) }
 {
     let found = look(alloc, disk, journal)?;
+    check_found(disk, &found)?;
     finish(disk, journal, &found)?;
     Ok(())
+}
+
+/// Closes the journal's gate if it is open, whatever stands after it, and leaves every file but the
+/// journal as it is: what a crash cut short stays as the crash left it. If the gate is closed,
+/// nothing is written.
+///
+/// # Errors
+///
+/// - `Device`: a call of the disk failed.
+/// - `OutOfMemory`: nothing was changed.
+pub fn forget<D: Disk>(alloc: Global, disk: &mut D) -> Result<(), OpenFault>
+    ensures forgets { D.honest disk.new → ForgetsOver D.Disk disk.old disk.new result }
+    ensures fault { IfErr result IsTransient }
+    ensures accounts { CountsFailures D.Disk disk.old disk.new (IsErrOf result OpenFault.Device) }
+{
+    let journal = FileName::journal_name(alloc)?;
+    shut(disk, &journal)?;
+    Ok(())
+}
+
+// Closes the gate if it is open.
+fn shut<D: Disk>(disk: &mut D, journal: &FileName) -> Result<(), DiskFault>
+    requires { journal.now ≡ journal_name }
+    ensures forgets { D.honest disk.new → ForgetsOver D.Disk disk.old disk.new result }
+    ensures accounts { CountsFailures D.Disk disk.old disk.new (IsErr result) }
+{
+    disk.sync(journal)?;
+    if is_open(disk, journal)? {
+        return close_gate(disk, journal);
+    }
+    Ok(())
+}
+
+// That each file of a record that is to be done stands as a crash may have left it, and then that
+// the record fits them.
+fn check_found<D: Disk>(disk: &mut D, found: &Found) -> Result<(), OpenFault>
+    requires { IsWritable found.now }
+    ensures strange { IfErr result (IsStrange (Names found.now)
+        (D.honest disk.new → IsUnfit found.now (contents (D.files disk.old)))) }
+    ensures fit { IfOk result (λ _. D.honest disk.new
+        → IsFit found.now (contents (D.files disk.old))) }
+    ensures looks { Looks D.Disk disk.old disk.new }
+    ensures accounts { CountsFailures D.Disk disk.old disk.new (IsErrOf result OpenFault.Device) }
+{
+    match found {
+        Found::Open(record, _) => check_record(disk, record.as_slice()),
+        Found::Closed => Ok(()),
+    }
+}
+
+fn check_record<D: Disk>(disk: &mut D, entries: &[Entry]) -> Result<(), OpenFault>
+    requires { IsWellFormed Two entries.now }
+    ensures strange { IfErr result (IsStrange (λ name. IsTrue (is_named name entries.now))
+        (D.honest disk.new → IsFalse (all_fit entries.now (contents (D.files disk.old))))) }
+    ensures fit { IfOk result (λ _. D.honest disk.new
+        → IsTrue (all_fit entries.now (contents (D.files disk.old)))) }
+    ensures looks { Looks D.Disk disk.old disk.new }
+    ensures accounts { CountsFailures D.Disk disk.old disk.new (IsErrOf result OpenFault.Device) }
+{
+    check_standing(disk, entries)?;
+    if !all_fit(disk, entries)? {
+        return Err(OpenFault::BadJournal);
+    }
+    Ok(())
+}
+
+fn check_standing<D: Disk>(disk: &mut D, entries: &[Entry]) -> Result<(), OpenFault>
+    ensures strange { IfErr result (IsStrange (λ name. IsTrue (is_named name entries.now)) ⊥) }
+    ensures looks { Looks D.Disk disk.old disk.new }
+    ensures accounts { CountsFailures D.Disk disk.old disk.new (IsErrOf result OpenFault.Device) }
+{
+    for entry in entries {
+        check_file(disk, &entry.name)?;
+    }
+    Ok(())
+}
+
+fn check_file<D: Disk>(disk: &mut D, name: &FileName) -> Result<(), OpenFault>
+    ensures strange { IfErr result (IsStrange (λ other. other ≡ name.now) ⊥) }
+    ensures looks { Looks D.Disk disk.old disk.new }
+    ensures accounts { CountsFailures D.Disk disk.old disk.new (IsErrOf result OpenFault.Device) }
+{
+    match disk.standing(name)? {
+        Standing::Left => Ok(()),
+        Standing::Changed => Err(OpenFault::Changed(name.clone()?)),
+        Standing::Outside => Err(OpenFault::Outside(name.clone()?)),
+    }
 }

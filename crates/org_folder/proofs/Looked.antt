@@ -1,6 +1,6 @@
 -- Calls that only look, one after another.
 use Rattle.std.proofs.Common.{◌≡◌, ◌∙◌, ap, sym, refl, subst, ℕ, List, [], ◌∷◌, ◌++◌, Option, Some, None, Result, Ok, Err, IfOk, IfSome, OnErr}
-use Rattle.std.specs.Prelude.{IfNone}
+use Rattle.std.specs.Prelude.{IfErr, IfNone, IsErrAnd}
 use Rattle.std.proofs.lemmas.List.{append_assoc}
 use Rattle.std.proofs.lemmas.List.Elements.{All-append, All-cons, All-nil}
 use Rattle.org_folder.specs.Calls.{Event, IsHeld, IsLook, OnlyLooks, with_entries}
@@ -68,3 +68,8 @@ held_after (event ∷ calls) old held = held_by event (calls ++ old) (held_after
 
 pub held_on : (old new : List Event) → OnlyLooks old new → IsHeld old → IsHeld new
 held_on old new looks held = subst IsHeld (sym looks.after) (held_after looks.calls old held)
+
+-- what a `?` passed on
+pub fault_passed : {U E : Type 0} (P : E → Type 0) (answer : Result U E) (fault : E) → IsErrAnd answer (λ y. y ≡ fault) → P fault → IfErr answer P
+fault_passed P (Ok x) fault is held = absurd is
+fault_passed P (Err f) fault is held = subst P (sym is) held

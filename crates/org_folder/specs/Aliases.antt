@@ -3,7 +3,7 @@ use Rattle.std.specs.Prelude.{ℕ, Bool, false, ◌&&◌, nat_eq, List, get_or, 
 use Rattle.std.specs.List.{Contains, list_any}
 use Rattle.org_folder.specs.declared.aliases.Node.{Node}
 use Rattle.org_folder.specs.declared.aliases.AliasFault.{AliasFault}
-use Rattle.org_folder.specs.declared.aliases.AliasFault.TheVariants.{SameFile, Unseen}
+use Rattle.org_folder.specs.declared.aliases.AliasFault.TheVariants.{SameFile, Linked, Unseen}
 
 -- both are files, and they are one
 abbrev pub is_same : Option Node → Option Node → Bool
@@ -18,4 +18,5 @@ is_again nodes at = list_any (λ other. is_same other (get_or nodes at None)) (t
 -- of these names one behind the first may be reported, which leads to the file of one before it
 abbrev pub MayReport : List (List ℕ) → AliasFault → Type 0
 MayReport names (SameFile name) = Contains (drop 1 names) name
+MayReport names Linked = Unit {0}
 MayReport names (Unseen cause) = Unit {0}

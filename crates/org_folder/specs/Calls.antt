@@ -146,12 +146,6 @@ abbrev pub IsWithin : World → List Event → List ℕ → ℕ → Type 0
 IsWithin world calls name n =
     AreRight world calls → n ≤ length (files world calls name).content
 
--- where the answers were right: none of these names has a file
-abbrev pub AreAbsent : World → List Event → List (List ℕ) → Type 0
-AreAbsent world calls names =
-    AreRight world calls → (name : List ℕ) → IsTrue (list_any (bytes_eq name) names)
-    → files world calls name ≡ stable []
-
 -- no write, cut or sync among these calls is on the file of this name
 abbrev pub IsLeftAlone : List ℕ → List Event → Type 0
 IsLeftAlone name [] = ⊤
@@ -169,6 +163,63 @@ has_entered name (_ ∷ earlier) = has_entered name earlier
 
 abbrev pub HasEntered : List ℕ → List Event → Type 0
 HasEntered name calls = IsTrue (has_entered name calls)
+
+-- whether a sync of an entry failed
+abbrev pub has_failed : List Event → Bool
+has_failed [] = false
+has_failed (Filled path ∷ earlier) = has_failed earlier
+has_failed (Locked path ∷ earlier) = has_failed earlier
+has_failed (Entry name ∷ earlier) = has_failed earlier
+has_failed (Listed ∷ earlier) = has_failed earlier
+has_failed (There name device number plain ∷ earlier) = has_failed earlier
+has_failed (Unseen name ∷ earlier) = has_failed earlier
+has_failed (Made name ok ∷ earlier) = has_failed earlier
+has_failed (Entered name true ∷ earlier) = has_failed earlier
+has_failed (Entered name false ∷ earlier) = true
+has_failed (Absent name ∷ earlier) = has_failed earlier
+has_failed (Length name n ∷ earlier) = has_failed earlier
+has_failed (Read name from bytes ∷ earlier) = has_failed earlier
+has_failed (Write name from bytes ok ∷ earlier) = has_failed earlier
+has_failed (Cut name n ok ∷ earlier) = has_failed earlier
+has_failed (Sync name ok ∷ earlier) = has_failed earlier
+
+-- whether a name was found without a file
+abbrev pub was_absent : List ℕ → List Event → Bool
+was_absent name [] = false
+was_absent name (Absent other ∷ earlier) = bytes_eq other name || was_absent name earlier
+was_absent name (_ ∷ earlier) = was_absent name earlier
+
+abbrev pub HasAbsent : List ℕ → List Event → Type 0
+HasAbsent name calls = IsTrue (was_absent name calls)
+
+-- each of these names was found without a file
+abbrev pub AreFoundAbsent : List Event → List (List ℕ) → Type 0
+AreFoundAbsent calls names =
+    (name : List ℕ) → IsTrue (list_any (bytes_eq name) names) → HasAbsent name calls
+
+-- Each of these names was found without a file; and where the answers were right, it has none.
+pub record AreAbsent (world : World) (calls : List Event) (names : List (List ℕ)) : Type 0 where
+  pub looked : AreFoundAbsent calls names
+  pub empty : AreRight world calls → (name : List ℕ) → IsTrue (list_any (bytes_eq name) names)
+      → files world calls name ≡ stable []
+
+-- whether streams that are closed were filled
+abbrev pub is_filled : List Event → Bool
+is_filled [] = false
+is_filled (Filled path ∷ earlier) = true
+is_filled (Locked path ∷ earlier) = is_filled earlier
+is_filled (Entry name ∷ earlier) = is_filled earlier
+is_filled (Listed ∷ earlier) = is_filled earlier
+is_filled (There name device number plain ∷ earlier) = is_filled earlier
+is_filled (Unseen name ∷ earlier) = is_filled earlier
+is_filled (Made name ok ∷ earlier) = is_filled earlier
+is_filled (Entered name ok ∷ earlier) = is_filled earlier
+is_filled (Absent name ∷ earlier) = is_filled earlier
+is_filled (Length name n ∷ earlier) = is_filled earlier
+is_filled (Read name from bytes ∷ earlier) = is_filled earlier
+is_filled (Write name from bytes ok ∷ earlier) = is_filled earlier
+is_filled (Cut name n ok ∷ earlier) = is_filled earlier
+is_filled (Sync name ok ∷ earlier) = is_filled earlier
 
 -- the path of the folder that was locked last, or no path
 abbrev pub path_in : List Event → List ℕ

@@ -1,7 +1,7 @@
 //! That each two of a store's names lead to two files.
 //!
 //! Two names of one file (links) would be written as two. It looks and changes nothing.
-ghost use Rattle.std.specs.Prelude.{◌≡◌, ◌<◌, ℕ, length, IfOk, IfErr, IfSome, IfNone, IsTrue, IsFalse};
+ghost use Rattle.std.specs.Prelude.{◌≡◌, ◌<◌, ℕ, List, length, IfOk, IfErr, IfSome, IfNone, IsTrue, IsFalse};
 ghost use Rattle.std.specs.List.{list_any};
 ghost use Rattle.org_folder.specs.Aliases.{is_again, is_same, MayReport};
 ghost use Rattle.org_folder.specs.Right.{HaveNoFiles};
@@ -13,7 +13,7 @@ use crate::list::ListFault;
 use crate::system::System;
 use indexmap::IndexSet;
 use org_disk::FileName;
-use std::alloc::{AllocError, Global};
+use std::alloc::{AllocError, AllocFailed, Global};
 use thiserror::Error;
 
 /// Why names can't be those of a store.
@@ -22,6 +22,9 @@ pub enum AliasFault {
     /// This name leads to the file of one before it.
     #[error("the file of {0} has another name")]
     SameFile(FileName),
+    /// The journal's name leads to no plain file of the folder itself.
+    #[error("the journal is no plain file")]
+    Linked,
     /// A name can't be looked at, or there was no memory for that.
     #[error("a name can't be looked at: {0}")]
     Unseen(ListFault),
@@ -31,6 +34,14 @@ impl From<AllocError> for AliasFault {
     ghost from_gives = { λ _ fault. fault ≡ Unseen OutOfMemory };
 
     fn from(_: AllocError) -> AliasFault {
+        AliasFault::Unseen(ListFault::OutOfMemory)
+    }
+}
+
+impl<T: Drop> From<AllocFailed<T>> for AliasFault {
+    ghost from_gives = { λ _ fault. fault ≡ Unseen OutOfMemory };
+
+    fn from(_: AllocFailed<T>) -> AliasFault {
         AliasFault::Unseen(ListFault::OutOfMemory)
     }
 }
@@ -75,6 +86,7 @@ impl Node {
 ///
 /// # Errors
 ///
+/// - `Linked`: a link or what else is no plain file stands in the journal's place.
 /// - `SameFile`: the first name that leads to the file of one before it.
 /// - `Unseen`: a name can't be looked at, or there was no memory for that.
 #[tactic(auto, using(crate::proofs::Looked::held_on))]
@@ -112,8 +124,9 @@ fn nodes_of<S: System>(
     system: &mut S,
     names: &[FileName],
     absent: &mut IndexSet<FileName>,
-) -> Result<Vec<Option<Node>>, ListFault>
+) -> Result<Vec<Option<Node>>, AliasFault>
     requires { HaveNoFiles S.System system.old absent.old.keys }
+    ensures fault { IfErr result (λ fault. (names : List (List ℕ)) → MayReport names fault) }
     ensures absent { HaveNoFiles S.System system.new absent.new.keys }
     ensures looks { OnlyLooks (S.history system.old) (S.history system.new) }
     ensures size { IfOk result (λ nodes. length nodes.items ≡ length names.now) }
@@ -121,9 +134,7 @@ fn nodes_of<S: System>(
     let mut nodes = Vec::new(alloc);
     for name in names {
         let node = node_of(system, name, absent)?;
-        if nodes.push(node).is_err() {
-            return Err(ListFault::OutOfMemory);
-        }
+        nodes.push(node)?;
     }
     Ok(nodes)
 }
@@ -132,18 +143,25 @@ fn node_of<S: System>(
     system: &mut S,
     name: &FileName,
     absent: &mut IndexSet<FileName>,
-) -> Result<Option<Node>, ListFault>
+) -> Result<Option<Node>, AliasFault>
     requires { HaveNoFiles S.System system.old absent.old.keys }
+    ensures fault { IfErr result (λ fault. (names : List (List ℕ)) → MayReport names fault) }
     ensures absent { HaveNoFiles S.System system.new absent.new.keys }
     ensures looks { OnlyLooks (S.history system.old) (S.history system.new) }
 {
     match system.look(name)? {
+        Some(found) if !found.is_plain && is_journal(name) => Err(AliasFault::Linked),
         Some(found) => Ok(Some(found.node)),
         None => {
             absent.insert(name.clone()?)?;
             Ok(None)
         }
     }
+}
+
+// The journal's is the one name on a disk that no text makes.
+fn is_journal(name: &FileName) -> bool {
+    !FileName::accepts(name.as_str())
 }
 
 // The first place whose file is that of an earlier one.

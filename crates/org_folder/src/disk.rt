@@ -10,7 +10,7 @@ ghost use Rattle.org_folder.specs.Right.{file_of, HasBeenRight, HaveNoFiles};
 use crate::folder::Folder;
 use crate::system::{HostSystem, System};
 use indexmap::IndexSet;
-use org_disk::{Disk, DiskFault, FileName};
+use org_disk::{Disk, DiskFault, FileName, Standing};
 use std::alloc::Global;
 
 /// The files of a folder, as a disk over the calls of a system. An absent file and an empty one are
@@ -26,6 +26,8 @@ use std::alloc::Global;
 #[derive(Drop)]
 pub struct CallsDisk<S: System> {
     folder: Folder<S>,
+    // whatever a file's standing is, it is taken for left by a crash
+    adopts: bool,
     failures: u64,
 }
 
@@ -47,15 +49,18 @@ where
     S::File: Drop,
 {
     /// The disk over these calls, of a folder that is locked. It makes none. Of names that were
-    /// found absent the first call on each doesn't look again.
-    pub fn over(alloc: Global, system: S, absent: IndexSet<FileName>) -> CallsDisk<S>
+    /// found absent the first call on each doesn't look again. Where it `adopts`, it takes each file
+    /// for one that a crash left, and asks the system nothing.
+    pub fn over(alloc: Global, system: S, absent: IndexSet<FileName>, adopts: bool) -> CallsDisk<S>
         requires held { IsHeld (S.history system) }
         requires absent { HaveNoFiles S.System system absent.keys }
         ensures system { result.folder.system ≡ system }
         ensures failures { result.failures ≡ 0 }
+        ensures adopts { result.adopts ≡ adopts }
     {
         CallsDisk {
             folder: Folder::new(alloc, system, absent),
+            adopts,
             failures: 0,
         }
     }
@@ -125,5 +130,12 @@ where
 
     fn sync(&mut self, name: &FileName) -> Result<(), DiskFault> {
         counted(self.folder.sync(name), &mut self.failures)
+    }
+
+    fn standing(&mut self, name: &FileName) -> Result<Standing, DiskFault> {
+        if self.adopts {
+            return Ok(Standing::Left);
+        }
+        counted(self.folder.standing(name), &mut self.failures)
     }
 }

@@ -8,12 +8,12 @@ ghost use Rattle.std.specs.Prelude.{◌≡◌, ◌⊎◌, ◌≤◌, [], ◌∷�
 ghost use Rattle.std.specs.List.{list_any};
 ghost use Rattle.std.specs.Str.{bytes_eq};
 ghost use Rattle.org_disk.specs.Disk.{cut, stable, sync, write};
-ghost use Rattle.org_folder.specs.Calls.{HasEntered, IsHeld};
+ghost use Rattle.org_folder.specs.Calls.{AreFoundAbsent, HasAbsent, HasEntered, IsHeld};
 ghost use Rattle.org_folder.specs.Right.{content_of, file_of, AreEntered, DoesRight, HasBeenRight, HaveNoFiles, LiesWithin, LooksRight, StandsAt};
 
 use crate::system::{Opened, System};
 use indexmap::IndexSet;
-use org_disk::{DiskFault, FileName};
+use org_disk::{DiskFault, FileName, Standing};
 use std::alloc::Global;
 
 #[derive(Drop)]
@@ -23,9 +23,12 @@ pub struct Folder<S: System> {
     absent: IndexSet<FileName>,
     // absent before the first call on each
     absent_at_first: IndexSet<FileName>,
+    // found absent by some call: what is there since was put there by another program or name
+    missing: IndexSet<FileName>,
     ghost held: { IsHeld (S.history system) },
     ghost known: { HaveNoFiles S.System system absent.keys },
     ghost known_at_first: { HaveNoFiles S.System system absent_at_first.keys },
+    ghost looked: { AreFoundAbsent (S.history system) missing.keys },
     ghost entered: { AreEntered (S.history system) files.items },
 }
 
@@ -43,6 +46,7 @@ where
             files: Vec::new(alloc),
             absent: IndexSet::new(alloc),
             absent_at_first: absent,
+            missing: IndexSet::new(alloc),
         }
     }
 
@@ -100,6 +104,12 @@ where
         }
     }
 
+    pub fn standing(&mut self, name: &FileName) -> Result<Standing, DiskFault>
+        ensures { LooksRight S.System self.old.system self.new.system }
+    {
+        self.system.standing(name)
+    }
+
     // Where the file of a name stands among those that are open, if there is one.
     fn find(&mut self, name: &FileName) -> Result<Option<usize>, DiskFault>
         ensures place { IfOk result (λ found. IfSome found
@@ -111,6 +121,8 @@ where
             × IsFalse (list_any (bytes_eq name.now) self.new.absent_at_first.keys))) }
         ensures found { IfOk result (λ found. IfSome found (λ _.
             S.history self.new.system ≡ S.history self.old.system)) }
+        ensures looked { IfOk result (λ found. IfNone found
+            (HasAbsent name.now (S.history self.new.system))) }
         ensures looks { LooksRight S.System self.old.system self.new.system }
     {
         // It is believed once: another program may make the file meanwhile.
@@ -137,18 +149,38 @@ where
     // What is made is no longer absent, and a make that fails may have made it.
     fn find_or_make(&mut self, name: &FileName) -> Result<usize, DiskFault>
         ensures place { IfOk result (StandsAt name.now self.new.files.items) }
+        ensures there { OnOk result (IsFalse (list_any (bytes_eq name.now) self.new.absent.keys)
+            × IsFalse (list_any (bytes_eq name.now) self.new.absent_at_first.keys)) }
+        ensures looks { LooksRight S.System self.old.system self.new.system }
+    {
+        if let Ok(at) = self.place(name) {
+            self.absent.swap_remove(name);
+            self.absent_at_first.swap_remove(name);
+            return Ok(at);
+        }
+        if self.missing.contains(name) {
+            return self.make(name);
+        }
+        match self.find(name)? {
+            Some(at) => Ok(at),
+            None => self.make(name),
+        }
+    }
+
+    // Makes a file that was found absent.
+    fn make(&mut self, name: &FileName) -> Result<usize, DiskFault>
+        requires { HasAbsent name.now (S.history self.old.system) }
+        ensures place { IfOk result (StandsAt name.now self.new.files.items) }
         ensures there { IsFalse (list_any (bytes_eq name.now) self.new.absent.keys)
             × IsFalse (list_any (bytes_eq name.now) self.new.absent_at_first.keys) }
         ensures looks { LooksRight S.System self.old.system self.new.system }
     {
         self.absent.swap_remove(name);
         self.absent_at_first.swap_remove(name);
+        let opened = self.system.make(name)?;
         match self.place(name) {
             Ok(at) => Ok(at),
-            Err(place) => {
-                let opened = self.system.make(name)?;
-                self.keep(place, opened)
-            }
+            Err(place) => self.keep(place, opened),
         }
     }
 
@@ -183,13 +215,23 @@ where
     // Keeps the name of a file that isn't there for the next call on it. Without memory for it,
     // that call looks again.
     fn keep_absent(&mut self, name: &FileName)
-        requires { HasBeenRight S.System self.old.system
+        requires empty { HasBeenRight S.System self.old.system
             → file_of S.System self.old.system name.now ≡ stable [] }
+        requires looked { HasAbsent name.now (S.history self.old.system) }
         ensures { self.new.system ≡ self.old.system }
     {
-        if let Ok(name) = name.clone() {
-            let _ = self.absent.insert(name);
-        }
+        put(name, &mut self.absent);
+        put(name, &mut self.missing);
+    }
+}
+
+// Puts a name with others, where there is memory for it.
+fn put(name: &FileName, names: &mut IndexSet<FileName>)
+    ensures { (other : List ℕ) → IsTrue (list_any (bytes_eq other) names.new.keys)
+        → (other ≡ name.now) ⊎ IsTrue (list_any (bytes_eq other) names.old.keys) }
+{
+    if let Ok(name) = name.clone() {
+        let _ = names.insert(name);
     }
 }
 
@@ -204,6 +246,8 @@ where
         → HasEntered opened.new.name (S.history system.new) }
     ensures others { (name : List ℕ) → HasEntered name (S.history system.old)
         → HasEntered name (S.history system.new) }
+    ensures absent { (name : List ℕ) → HasAbsent name (S.history system.old)
+        → HasAbsent name (S.history system.new) }
     ensures held { IsHeld (S.history system.old) → IsHeld (S.history system.new) }
 {
     if !opened.is_entered() {

@@ -75,7 +75,8 @@ pub fn org_file(alloc: Global, text: &str) -> Result<FileName, Fault<BadName>>
     FileName::new(alloc, text)
 }
 
-fn is_org_file(text: &str) -> bool
+// Whether a text is the name of an Org file, and of no archive file.
+pub(crate) fn is_org_file(text: &str) -> bool
     ensures { result ≡ is_org_file text.now }
 {
     FileName::accepts(text) && !text.as_bytes().ends_with(b"_archive")

@@ -3,21 +3,23 @@
 //! Code that is generic over `System` has no other way to the folder. The record stands in proofs
 //! alone. Whether its answers were right is the premise under which a folder is an honest disk.
 ghost use Rattle.std.specs.Prelude.{◌≡◌, List, ◌∷◌, is_ok, map, string_bytes, IsTrue, IsFalse, IfOk, IfSome, IfNone, OnOk, OnErr};
-ghost use Rattle.org_folder.specs.Calls.{Event, HasEntered, IsWithin, World, is_held, with_entries};
+ghost use Rattle.org_folder.specs.Calls.{Event, HasAbsent, HasEntered, IsWithin, World, has_failed, is_filled, is_held, with_entries};
 ghost use Rattle.org_folder.specs.Calls.Event.{Absent, Cut, Entered, Filled, Length, Listed, Locked, Made, Read, Sync, There, Unseen, Write};
 
 use crate::aliases::Node;
 use crate::list::ListFault;
 use crate::lock;
-use org_disk::{DiskFault, FileName};
+use org_disk::{DiskFault, FileName, Standing};
 use org_fault::Fault;
 use seen::Seen;
 use std::alloc::AllocError;
 use std::cell::Cell;
 
 mod access;
+mod again;
 mod host;
 mod seen;
+mod standing;
 
 pub use host::{HostSystem, Locks};
 
@@ -80,7 +82,8 @@ impl<F: Drop> Opened<F> {
     }
 }
 
-/// What a name leads to: a file, which is a plain one, or a folder, a pipe, a socket or a device.
+/// What a name leads to: a file, which is a plain one, or a folder, a pipe, a socket or a device. In
+/// the journal's place a link is no plain one.
 #[derive(Clone, Copy)]
 pub struct Found {
     pub node: Node,
@@ -111,6 +114,7 @@ pub trait System {
     /// Opens the folder at a path so often that where standard streams are closed their numbers are
     /// the folder's, as long as this is kept. What can't be opened isn't held.
     fn fill_streams(&mut self, path: &str) -> Result<(), AllocError>
+        requires { IsFalse (is_filled (history self.old)) }
         ensures ok { OnOk result (history self.new ≡ Filled path.now ∷ history self.old) }
         ensures err { OnErr result (history self.new ≡ history self.old) };
 
@@ -127,7 +131,7 @@ pub trait System {
             ≡ Listed ∷ with_entries (map string_bytes names.items) (history self.old)) }
         ensures err { OnErr result (history self.new ≡ history self.old) };
 
-    /// Looks where a name leads. Links are followed.
+    /// Looks where a name leads. Links are followed, but for the journal's: a link is no plain file.
     fn look(&mut self, name: &FileName) -> Result<Option<Found>, ListFault>
         ensures there { IfOk result (λ found. IfSome found (λ found. history self.new
             ≡ There name.now found.node.device found.node.number found.is_plain
@@ -147,8 +151,10 @@ pub trait System {
             (history self.new ≡ Absent name.now ∷ history self.old)) }
         ensures err { OnErr result (history self.new ≡ history self.old) };
 
-    /// Opens the file of a name, which is made where there is none. Its content stays as it is.
+    /// Opens the file of a name, which is made where there is none. Its content stays as it is. It
+    /// was found absent before.
     fn make(&mut self, name: &FileName) -> Result<Opened<Self::File>, DiskFault>
+        requires { HasAbsent name.now (history self.old) }
         ensures name { IfOk result (λ opened. opened.name ≡ name.now) }
         ensures entry { IfOk result (λ opened. IsFalse opened.is_entered) }
         ensures made { history self.new ≡ Made name.now (is_ok result) ∷ history self.old };
@@ -195,11 +201,18 @@ pub trait System {
         ensures { history self.new ≡ Sync opened.now.name (is_ok result) ∷ history self.old };
 
     /// Puts the entry of a file in its folder on the device. A call that fails leaves it as little
-    /// known as before.
+    /// known as before; and once one has failed, on whichever file, none succeeds: systems forget
+    /// what they failed to put there.
     fn sync_entry(&mut self, opened: &mut Opened<Self::File>) -> Result<(), DiskFault>
         ensures name { opened.new.name ≡ opened.old.name }
         ensures ok { OnOk result (IsTrue opened.new.is_entered) }
+        ensures once { OnOk result (IsFalse (has_failed (history self.old))) }
         ensures err { OnErr result (opened.new ≡ opened.old) }
         ensures entered { history self.new
             ≡ Entered opened.old.name (is_ok result) ∷ history self.old };
+
+    /// How the file of a name stands beside the journal, by what the system says of both. It is no
+    /// call of the record: nothing that is said of the files depends on it.
+    fn standing(&mut self, name: &FileName) -> Result<Standing, DiskFault>
+        ensures { history self.new ≡ history self.old };
 }

@@ -1,12 +1,12 @@
 -- Whether patches fit a file, found patch by patch; and what a journal's front says of its record.
 use Rattle.std.proofs.Common.{◌≡◌, ℕ, suc, ◌+◌, ◌<◌, ◌≤◌, Bool, true, false, cond, ltb, leb, List, [], ◌∷◌, ◌++◌, length, take, drop, get_or, Option, Some, None, refl, sym, ap, subst, ◌∙◌, arith, add-one, drop-cons}
 use Rattle.std.proofs.lemmas.Grind.{common_steps}
-use Rattle.std.specs.Prelude.{◌&&◌, nat_le, max, is_some, Ok, Err}
+use Rattle.std.specs.Prelude.{◌&&◌, nat_le, max, is_some, Result, Ok, Err}
 use Rattle.std.specs.List.{AllByRecursion}
 use Rattle.std.proofs.lemmas.Bool.{false≢true, leb-true, le-leb, le-ltb, lt-ltb, ltb-false, lt-leb}
-use Rattle.std.proofs.lemmas.List.{drop_all, drop-drop, length-append, length-drop, length-take, take-append-drop, take-append-le, drop-append-le, get_or_append_left}
+use Rattle.std.proofs.lemmas.List.{drop_all, drop-drop, drop-take, get_or-take, length-append, length-drop, length-take, take-append-drop, take-append-le, drop-append-le, get_or_append_left}
 use Rattle.byteorder.specs.Endian.{big_number}
-use Rattle.byteorder.specs.Numbers.{big_from-append}
+use Rattle.byteorder.specs.Numbers.{big_from-append, big_from-take}
 use Rattle.org_splice.specs.Patches.{end_of, last_end, Rise, AreWellFormed}
 use Rattle.org_splice.specs.Texts.{pairs_of}
 use Rattle.org_journal.specs.declared.record.Entry.{Entry}
@@ -18,9 +18,11 @@ use Rattle.org_disk.specs.Disk.{FileState}
 use Rattle.org_disk.specs.Names.{journal_name}
 use Rattle.org_journal.specs.declared.fault.FindFault.{FindFault}
 use Rattle.org_journal.specs.declared.fault.FindFault.TheVariants.{BadJournal, Device, OutOfMemory}
-use Rattle.org_journal.specs.Gate.{front_size, is_open}
-use Rattle.org_journal.specs.Recovered.{Image, begins_within, contents, fits, all_fit, recovered}
-use Rattle.org_journal.specs.Finding.{Finds, FindsSize, HaveWellFormedPatches, HoldsRecordOfSize, record_size}
+use Rattle.org_journal.specs.declared.finding.Found.{Found}
+use Rattle.org_journal.specs.declared.finding.Found.TheVariants.{Closed, Open}
+use Rattle.org_journal.specs.Gate.{front_size, is_open, HasSameRecord}
+use Rattle.org_journal.specs.Recovered.{Image, begins_within, contents, fits, all_fit}
+use Rattle.org_journal.specs.Finding.{EndsAt, Finds, FindsRecord, FindsSize, HaveWellFormedPatches, HoldsRecord, HoldsRecordOfSize, record_size}
 
 -- the test of the patches that are left, from this place on, is that of all
 pub record FitSoFar (left : List Patch) (place final size : ℕ) (all : List Patch) : Type 0 where
@@ -135,6 +137,46 @@ journal_taken bytes n is within =
 pub journal_of_body : (journal body : List ℕ) (size : ℕ) → HoldsRecordOfSize journal size → body ≡ take (15 + size) (drop 1 journal) → journal_at (drop 1 journal) ≡ journal_at body
 journal_of_body journal body size held read = grind (arith, common_steps, drop-drop, journal_taken, length-drop)
 
+-- the place behind a record that was read
+pub end_here : (journal body : List ℕ) (size end : ℕ) → HoldsRecordOfSize journal size → body ≡ take (15 + size) (drop 1 journal) → end ≡ length body + 1 → EndsAt journal end
+end_here journal body size end held read is =
+    let taken : length (take (15 + size) (drop 1 journal)) ≡ 15 + size = omega (arith, length-take (15 + size) (drop 1 journal), length-drop 1 journal, held.within, held.size_is) in
+    let long : length body ≡ 15 + size = ap length read ∙ taken in
+    record { end_is = omega (arith, is, long, held.size_is); within = omega (arith, is, long, held.within, held.size_is) }
+
+size_front : (k : ℕ) (text : List ℕ) → 8 ≤ k → big_number 8 (drop 8 (take (8 + k) text)) ≡ big_number 8 (drop 8 text)
+size_front k text le = ap (big_number 8) (drop-take 8 k text) ∙ big_from-take 0 8 k (drop 8 text) le
+
+-- a journal that begins with the bytes of another one, up to the end of its record, says the same
+module _ (text bytes : List ℕ) (end : ℕ) (ends : EndsAt text end) (front : take end bytes ≡ take end text) (long : end ≤ length bytes) where
+  body_in : (journal : List ℕ) → drop 1 (take end journal) ≡ take (15 + record_size text) (drop 1 journal)
+  body_in journal =
+      let at_end : end ≡ 1 + (15 + record_size text) = omega (arith, ends.end_is) in
+      subst (λ (n : ℕ). drop 1 (take n journal) ≡ take (15 + record_size text) (drop 1 journal)) (sym at_end) (drop-take 1 (15 + record_size text) journal)
+
+  size_in : (journal : List ℕ) → big_number 8 (drop 8 (take end journal)) ≡ record_size journal
+  size_in journal =
+      let at_end : end ≡ 8 + (8 + record_size text) = omega (arith, ends.end_is) in
+      subst (λ (n : ℕ). big_number 8 (drop 8 (take n journal)) ≡ record_size journal) (sym at_end) (size_front (8 + record_size text) journal (omega arith))
+
+  same_size : record_size bytes ≡ record_size text
+  same_size = sym (size_in bytes) ∙ ap (λ (l : List ℕ). big_number 8 (drop 8 l)) front ∙ size_in text
+
+  same_first : get_or bytes 0 0 ≡ get_or text 0 0
+  same_first =
+      let some : 0 < end = omega (arith, ends.end_is) in
+      sym (get_or-take end bytes 0 0 some) ∙ ap (λ (l : List ℕ). get_or l 0 0) front ∙ get_or-take end text 0 0 some
+
+  pub same_record : HasSameRecord text bytes
+  same_record =
+      let one : leb 16 (length bytes) ≡ true = le-leb _ _ (omega (arith, ends.end_is, long)) in
+      let other : leb 16 (length text) ≡ true = le-leb _ _ (omega (arith, ends.end_is, ends.within)) in
+      record {
+        opened = rw (one, other, same_first) refl;
+        found = journal_of_body bytes (drop 1 (take end text)) (record_size text) (record { size_is = sym same_size; within = omega (arith, same_size, long, ends.end_is) }) (ap (drop 1) (sym front) ∙ body_in bytes)
+            ∙ sym (journal_of_body text (drop 1 (take end text)) (record_size text) (record { size_is = refl; within = omega (arith, ends.end_is, ends.within) }) (body_in text));
+      }
+
 -- ---- what was found
 
 no_size : (bytes : List ℕ) → length bytes < 15 + big_number 8 (drop 7 bytes) → counted_at (drop 7 bytes) ≡ None
@@ -167,22 +209,22 @@ journal_short bytes short = grind (arith, common_steps, no_size, none_then, eith
 size_passes : (journal : List ℕ) → length journal < front_size + record_size journal → journal_at (drop 1 journal) ≡ None
 size_passes journal short = grind (arith, common_steps, drop-drop, journal_short, length-drop)
 
-no_record : (image : Image) → is_open (image journal_name) ≡ true → journal_at (drop 1 (image journal_name)) ≡ None → recovered image ≡ None
-no_record image opened none = rw (opened, none) refl
-
 -- what the header says
 pub bad_size : (image : Image) (e : FindFault) → FindsSize (image journal_name) (Err e) → Finds image (Err e)
-bad_size image BadJournal found = (found.0, no_record image found.0 (size_passes (image journal_name) found.1))
+bad_size image BadJournal found = (found.0, size_passes (image journal_name) found.1)
 bad_size image Device found = tt
 bad_size image OutOfMemory found = absurd found
 
--- what the calls of a look at an open journal answered, one after another, the files being the
--- same at each
-module _ (files mid new : List ℕ → FileState) (journal : List ℕ) (size : ℕ) (entries : List Entry) (named : journal ≡ journal_name)
-    (sized : FindsSize (files journal).content (Ok (Some size))) (still : mid ≡ files) (same : new ≡ mid)
-    (read : journal_at (drop 1 (mid journal).content) ≡ Some entries) where
-  fit_here : (b : Bool) → b ≡ all_fit entries (contents new) → b ≡ all_fit entries (contents files)
-  fit_here b is = subst (λ (f : List ℕ → FileState). b ≡ all_fit entries (contents f)) (same ∙ still) is
+-- what the record behind an open gate says
+pub found_of : (image : Image) (journal : List ℕ) (r : Result Found FindFault) → journal ≡ image journal_name → is_open journal ≡ true → HoldsRecord journal → FindsRecord journal r → Finds image r
+found_of image journal r is opened held found = go r (subst (λ (j : List ℕ). is_open j ≡ true) is opened) (subst HoldsRecord is held) (subst (λ (j : List ℕ). FindsRecord j r) is found)
+  where
+    go : (r : Result Found FindFault) → is_open (image journal_name) ≡ true → HoldsRecord (image journal_name) → FindsRecord (image journal_name) r → Finds image r
+    go (Ok (Open entries end)) opened held found = (opened, found.0, found.1)
+    go (Ok Closed) opened held found = absurd found
+    go (Err BadJournal) opened held found = (opened, found)
+    go (Err Device) opened held found = tt
+    go (Err OutOfMemory) opened held found = (opened, held)
 
 -- ---- an open gate
 

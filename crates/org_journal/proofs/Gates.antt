@@ -1,14 +1,17 @@
 -- What a crash leaves of the journal while its gate, or the bytes behind it, are written.
-use Rattle.std.proofs.Common.{rules, ◌≡◌, ◌≢◌, Bool, true, false, inr, ℕ, ◌+◌, ◌-◌, ◌<◌, ◌≤◌, ◌∷◌, List, [], length, drop, refl, sym, ◌∙◌, ap, arith}
+use Rattle.std.proofs.Common.{rules, ◌≡◌, ◌≢◌, Bool, true, false, inl, inr, ⊎_elim, ℕ, ◌+◌, ◌-◌, ◌<◌, ◌≤◌, ◌∷◌, List, [], length, take, drop, refl, sym, ◌∙◌, ap, subst, arith}
 use Rattle.std.proofs.lemmas.Grind.{common_steps}
-use Rattle.std.specs.Prelude.{IsFalse, IsErr, Result, slice_index, nat_le, ◌==◌, ◌&&◌}
+use Rattle.std.specs.Prelude.{IsFalse, IsErr, Result, Ok, Err, slice_index, nat_le, ◌==◌, ◌&&◌}
 use Rattle.std.proofs.lemmas.Bool.{eqb-true}
-use Rattle.std.proofs.lemmas.List.{same_lists, get_or-drop, length-drop, get_or_default}
+use Rattle.std.proofs.lemmas.List.{same_lists, get_or-drop, get_or-take, length-drop, length-take, get_or_default}
 use Rattle.org_splice.specs.Overwritten.{overwritten}
 use Rattle.org_disk.specs.declared.disk.DiskFault.{DiskFault}
-use Rattle.org_disk.specs.Disk.{FileState, Changes, IsImage, IsStable, AreLeftBy, stable, write, sync}
+use Rattle.org_disk.specs.Disk.{FileState, Changes, IsImage, IsStable, AreLeftBy, IsLeftBy, MayLeave, stable, write, sync}
 use Rattle.org_disk.proofs.Images.{only_image, stable_is, fixed_after_write}
-use Rattle.org_journal.specs.Gate.{front_size, is_open, HasClosedGate, LeavesBody, LeavesClosed, Puts}
+use Rattle.org_disk.specs.OwnImages.{write_own}
+use Rattle.org_journal.specs.Finding.{EndsAt}
+use Rattle.org_journal.specs.Gate.{front_size, is_open, HasClosedGate, HasSameRecord, LeavesBody, LeavesClosed, LeavesRecord, Puts}
+use Rattle.org_journal.proofs.Fitting.{same_record}
 
 -- the gate alone
 pub overwritten_gate : (gate : ℕ) (text : List ℕ) → overwritten 0 (gate ∷ []) text ≡ gate ∷ drop 1 text
@@ -44,6 +47,71 @@ module _ (journal : List ℕ) (gate : ℕ) (files : List ℕ → FileState) (is 
   pub gate_sync : (mid : List ℕ → FileState) → mid journal ≡ write 0 (gate ∷ []) (files journal) → ((other : List ℕ) → other ≢ journal → mid other ≡ files other)
       → (image : List ℕ → List ℕ) → AreLeftBy sync journal mid image → LeavesBody journal files image
   gate_sync mid is_written others image left = search (rules, arith, stable, only_image, stable_is, overwritten_gate, content, body_written)
+
+-- ---- a byte behind the record of an open journal
+
+module _ (journal : List ℕ) (end : ℕ) (files : List ℕ → FileState) (is : IsStable (files journal)) (ends : EndsAt (files journal).content end) where
+  abbrev mark : FileState → FileState
+  mark = write end (0 ∷ [])
+
+  own : IsImage (files journal) (files journal).content
+  own = record { no_shorter = omega (arith, is.least); no_longer = omega (arith, is.greatest); fixed = λ i fixed. refl }
+
+  front_written : (bytes : List ℕ) → IsImage (mark (files journal)) bytes → take end bytes ≡ take end (files journal).content
+  front_written bytes image =
+      let text = (files journal).content in
+      let at_least : (files journal).least ≤ length bytes = image.no_shorter in
+      let one : length (take end bytes) ≡ end = omega (arith, length-take end bytes, at_least, is.least, ends.within) in
+      let other : length (take end text) ≡ end = omega (arith, length-take end text, ends.within) in
+      same_lists (take end bytes) (take end text) (one ∙ sym other) (λ k d within.
+      let here : k < end = omega (arith, within, one) in
+      let inside : k < length text = omega (arith, here, ends.within) in
+      get_or-take end bytes k d here ∙ get_or_default bytes k d 0 (omega (arith, inside, at_least, is.least))
+      ∙ fixed_after_write end (0 ∷ []) (files journal) bytes image ends.within k (omega (arith, inside, is.least), is.fixed k inside) (inl here)
+      ∙ get_or_default text k 0 d inside ∙ sym (get_or-take end text k d here))
+
+  written_same : (bytes : List ℕ) → IsImage (mark (files journal)) bytes → HasSameRecord (files journal).content bytes
+  written_same bytes image =
+      let at_least : (files journal).least ≤ length bytes = image.no_shorter in
+      same_record (files journal).content bytes end ends (front_written bytes image) (omega (arith, at_least, is.least, ends.within))
+
+  before_same : (bytes : List ℕ) → IsImage (files journal) bytes → HasSameRecord (files journal).content bytes
+  before_same bytes image = subst (HasSameRecord (files journal).content) (sym (only_image is bytes image)) (record { opened = refl; found = refl })
+
+  -- within the write, and after one that failed
+  pub mark_here : (bytes : List ℕ) → MayLeave mark (files journal) bytes → HasSameRecord (files journal).content bytes
+  mark_here bytes left = ⊎_elim (before_same bytes) (written_same bytes) left
+
+  pub mark_write : (image : List ℕ → List ℕ) → AreLeftBy mark journal files image → LeavesRecord journal files image
+  mark_write image left = record { here = mark_here (image journal) left.here; others = left.others }
+
+  module _ (mid : List ℕ → FileState) (is_written : mid journal ≡ mark (files journal)) where
+    synced_same : (bytes : List ℕ) → MayLeave sync (mid journal) bytes → HasSameRecord (files journal).content bytes
+    synced_same bytes left = ⊎_elim
+        (λ before. written_same bytes (subst (λ (f : FileState). IsImage f bytes) is_written before))
+        (λ after. subst (HasSameRecord (files journal).content) (sym (only_image (stable_is (mid journal).content) bytes after))
+        (written_same (mid journal).content (subst (λ (f : FileState). IsImage f (mid journal).content) is_written
+        (subst (λ (f : FileState). IsImage f f.content) (sym is_written) (write_own end (0 ∷ []) (files journal) own)))))
+        left
+
+    -- within the sync
+    pub mark_sync : ((other : List ℕ) → other ≢ journal → mid other ≡ files other)
+        → (image : List ℕ → List ℕ) → AreLeftBy sync journal mid image → LeavesRecord journal files image
+    mark_sync others image left = record {
+      here = synced_same (image journal) left.here;
+      others = λ other apart. subst (λ (f : FileState). IsImage f (image other)) (others other apart) (left.others other apart);
+    }
+
+    -- after it, also where it failed
+    pub mark_after : (new : List ℕ → FileState) (r : Result (Unit {0}) DiskFault) → Changes sync journal mid new r
+        → (bytes : List ℕ) → IsImage (new journal) bytes → HasSameRecord (files journal).content bytes
+    mark_after new (Ok done) synced bytes image = synced_same bytes (inr (subst (λ (f : FileState). IsImage f bytes) synced.ok image))
+    mark_after new (Err fault) synced bytes image = synced_same bytes (synced.err.images bytes image)
+
+  -- after a write that failed
+  pub mark_failed : (new : List ℕ → FileState) → IsLeftBy mark (files journal) (new journal)
+      → (bytes : List ℕ) → IsImage (new journal) bytes → HasSameRecord (files journal).content bytes
+  mark_failed new left bytes image = mark_here bytes (left.images bytes image)
 
 -- ---- the bytes behind a closed gate
 

@@ -1,5 +1,5 @@
 -- What was found of a journal on a disk.
-use Rattle.std.specs.Prelude.{◌≡◌, ℕ, ◌+◌, ◌<◌, ◌≤◌, IsTrue, IsFalse, List, length, drop, Option, Some, None, Result, Ok, Err}
+use Rattle.std.specs.Prelude.{◌≡◌, ℕ, ◌+◌, ◌^◌, ◌<◌, ◌≤◌, IsTrue, IsFalse, List, length, drop, Option, Some, None, Result, Ok, Err}
 use Rattle.std.specs.List.{AllByRecursion}
 use Rattle.byteorder.specs.Endian.{big_number}
 use Rattle.org_disk.specs.Names.{journal_name}
@@ -14,7 +14,7 @@ use Rattle.org_journal.specs.Reading.{journal_at}
 use Rattle.org_splice.specs.Patches.{AreWellFormed}
 use Rattle.org_splice.specs.Texts.{pairs_of}
 use Rattle.org_journal.specs.Record.{IsWellFormed}
-use Rattle.org_journal.specs.Recovered.{Image, all_fit, recovered}
+use Rattle.org_journal.specs.Recovered.{Image}
 
 -- the size of the record that a journal's header gives
 abbrev pub record_size : List ℕ → ℕ
@@ -29,23 +29,30 @@ pub record HoldsRecordOfSize (journal : List ℕ) (size : ℕ) : Type 0 where
   pub size_is : size ≡ record_size journal
   pub within : HoldsRecord journal
 
+-- the journal's record ends before this place
+pub record EndsAt (journal : List ℕ) (end : ℕ) : Type 0 where
+  pub end_is : end ≡ front_size + record_size journal
+  pub within : end ≤ length journal
+
 -- what was found of a disk with these contents
 abbrev pub Finds : Image → Result Found FindFault → Type 0
 Finds image (Ok Closed) = IsFalse (is_open (image journal_name))
-Finds image (Ok (Open entries)) =
+Finds image (Ok (Open entries end)) =
     IsTrue (is_open (image journal_name))
     × (journal_at (drop 1 (image journal_name)) ≡ Some entries)
-    × IsTrue (all_fit entries image)
-Finds image (Err BadJournal) = IsTrue (is_open (image journal_name)) × (recovered image ≡ None)
+    × EndsAt (image journal_name) end
+Finds image (Err BadJournal) =
+    IsTrue (is_open (image journal_name)) × (journal_at (drop 1 (image journal_name)) ≡ None)
 Finds image (Err Device) = Unit {0}
 -- memory is wanted only once the record's size was compared with the journal's
 Finds image (Err OutOfMemory) =
     IsTrue (is_open (image journal_name)) × HoldsRecord (image journal_name)
 
--- a record that was found is one that could be written, in whichever version it stood
+-- A record that was found is one that could be written, in whichever version it stood; and behind
+-- it another byte can be written.
 abbrev pub IsWritable : Found → Type 0
 IsWritable Closed = Unit {0}
-IsWritable (Open entries) = IsWellFormed Two entries
+IsWritable (Open entries end) = IsWellFormed Two entries × (end + 1 < 2 ^ 64)
 
 -- what the header alone says: None of a closed gate, and the record's size of an open one
 abbrev pub FindsSize : List ℕ → Result (Option ℕ) FindFault → Type 0
@@ -58,8 +65,10 @@ FindsSize journal (Err Device) = Unit {0}
 FindsSize journal (Err OutOfMemory) = ⊥
 
 -- what the bytes behind an open gate say, where the whole record lies within them
-abbrev pub FindsRecord : List ℕ → Result (List Entry) FindFault → Type 0
-FindsRecord journal (Ok entries) = journal_at (drop 1 journal) ≡ Some entries
+abbrev pub FindsRecord : List ℕ → Result Found FindFault → Type 0
+FindsRecord journal (Ok (Open entries end)) =
+    (journal_at (drop 1 journal) ≡ Some entries) × EndsAt journal end
+FindsRecord journal (Ok Closed) = ⊥
 FindsRecord journal (Err BadJournal) = journal_at (drop 1 journal) ≡ None
 FindsRecord journal (Err Device) = Unit {0}
 FindsRecord journal (Err OutOfMemory) = Unit {0}

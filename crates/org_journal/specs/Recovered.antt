@@ -3,7 +3,7 @@
 use Rattle.std.specs.Prelude.{◌≡◌, ◌≢◌, ◌⊎◌, ℕ, Bool, true, ◌&&◌, IsTrue, IsFalse, nat_le, max, List, [], ◌∷◌, length, drop, Option, Some, None, IsSomeAnd, if◌then◌else◌}
 use Rattle.std.specs.List.{list_all}
 use Rattle.std.specs.Str.{bytes_eq}
-use Rattle.org_disk.specs.Disk.{FileState, IsStable, AreImages}
+use Rattle.org_disk.specs.Disk.{FileState, IsImage, IsStable, AreImages}
 use Rattle.org_disk.specs.Names.{journal_name}
 use Rattle.org_splice.specs.Patches.{end_of, last_end, patched}
 use Rattle.org_splice.specs.Texts.{pairs_of}
@@ -59,13 +59,13 @@ RecoversTo files image = IsSomeAnd (recovered image) (λ found. SameFiles found 
 abbrev pub contents : (List ℕ → FileState) → Image
 contents files name = (files name).content
 
--- a journal on the disk with an open gate and a record; the files that it does not name are on the
--- disk too, and whatever a crash leaves of the others, it recovers to the same files
+-- whatever a crash leaves of the journal, its gate is open over one record; the files that it does
+-- not name are on the disk, and whatever a crash leaves of the others, it recovers to the same files
 pub record IsOpenOverRecord (files : List ℕ → FileState) : Type 0 where
-  pub stable : IsStable (files journal_name)
-  pub opened : IsTrue (is_open (files journal_name).content)
   pub entries : List Entry
-  pub found : journal_at (drop 1 (files journal_name).content) ≡ Some entries
+  pub opened : (bytes : List ℕ) → IsImage (files journal_name) bytes → IsTrue (is_open bytes)
+  pub found : (bytes : List ℕ) → IsImage (files journal_name) bytes
+      → journal_at (drop 1 bytes) ≡ Some entries
   pub others : (name : List ℕ) → name ≢ journal_name → IsFalse (is_named name entries)
       → IsStable (files name)
   pub texts : Image

@@ -1,15 +1,13 @@
 //! What a journal on a disk says: that nothing is to be done, or what a commit had still to do.
 //!
-//! It reads and never writes. An open gate over anything but a whole record that fits its files is
-//! `BadJournal`.
+//! It reads and never writes. An open gate over anything but a whole record is `BadJournal`.
+//! Whether the record fits its files is a question of its own: it is asked after others.
 ghost use Rattle.std.specs.Prelude.{◌≡◌, ◌≤◌, ◌<◌, ◌+◌, ◌^◌, ℕ, List, length, take, drop, Some, Ok, Err, IfOk, IfSome, IsErr, IsErrOf};
 ghost use Rattle.org_disk.specs.CountsFailures.{CountsFailures, Looks};
 ghost use Rattle.org_disk.specs.Names.{journal_name};
 ghost use Rattle.org_splice.specs.Patches.{AreWellFormed};
 ghost use Rattle.org_splice.specs.Texts.{pairs_of};
-ghost use Rattle.org_journal.specs.Record.{IsWellFormed};
 ghost use Rattle.org_journal.specs.Recovered.{contents, fits, all_fit};
-ghost use Rattle.org_journal.specs.declared.record.Version.TheVariants.{Two};
 ghost use Rattle.org_journal.specs.Finding.{Finds, IsWritable, FindsSize, FindsRecord, HoldsRecordOfSize, HaveWellFormedPatches};
 ghost use Rattle.org_journal.specs.Gate.{front_size};
 
@@ -32,8 +30,8 @@ pub const FRONT: u64 = 16;
 pub enum Found {
     /// The gate is closed.
     Closed,
-    /// The gate is open over this record, which fits its files.
-    Open(Record),
+    /// The gate is open over this record, whose bytes end before this place of the journal.
+    Open(Record, u64),
 }
 
 // The size of the record behind an open gate, and nothing where the gate is closed.
@@ -95,25 +93,33 @@ fn body_of<D: Disk>(
     Ok(body)
 }
 
+// The place behind the record that these bytes behind the gate hold. Another byte has room there.
+fn end_of(body: &[u8]) -> u64
+    ensures value { result ≡ length body.now + 1 }
+    ensures small { result + 1 < 2 ^ 64 }
+{
+    body.len() as u64 + 1
+}
+
 // The record behind an open gate, which has this size.
 fn record_of<D: Disk>(
     alloc: Global,
     disk: &mut D,
     journal: &FileName,
     size: u64,
-) -> Result<Record, FindFault>
+) -> Result<Found, FindFault>
     requires small { front_size + size < 2 ^ 64 }
     requires within { D.honest disk.old → HoldsRecordOfSize
         (D.files disk.old journal.now).content size }
     ensures found { D.honest disk.new → FindsRecord (D.files disk.old journal.now).content result }
-    ensures writable { IfOk result (λ entries. IsWellFormed Two entries) }
+    ensures writable { IfOk result (λ found. IsWritable found) }
     ensures looks { Looks D.Disk disk.old disk.new }
     ensures accounts { CountsFailures D.Disk disk.old disk.new
         (IsErrOf result FindFault.Device) }
 {
     let body = body_of(alloc, disk, journal, size)?;
     match decode(alloc, &body) {
-        Ok(record) => Ok(record),
+        Ok(record) => Ok(Found::Open(record, end_of(&body))),
         Err(Fault::Refused(Malformed)) => Err(FindFault::BadJournal),
         Err(Fault::OutOfMemory) => Err(FindFault::OutOfMemory),
     }
@@ -134,8 +140,13 @@ fn fits(patches: &[Patch], length: u64, size: u64) -> bool
     length <= size.max(place)
 }
 
-// Whether each entry fits its file.
-fn all_fit<D: Disk>(disk: &mut D, entries: &[Entry]) -> Result<bool, DiskFault>
+/// Whether each entry fits its file: no patch begins past both the file's end and the end of the
+/// patch before it, and the final length is reached. It changes nothing.
+///
+/// # Errors
+///
+/// `DiskFault`: a call of the disk failed.
+pub fn all_fit<D: Disk>(disk: &mut D, entries: &[Entry]) -> Result<bool, DiskFault>
     requires { HaveWellFormedPatches entries.now }
     ensures fit { IfOk result (λ answer. D.honest disk.new
         → answer ≡ all_fit entries.now (contents (D.files disk.old))) }
@@ -152,8 +163,8 @@ fn all_fit<D: Disk>(disk: &mut D, entries: &[Entry]) -> Result<bool, DiskFault>
 }
 
 /// Looks at the journal, and changes nothing. `Open` comes exactly where the gate is open and a
-/// well-formed record that fits its files stands behind it, with that record; `Closed` exactly
-/// where the gate is closed.
+/// well-formed record stands behind it, with that record; `Closed` exactly where the gate is
+/// closed. Nothing is asked of the files that the record names.
 ///
 /// # Errors
 ///
@@ -172,9 +183,5 @@ pub fn find<D: Disk>(alloc: Global, disk: &mut D, journal: &FileName) -> Result<
     let Some(size) = size_of(disk, journal)? else {
         return Ok(Found::Closed);
     };
-    let record = record_of(alloc, disk, journal, size)?;
-    if !all_fit(disk, record.as_slice())? {
-        return Err(FindFault::BadJournal);
-    }
-    Ok(Found::Open(record))
+    record_of(alloc, disk, journal, size)
 }

@@ -2,18 +2,24 @@
 //!
 //! The gate is the journal's first byte. While other bytes are written it is closed on the disk; it
 //! is opened and closed by a write of its own, synced before anything else is done.
-ghost use Rattle.std.specs.Prelude.{◌≤◌, ◌<◌, length, drop, ◌∷◌, OnOk, IsTrue, is_some};
+ghost use Rattle.std.specs.Prelude.{◌≡◌, ◌≤◌, ◌<◌, ◌+◌, ◌^◌, ℕ, List, length, drop, [], ◌∷◌, IfOk, IsErr, OnOk, IsTrue, is_some};
 ghost use Rattle.org_splice.specs.Overwritten.{overwritten};
-ghost use Rattle.org_disk.specs.Disk.{IsStable};
+ghost use Rattle.org_disk.specs.CountsFailures.{CountsFailures, Looks};
+ghost use Rattle.org_disk.specs.Disk.{IsImage, IsStable};
+ghost use Rattle.org_journal.specs.Finding.{EndsAt};
 ghost use Rattle.org_journal.specs.Reading.{journal_at};
-ghost use Rattle.org_journal.specs.Gate.{front_size, is_open, HasClosedGate, LeavesClosed, LeavesBody, PutsOnDisk};
+ghost use Rattle.org_journal.specs.Gate.{front_size, is_open, HasClosedGate, HasSameRecord, LeavesClosed, LeavesBody, LeavesRecord, PutsOnDisk};
 
+use crate::finding::FRONT;
 use org_disk::{Disk, DiskFault, FileName};
 
 const CLOSED: u8 = 0;
 
 /// The first byte of a journal whose gate is open.
 pub(crate) const OPEN: u8 = 1;
+
+// What `mark` writes behind a record.
+const MARK: u8 = 0;
 
 /// Gives a journal that is shorter than a header its gate, closed. At every moment the gate is
 /// closed, also where the call fails.
@@ -80,6 +86,47 @@ pub fn close_gate<D: Disk>(disk: &mut D, journal: &FileName) -> Result<(), DiskF
         (LeavesBody journal.now (D.files disk.old)) disk.old disk.new result }
 {
     set_gate(disk, journal, CLOSED)
+}
+
+/// Writes 0 behind the record of an open journal, where no reader looks, on the disk. So the
+/// journal changed after the files that its record names, whoever changed those last. At every
+/// moment the gate is open over the same record, also where the call fails.
+///
+/// # Errors
+///
+/// `DiskFault`: a call of the disk failed.
+pub fn mark<D: Disk>(disk: &mut D, journal: &FileName, end: u64) -> Result<(), DiskFault>
+    requires room { end + 1 < 2 ^ 64 }
+    requires stable { D.honest disk.old → IsStable (D.files disk.old journal.now) }
+    requires end { D.honest disk.old → EndsAt (D.files disk.old journal.now).content end }
+    ensures put { PutsOnDisk D.Disk journal.now
+        (overwritten end (0 ∷ []) (D.files disk.old journal.now).content)
+        (LeavesRecord journal.now (D.files disk.old)) disk.old disk.new result }
+    ensures images { D.honest disk.new → (bytes : List ℕ)
+        → IsImage (D.files disk.new journal.now) bytes
+        → HasSameRecord (D.files disk.old journal.now).content bytes }
+{
+    disk.write_at(journal, end, &[MARK])?;
+    disk.sync(journal)
+}
+
+/// Whether the gate is open, whatever stands behind it.
+///
+/// # Errors
+///
+/// `DiskFault`: a call of the disk failed.
+pub fn is_open<D: Disk>(disk: &mut D, journal: &FileName) -> Result<bool, DiskFault>
+    ensures value { IfOk result (λ answer. D.honest disk.new
+        → answer ≡ is_open (D.files disk.old journal.now).content) }
+    ensures looks { Looks D.Disk disk.old disk.new }
+    ensures accounts { CountsFailures D.Disk disk.old disk.new (IsErr result) }
+{
+    if disk.length(journal)? < FRONT {
+        return Ok(false);
+    }
+    let mut gate = [0];
+    disk.read_at(journal, 0, &mut gate)?;
+    Ok(gate[0] == OPEN)
 }
 
 // Writes the gate alone, and syncs it.

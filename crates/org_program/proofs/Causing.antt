@@ -8,7 +8,7 @@ use Rattle.org_folder.specs.declared.list.ListFault.TheVariants as list
 use Rattle.org_folder.specs.declared.lock.Locked as lock
 use Rattle.org_program.specs.Causes.{IsCauseOfNames, first_bad}
 use Rattle.org_program.specs.declared.fault.Fault.{Fault}
-use Rattle.org_program.specs.declared.fault.Fault.TheVariants.{Usage, BadName, BadStates, Locked, SameFile, Open, Ended}
+use Rattle.org_program.specs.declared.fault.Fault.TheVariants.{Usage, BadName, BadStates, Locked, SameFile, Linked, Open, Ended}
 
 -- what a `?` passed on is the fault that it says
 pub passed_reported : {A E : Type 0} (e : E) (P : E → Type 0) (answer : Result A E) → IsErrAnd answer (λ y. y ≡ e) → P e → IfErr answer P
@@ -23,9 +23,12 @@ of_all some all first (Open refused.OutOfMemory) is = tt
 of_all some all first (Open refused.Device) is = is
 of_all some all first (Open refused.TooManyFiles) is = is
 of_all some all first (Open refused.BadJournal) is = is
+of_all some all first (Open (refused.Changed name)) is = is
+of_all some all first (Open (refused.Outside name)) is = is
 of_all some all first (Open (refused.TooLarge name)) is = is
 of_all some all first (Usage reported) is = is
 of_all some all first BadStates is = is
 of_all some all first Locked is = is
 of_all some all first (SameFile name) is = is
+of_all some all first Linked is = is
 of_all some all first (Ended end) is = is

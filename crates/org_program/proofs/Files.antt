@@ -11,5 +11,6 @@ use Rattle.org_program.specs.declared.arguments.Arguments.{Arguments}
 pub shared : (arguments : Arguments) (listed : List (List ℕ)) (fault : AliasFault) → NameAStore arguments → AreListed arguments listed
     → MayShare (names_in arguments ++ listed) fault → IsCause arguments (sharing fault)
 shared arguments listed (alias.SameFile name) good are may = (good, (listed, are, may))
+shared arguments listed alias.Linked good are may = good
 shared arguments listed (alias.Unseen list.Device) good are may = good
 shared arguments listed (alias.Unseen list.OutOfMemory) good are may = tt

@@ -3,7 +3,7 @@ use Rattle.std.proofs.Common.{◌≡◌, refl, ℕ, true, false, List, [], ◌�
 use Rattle.clap.specs.Words.{fault_of}
 use Rattle.clap.proofs.OnLiterals.{clap_on_literals}
 use Rattle.clap.specs.declared.error.kind.ErrorKind.TheVariants.{UnknownArgument, MissingRequiredArgument, ArgumentConflict, DisplayHelp}
-use Rattle.org_program.specs.Words.{command_line, folder_in, new_in, only_in, todo_in, done_in, group_in, whole_in}
+use Rattle.org_program.specs.Words.{command_line, adopt_in, done_in, folder_in, forget_in, group_in, new_in, only_in, todo_in, whole_in}
 use Rattle.org_program.specs.Lists.{between_commas}
 
 abbrev two_new : List (List ℕ)
@@ -121,3 +121,18 @@ is_whole = refl
 isnt_whole : whole_in two_new ≡ false
 unfolding clap_on_literals
 isnt_whole = refl
+
+abbrev forgotten : List (List ℕ)
+forgotten = codes "orgstore" ∷ codes "--forget" ∷ codes "notes" ∷ []
+
+forgotten_taken : fault_of command_line forgotten ≡ []
+unfolding clap_on_literals
+forgotten_taken = refl
+
+is_forgotten : forget_in forgotten ≡ true
+unfolding clap_on_literals
+is_forgotten = refl
+
+isnt_adopted : adopt_in forgotten ≡ false
+unfolding clap_on_literals
+isnt_adopted = refl

@@ -19,7 +19,7 @@ use Rattle.org_serve.specs.declared.end.ServeEnd.{ServeEnd}
 use Rattle.org_serve.specs.declared.end.ServeEnd.TheVariants.{End, Unsettled, Device, Read, Write}
 use Rattle.org_program.specs.declared.arguments.Arguments.{Arguments}
 use Rattle.org_program.specs.declared.fault.Fault.{Fault}
-use Rattle.org_program.specs.declared.fault.Fault.TheVariants.{BadName, BadStates, Locked, SameFile, Open, Ended}
+use Rattle.org_program.specs.declared.fault.Fault.TheVariants.{BadName, BadStates, Locked, SameFile, Linked, Open, Ended}
 use Rattle.org_program.specs.Lists.{names_in, states_in, AreListed}
 
 -- what the program reports of how serving ended: nothing only where the input was served to its
@@ -31,6 +31,11 @@ reported (Ok Device) = Err (Ended Device)
 reported (Ok Read) = Err (Ended Read)
 reported (Ok Write) = Err (Ended Write)
 reported (Err fault) = Err (Open fault)
+
+-- .. and of how forgetting ended
+abbrev pub forgetting : Result (Unit {0}) OpenFault → Result (Unit {0}) Fault
+forgetting (Ok _) = Ok tt
+forgetting (Err fault) = Err (Open fault)
 
 -- why a folder's files couldn't be listed
 abbrev pub listing : ListFault → Fault
@@ -45,6 +50,7 @@ locking why.OutOfMemory = Open refused.OutOfMemory
 -- why names couldn't be shown to lead to files of their own
 abbrev pub sharing : AliasFault → Fault
 sharing (alias.SameFile name) = SameFile name
+sharing alias.Linked = Linked
 sharing (alias.Unseen cause) = listing cause
 
 -- why the states couldn't be had
@@ -73,6 +79,7 @@ pub record MayBeShared (names : List (List ℕ)) (name : List ℕ) : Type 0 wher
 -- what may be reported of where the names of a store lead; of too many names nothing is
 abbrev pub MayShare : List (List ℕ) → AliasFault → Type 0
 MayShare names (alias.SameFile name) = MayBeShared names name
+MayShare names alias.Linked = AreFew names
 MayShare names (alias.Unseen list.Device) = AreFew names
 MayShare names (alias.Unseen list.OutOfMemory) = Unit {0}
 
@@ -89,6 +96,7 @@ IsCause arguments (BadName name) = first_bad (names_in arguments) ≡ Some (stri
 IsCause arguments BadStates =
     (first_bad (names_in arguments) ≡ None) × IsFalse (are_states (states_in arguments))
 IsCause arguments Locked = NameAStore arguments
+IsCause arguments Linked = NameAStore arguments
 IsCause arguments (Open refused.Device) = NameAStore arguments
 IsCause arguments (SameFile name) = NameAStore arguments
     × ((listed : List (List ℕ)) × AreListed arguments listed

@@ -1,8 +1,12 @@
 -- A run of the program over the folder that its arguments name. `world` is what the folder held at
 -- first, and what calls that failed left.
-use Rattle.std.specs.Prelude.{◌≡◌, ◌≢◌, ℕ, List, [], ◌∷◌, ◌++◌, string_bytes, All, Result}
+use Rattle.std.specs.Prelude.{◌≡◌, ◌≢◌, ℕ, List, [], ◌∷◌, ◌++◌, string_bytes, All, Result, IfErr, IsErrOf}
+use Rattle.org_disk.specs.CountsFailures.{CountsFailures}
 use Rattle.org_disk.specs.Names.{IsOrgFile}
+use Rattle.org_disk.specs.declared.disk.Disk as of_disk
+use Rattle.org_fileset.specs.Forgetting.{ForgetsOver, IsTransient}
 use Rattle.org_fileset.specs.declared.open.OpenFault.{OpenFault}
+use Rattle.org_fileset.specs.declared.open.OpenFault.TheVariants as refused
 use Rattle.org_folder.specs.Calls.{Event, OnlyLooks}
 use Rattle.org_folder.specs.Calls.Event.{Filled, Locked}
 use Rattle.org_folder.specs.Listing.{Lists}
@@ -15,9 +19,10 @@ use Rattle.org_serve.specs.Promises.{Promises}
 use Rattle.org_serve.specs.Whole.{RunsSynced}
 use Rattle.org_program.specs.declared.arguments.Arguments.{Arguments}
 use Rattle.org_program.specs.declared.fault.Fault.{Fault}
-use Rattle.org_program.specs.Causes.{reported}
+use Rattle.org_program.specs.Causes.{forgetting, reported}
 use Rattle.org_program.specs.Folder.{seen_of}
 use Rattle.org_program.specs.Lists.{names_in, states_in, AreListed}
+use Rattle.org_program.specs.Words.{adopts}
 
 -- the most reads of an input
 abbrev pub max_reads : ℕ
@@ -56,6 +61,8 @@ pub record ServesFolder {C F : Type 0} (g : Ghosts C F) (found : C)
   pub locks : LocksFirst (string_bytes arguments.folder)
       (Filled (string_bytes arguments.folder) ∷ g.history found) (g.history disk.folder.system)
   pub failures : disk.failures ≡ 0
+  -- an opening takes files as they are only where the arguments say so
+  pub adopting : disk.adopts ≡ adopts arguments.recovery
   pub setup : Setup
   pub is_set_up : IsSetUp arguments setup
       (Filled (string_bytes arguments.folder) ∷ g.history found) (g.history disk.folder.system)
@@ -73,3 +80,24 @@ pub record RunsFolder {C F : Type 0} (g : Ghosts C F) (found : C)
   pub end : Result ServeEnd OpenFault
   pub is_reported : ended ≡ reported end
   pub serves : ServesFolder g found arguments now end io
+
+-- What a crash cut short was forgotten over a disk: an open gate is closed, and every file but the
+-- journal is as it was, at each moment. What is reported says how that ended.
+pub record Forgets {D : Type 0} (g : of_disk.Ghosts D) (old new : D)
+    (ended : Result (Unit {0}) Fault) : Type 0 where
+  pub end : Result (Unit {0}) OpenFault
+  pub is_reported : ended ≡ forgetting end
+  pub forgets : g.honest new → ForgetsOver g old new end
+  pub fault : IfErr end IsTransient
+  pub accounts : CountsFailures g old new (IsErrOf end refused.Device)
+
+-- .. over the folder of these calls. Before that the folder that the arguments name was locked, and
+-- then the calls only looked.
+pub record ForgetsFolder {C F : Type 0} (g : Ghosts C F) (found : C)
+    (arguments : Arguments) (now : CallsDisk C F g)
+    (ended : Result (Unit {0}) Fault) : Type 0 where
+  pub disk : CallsDisk C F g
+  pub locks : LocksFirst (string_bytes arguments.folder)
+      (Filled (string_bytes arguments.folder) ∷ g.history found) (g.history disk.folder.system)
+  pub failures : disk.failures ≡ 0
+  pub forgets : Forgets (seen_of g) disk now ended

@@ -1,8 +1,8 @@
 //! The command line, by clap. Nothing else of the program knows how its words are read.
-ghost use Rattle.std.specs.Prelude.{◌≡◌, ◌⊎◌, ℕ, List, [], ◌∷◌, Some, false, map, string_bytes, IfOk, IfErr, SomeIff};
+ghost use Rattle.std.specs.Prelude.{◌≡◌, ◌⊎◌, ℕ, List, [], ◌∷◌, Some, false, map, string_bytes, codes, IfOk, IfErr, SomeIff};
 ghost use Rattle.std.specs.Str.Parse.{digits_value};
 ghost use Rattle.clap.specs.Words.{kind_of, app_of, fault_of, found_of, new_rule, rows_of, rule_of};
-ghost use Rattle.org_program.specs.Words.{command_line, folder_argument as folder_rule, given, group_in, group_of, names_argument as names_rule, whole_in, AreTaken, Say, IsGroupGiven, IsGroupText, IsFaultBy, IsFaultOfWords};
+ghost use Rattle.org_program.specs.Words.{command_line, folder_argument as folder_rule, given, group_in, group_of, names_argument as names_rule, adopt_in, adopts, forget_in, forgets, recovery_of, set_in, whole_in, AreTaken, IsRecoveryGiven, Say, IsGroupGiven, IsGroupText, IsFaultBy, IsFaultOfWords};
 
 use crate::fault::Fault;
 use clap::error::ErrorKind;
@@ -22,6 +22,12 @@ const DONE: &str = "The done states, with commas between them";
 const GROUP: &str = "How many commands are settled together, from 1 to 1000 [default: 1]";
 
 const WHOLE: &str = "Settle at the line settle alone, and stop at a line that isn't done";
+
+const ADOPT: &str = "Finish what a crash cut short, also over files that were changed since";
+
+const FORGET: &str = "Give up what a crash cut short, and run no command";
+
+const ADOPT_AND_FORGET: &str = "the argument '--adopt' cannot be used with '--forget'";
 
 const WHOLE_AND_GROUP: &str = "the argument '--whole' cannot be used with '--group <K>'";
 
@@ -43,6 +49,41 @@ pub struct Arguments {
     pub done: String,
     /// How many accepted commands are settled together.
     pub group: Group,
+    /// How the opening treats a command that a crash cut short.
+    pub recovery: Recovery,
+}
+
+/// How an opening treats a command that a crash cut short.
+#[derive(Clone, Copy, Debug)]
+pub enum Recovery {
+    /// It is finished if its files stand as a crash may have left them.
+    Checked,
+    /// It is finished, however its files stand.
+    Adopted,
+    /// It isn't finished: its files stay as they are, and no line is served.
+    Forgotten,
+}
+
+impl Recovery {
+    /// Whether files are taken as they are.
+    pub fn adopts(self) -> bool
+        ensures { result ≡ adopts self }
+    {
+        match self {
+            Recovery::Adopted => true,
+            Recovery::Checked | Recovery::Forgotten => false,
+        }
+    }
+
+    /// Whether what a crash cut short is given up.
+    pub fn forgets(self) -> bool
+        ensures { result ≡ forgets self }
+    {
+        match self {
+            Recovery::Forgotten => true,
+            Recovery::Checked | Recovery::Adopted => false,
+        }
+    }
 }
 
 /// The words of the command line, the first being the program's name.
@@ -100,6 +141,7 @@ fn arguments_of(
         → AreTaken words → ⊥)) }
 {
     let group = group(command, matches)?;
+    let recovery = read_recovery(command, matches)?;
     Ok(Arguments {
         folder: String::from_str(alloc, matches.get_str("DIR").unwrap_or(""))?,
         new: owned(alloc, matches.get_strs("new").unwrap_or(&[]))?,
@@ -107,7 +149,36 @@ fn arguments_of(
         todo: String::from_str(alloc, matches.get_str("todo").unwrap_or("TODO"))?,
         done: String::from_str(alloc, matches.get_str("done").unwrap_or("DONE"))?,
         group,
+        recovery,
     })
+}
+
+// How the opening treats a command that a crash cut short, if the words say it well.
+fn read_recovery(command: &mut Command<'_>, matches: &ArgMatches<'_>) -> Result<Recovery, Error>
+    ensures recovery { IfOk result (λ recovery. (words : List (List ℕ))
+        → rows_of (found_of matches.now) ≡ given words
+        → IsRecoveryGiven (adopt_in words) (forget_in words)
+        × (recovery ≡ recovery_of (adopt_in words) (forget_in words))) }
+    ensures fault { IfErr result (λ error. (kind_of error ≡ ErrorKind.OutOfMemory)
+        ⊎ ((words : List (List ℕ)) → rows_of (found_of matches.now) ≡ given words
+        → IsRecoveryGiven (adopt_in words) (forget_in words) → ⊥)) }
+{
+    let adopts = is_set(matches, "adopt");
+    let forgets = is_set(matches, "forget");
+    match (adopts, forgets) {
+        (false, false) => Ok(Recovery::Checked),
+        (true, false) => Ok(Recovery::Adopted),
+        (false, true) => Ok(Recovery::Forgotten),
+        (true, true) => Err(command.error(ErrorKind::ArgumentConflict, ADOPT_AND_FORGET)?),
+    }
+}
+
+// An option without a value is there.
+fn is_set(matches: &ArgMatches<'_>, name: &str) -> bool
+    ensures { (words : List (List ℕ)) → rows_of (found_of matches.now) ≡ given words
+        → result ≡ set_in name.now words }
+{
+    matches.get_str(name).unwrap_or("false") == "true"
 }
 
 // How many commands are settled together, where the words say it well.
@@ -121,7 +192,7 @@ fn group(command: &mut Command<'_>, matches: &ArgMatches<'_>) -> Result<Group, E
         → IsGroupGiven (whole_in words) (group_in words) → ⊥)) }
 {
     let text = matches.get_str("group");
-    if matches.get_str("whole").unwrap_or("false") == "true" {
+    if is_set(matches, "whole") {
         return match text {
             None => Ok(Group::Whole),
             Some(_) => Err(command.error(ErrorKind::ArgumentConflict, WHOLE_AND_GROUP)?),
@@ -183,7 +254,9 @@ fn command<'a>(alloc: Global) -> Result<Command<'a>, AllocError>
         .arg(states_argument(alloc, "todo", ACTIVE, "TODO"))?
         .arg(states_argument(alloc, "done", DONE, "DONE"))?
         .arg(option(alloc, "group", GROUP).value_name("K"))?
-        .arg(option(alloc, "whole", WHOLE).action(ArgAction::SetTrue))
+        .arg(option(alloc, "whole", WHOLE).action(ArgAction::SetTrue))?
+        .arg(option(alloc, "adopt", ADOPT).action(ArgAction::SetTrue))?
+        .arg(option(alloc, "forget", FORGET).action(ArgAction::SetTrue))
 }
 
 fn owned(alloc: Global, words: &[&str]) -> Result<Vec<String>, AllocError>

@@ -35,6 +35,9 @@ pub enum Fault {
     /// This name of the store's leads to the file of another one.
     #[error("orgstore: open: SameFile {0}")]
     SameFile(FileName),
+    /// The journal's name leads to no plain file of the folder itself.
+    #[error("orgstore: open: Linked orgstore.journal")]
+    Linked,
     /// The store wasn't opened.
     #[error("orgstore: open: {0}")]
     Open(OpenFault),
@@ -89,6 +92,7 @@ impl From<AliasFault> for Fault {
     fn from(fault: AliasFault) -> Fault {
         match fault {
             AliasFault::SameFile(name) => Fault::SameFile(name),
+            AliasFault::Linked => Fault::Linked,
             AliasFault::Unseen(cause) => Fault::from(cause),
         }
     }

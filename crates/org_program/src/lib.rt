@@ -12,7 +12,7 @@ mod program;
 mod states;
 mod streams;
 
-pub use arguments::{Arguments, given_words};
+pub use arguments::{Arguments, Recovery, given_words};
 pub use fault::Fault;
 pub use org_folder::{HostSystem, Unknown};
 pub use program::{Ran, Unserved, run};

@@ -2,17 +2,18 @@
 //!
 //! The order is fixed: words, names, states, lock, listing, two names of one file, opening. The
 //! folder isn't listed where the words name the only files of the store.
-ghost use Rattle.std.specs.Prelude.{◌≡◌, ◌∷◌, ◌++◌, map, string_bytes, IfOk, IfErr, IsFalse, OnOk, All};
+ghost use Rattle.std.specs.Prelude.{◌≡◌, ◌≢◌, ◌∷◌, ◌++◌, map, string_bytes, IfOk, IfErr, IsFalse, OnOk, All};
 ghost use Rattle.org_disk.specs.Names.{IsOrgFile};
 ghost use Rattle.org_folder.specs.Right.{HaveNoFiles};
-ghost use Rattle.org_folder.specs.Calls.{OnlyLooks, is_held};
+ghost use Rattle.org_folder.specs.Calls.{OnlyLooks, is_filled, is_held};
 ghost use Rattle.org_folder.specs.Calls.Event.{Filled};
 ghost use Rattle.org_serve.specs.Writes.{exchange};
 ghost use Rattle.org_store.specs.Group.{IsGroup};
-ghost use Rattle.org_program.specs.Causes.{reported, IsCause, MayShare};
+ghost use Rattle.org_program.specs.Causes.{forgetting, reported, IsCause, MayShare};
+ghost use Rattle.org_program.specs.declared.arguments.Recovery.TheVariants.{Forgotten};
 ghost use Rattle.org_program.specs.Faults.{IsFaultOfRun};
 ghost use Rattle.org_program.specs.Lists.{AreListed};
-ghost use Rattle.org_program.specs.Runs.{IsSetUp, ListsNames, LocksFirst, RunsFolder};
+ghost use Rattle.org_program.specs.Runs.{Forgets, ForgetsFolder, IsSetUp, ListsNames, LocksFirst, RunsFolder};
 ghost use Rattle.org_program.specs.Words.{Say};
 
 use crate::arguments::{self, Arguments};
@@ -20,7 +21,8 @@ use crate::fault::Fault;
 use crate::names::given_names;
 use crate::states::states;
 use indexmap::IndexSet;
-use org_disk::FileName;
+use org_disk::{Disk, FileName};
+use org_fileset::forget;
 use org_folder::{AliasFault, CallsDisk, ListFault, System, check_aliases, org_files};
 use org_serve::{ServeEnd, Served, Setup, Sink, Source, file_names, serve_synced};
 use org_store::OpenFault;
@@ -63,12 +65,15 @@ pub struct Unserved<S> {
 /// known another (`RunsSynced`), with what is answered, what is written, what a crash leaves at
 /// each moment, and why the run ended. The input is read at most 4,294,967,295 times.
 ///
+/// Where the words ask to forget what a crash cut short, no line is read and none written. The
+/// journal's gate is closed, and every other file stays as it was found (`ForgetsFolder`).
+///
 /// # Errors
 ///
 /// No line is read, and none written, and of the folder nothing is changed, where words aren't
 /// taken (`Usage`), or where no store is set up: in this order `BadName`, `BadStates`, `Locked`,
-/// then `Open(Device)` or `SameFile`. Want of memory, `Open(OutOfMemory)`, may take the place of
-/// each.
+/// then `Open(Device)`, `Linked` or `SameFile`. Want of memory, `Open(OutOfMemory)`, may take the
+/// place of each.
 pub fn run<S: System + Drop, R: Source, W: Sink>(
     alloc: Global,
     system: S,
@@ -78,10 +83,15 @@ pub fn run<S: System + Drop, R: Source, W: Sink>(
 ) -> Result<Ran<CallsDisk<S>>, Unserved<S>>
 where
     S::File: Drop,
-    requires { IsFalse (is_held (S.history system)) }
+    requires unlocked { IsFalse (is_held (S.history system)) }
+    requires unfilled { IsFalse (is_filled (S.history system)) }
     ensures words { IfOk result (λ ran. Say (map string_bytes words.now) ran.arguments) }
-    ensures runs { IfOk result (λ ran. RunsFolder S.System system ran.arguments ran.disk ran.end
+    ensures runs { IfOk result (λ ran. ran.arguments.recovery ≢ Forgotten
+        → RunsFolder S.System system ran.arguments ran.disk ran.end
         (exchange R.Source W.Sink reader.old reader.new writer.old writer.new)) }
+    ensures forgets { IfOk result (λ ran. ran.arguments.recovery ≡ Forgotten
+        → ForgetsFolder S.System system ran.arguments ran.disk ran.end
+        × (reader.new ≡ reader.old) × (writer.new ≡ writer.old)) }
     ensures unserved { IfErr result (λ refused. (reader.new ≡ reader.old)
         × (writer.new ≡ writer.old)
         × OnlyLooks (S.history system) (S.history refused.system)) }
@@ -91,7 +101,16 @@ where
     let mut system = system;
     match start(alloc, &mut system, words) {
         Ok((arguments, setup, absent)) => {
-            let disk = CallsDisk::over(alloc, system, absent);
+            let adopts = arguments.recovery.adopts();
+            let mut disk = CallsDisk::over(alloc, system, absent, adopts);
+            if arguments.recovery.forgets() {
+                let end = give_up(alloc, &mut disk);
+                return Ok(Ran {
+                    arguments,
+                    disk,
+                    end,
+                });
+            }
             let Served { disk, end } = serve_synced(alloc, disk, setup, reader, writer, TURNS);
             Ok(Ran {
                 arguments,
@@ -100,6 +119,23 @@ where
             })
         }
         Err(fault) => Err(Unserved { system, fault }),
+    }
+}
+
+// Gives up what a crash cut short.
+fn give_up<D: Disk>(alloc: Global, disk: &mut D) -> Result<(), Fault>
+    ensures { Forgets D.Disk disk.old disk.new result }
+{
+    forgotten(forget(alloc, disk))
+}
+
+// What is reported of how forgetting ended.
+fn forgotten(end: Result<(), OpenFault>) -> Result<(), Fault>
+    ensures { result ≡ forgetting end }
+{
+    match end {
+        Ok(()) => Ok(()),
+        Err(fault) => Err(Fault::Open(fault)),
     }
 }
 
@@ -120,7 +156,8 @@ fn start<S: System>(
     system: &mut S,
     words: &[String],
 ) -> Result<(Arguments, Setup, IndexSet<FileName>), Fault>
-    requires { IsFalse (is_held (S.history system.old)) }
+    requires unlocked { IsFalse (is_held (S.history system.old)) }
+    requires unfilled { IsFalse (is_filled (S.history system.old)) }
     ensures words { IfOk result (λ made. Say (map string_bytes words.now) made.0) }
     ensures sets_up { IfOk result (λ made. IsSetUp made.0 made.1
         (Filled (string_bytes made.0.folder) ∷ S.history system.old) (S.history system.new)

@@ -4,12 +4,14 @@ use Rattle.std.proofs.lemmas.Grind.{common_steps}
 use Rattle.org_disk.specs.declared.disk.Disk.{Ghosts}
 use Rattle.std.specs.Io.KnownBytes.{Appends, Consumes}
 use Rattle.org_commands.specs.declared.command.Command.{Command}
+use Rattle.org_commands.specs.declared.command.Command.TheVariants.{Settle}
 use Rattle.org_commands.specs.declared.tally.Group.{Group}
 use Rattle.org_commands.specs.declared.tally.Group.TheVariants.{Of, Whole}
 use Rattle.org_commands.specs.Session.{StoreView}
 use Rattle.org_store.specs.Calls.{Call, Machine, StepsBy}
 use Rattle.org_store.specs.Calls.Call.{Grouped, Ran, Settled}
-use Rattle.org_store.proofs.Runs.{Course, course_run}
+use Rattle.org_store.proofs.Calls.{reply_of, settling_runs}
+use Rattle.org_store.proofs.Runs.{Course, course_none, course_run}
 use Rattle.org_serve.specs.Pipes.{Adds, AddsSome, AppendsSome, Exchange, Output, output_of}
 use Rattle.org_serve.specs.declared.end.ServeEnd.{ServeEnd}
 use Rattle.org_serve.specs.declared.end.ServeEnd.TheVariants.{End, Unsettled, Device, Read, Write}
@@ -225,7 +227,12 @@ module _ {D : Type 0} (g : Ghosts D) where
       course_read old answers.0 new answers.3.0 answers.1 answers.3.2 (course_lines answers.0 mid new lines answers.2 answers.5 course)
 
   course_end : (mid new : StoreView D) → (new ≡ mid) ⊎ HasSettled (sound_stores g) mid new → Goes mid new
-  course_end mid new ends = grind (arith, common_steps)
+  course_end mid new ends = ⊎_elim
+      (λ same. subst (λ (k : StoreView D). Goes mid k) (sym same) (course_none g mid (λ s. Unit {0}) tt))
+      (λ settled.
+      course_run g mid new new Settle (reply_of mid.session.accepted settled.0) (λ s. Unit {0}) (λ s. Unit {0}) (settling_runs g mid new settled.0 settled.1.0) (course_none g new (λ s. Unit {0}) tt) tt
+      (λ fine s later. tt) tt (λ texts failed accepted full. tt))
+      ends
 
   module _ {old new : StoreView D} {end : ServeEnd} {io : Exchange} (run : RunsLines (sound_stores g) old new end io) where
     course_runs : Goes old new

@@ -11,6 +11,7 @@ use Rattle.org_fileset.specs.Replay.{IsAtRest}
 use Rattle.org_fileset.proofs.Commits.{at_rest_recovers}
 use Rattle.org_fileset.proofs.Recovers.{recovers_as}
 use Rattle.org_commands.specs.declared.command.Command.{Command}
+use Rattle.org_commands.specs.declared.command.Command.TheVariants.{Settle}
 use Rattle.org_commands.specs.declared.tally.Group.{Group}
 use Rattle.org_commands.specs.declared.tally.Group.TheVariants.{Of, Whole}
 use Rattle.org_commands.specs.InOrder.{with_texts}
@@ -20,7 +21,8 @@ use Rattle.org_commands.specs.Step.{Step}
 use Rattle.org_store.specs.History.{Trace, Lists, HoldsPrefix}
 use Rattle.org_store.specs.Runs.{IsOnDisk}
 use Rattle.org_store.proofs.History.{Begin, Counts, Stands, Texts, adds, begin_adds, further, lists_step, same_or_sound, texts_after, torn}
-use Rattle.org_store.proofs.Runs.{Course, HaveTexts, IsBetween, course_none, course_run, falls, holds_back, on_disk_after}
+use Rattle.org_store.proofs.Calls.{reply_of, settle_steps, settling_runs}
+use Rattle.org_store.proofs.Runs.{Course, HaveTexts, IsBetween, course_none, course_run, falls, holds_back, no_settling, on_disk_after}
 use Rattle.org_store.specs.Calls.{Call, Machine, StepsBy, model}
 use Rattle.org_store.specs.Calls.Call.{Grouped, Ran, Settled}
 use Rattle.org_serve.specs.Pipes.{Exchange}
@@ -169,8 +171,19 @@ module _ {D : Type 0} (g : Ghosts D) where
       (course_past a.0 mid last lines a.2 a.5 course ends (lists_read old a.3.0 a.1 a.0 a.3.2 lists)) lists
       (λ k files is. ends k files (begin_lines a.0 mid lines a.2 a.5 k files is)) a.3.0 a.1 a.3.2
 
-  pub course_last : (mid last : Trace D) → (last ≡ mid) ⊎ HasSettled Sound mid last → Goes mid last (Counts last mid)
-  course_last mid last ends = grind (arith, common_steps)
+  pub course_last : (mid last : Trace D) → Lists mid.store.session mid.texts → (last ≡ mid) ⊎ HasSettled Sound mid last → Goes mid last (Counts last mid)
+  course_last mid last lists ends = ⊎_elim
+      (λ same. subst (λ (k : Trace D). Goes mid k (Counts k mid)) (sym same) (course_none g mid.store (Counts mid mid) (inl refl)))
+      (λ settled.
+      let made = settled.1.0.0 in
+      let n = mid.store.session.accepted in
+      course_run g mid.store last.store last.store Settle (reply_of n settled.0) (Counts last mid) (Counts last last) (settling_runs g mid.store last.store settled.0 made)
+      (course_none g last.store (Counts last last) (inl refl)) (inl refl)
+      (λ fine s later.
+      further mid last last (lists_end mid last (inr settled) lists) (λ k files is. is)
+      (same_or_sound mid.store.session last.store.session Settle (reply_of n settled.0) fine (settle_steps mid.store.session last.store.session settled.0 made.step)) s later)
+      (inl refl) (λ texts failed accepted full. no_settling texts accepted))
+      ends
 
   -- What a crash leaves since a store of a run that wasn't broken.
   pub leaves_since : (only_now : (disk : D) (image : Image) → g.honest disk → g.left_since disk (g.instant disk) image → AreImages (g.files disk) image)
@@ -224,7 +237,7 @@ module _ {D : Type 0} (g : Ghosts D) where
       (honest_first : g.honest first.store.disk) (honest_last : g.honest last.store.disk) (rest : IsAtRest (g.files first.store.disk)) (disk : IsOnDisk first.store.session (contents (g.files first.store.disk)))
       (lists : Lists first.store.session first.texts) where
     course_to_last : Goes first last (Counts last first)
-    course_to_last = course_past first run.mid last run.ran run.out run.answered (course_last run.mid last run.ends) (begin_end run.mid last run.ends) lists
+    course_to_last = course_past first run.mid last run.ran run.out run.answered (course_last run.mid last (lists_lines first run.mid run.ran run.out run.answered lists) run.ends) (begin_end run.mid last run.ends) lists
 
     pub lists_last : Lists last.store.session last.texts
     lists_last = lists_end run.mid last run.ends (lists_lines first run.mid run.ran run.out run.answered lists)
@@ -238,7 +251,7 @@ module _ {D : Type 0} (g : Ghosts D) where
         (λ k texts is. begin_end run.mid last run.ends k texts (begin_lines here run.mid reaches.others reaches.more reaches.behind k texts is))
         (Counts here first)
         (course_past first here here reaches.answered reaches.written reaches.before (course_none g here.store (Counts here here) (inl refl)) (λ k texts is. is) lists)
-        (course_past here run.mid last reaches.others reaches.more reaches.behind (course_last run.mid last run.ends) (begin_end run.mid last run.ends)
+        (course_past here run.mid last reaches.others reaches.more reaches.behind (course_last run.mid last (lists_lines first run.mid run.ran run.out run.answered lists) run.ends) (begin_end run.mid last run.ends)
         (lists_lines first here reaches.answered reaches.written reaches.before lists))
     since here (inr same) sound =
         subst (λ (h : Trace D). LeavesOnly (g.instant h.store.disk) (g.instant last.store.disk) (g.left_since h.store.disk) (g.left_since last.store.disk)

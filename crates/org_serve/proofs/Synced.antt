@@ -12,7 +12,7 @@ use Rattle.org_journal.specs.Recovered.{SameFiles, IsRecoverable, recovered, con
 use Rattle.org_journal.proofs.Accounted.{accounts_after}
 use Rattle.org_fileset.specs.declared.open.OpenFault.{OpenFault}
 use Rattle.org_fileset.specs.declared.open.OpenFault.TheVariants as open_fault
-use Rattle.org_fileset.specs.Opening.{IsRecovered, IsReason, IsRefusedFor}
+use Rattle.org_fileset.specs.Opening.{IsFoundOver, IsRecovered, IsReason, IsRefusedFor}
 use Rattle.org_fileset.specs.Recovery.{EachRecovers, IsReopened, RecoversAsBefore, closed_journal, is_closed}
 use Rattle.org_fileset.specs.Writes.{LeavesAlone}
 use Rattle.org_fileset.proofs.Recovering.{as_before}
@@ -51,6 +51,8 @@ pub reason_before : (given : List (List ℕ)) (Honest : Type 0) (before mid now 
 reason_before given Honest before mid now same open_fault.TooManyFiles why = why
 reason_before given Honest before mid now same open_fault.BadJournal why =
     (why.0, λ h. (subst (λ (f : Image). recovered f ≡ None) (same h) (why.1 h).0, (why.1 h).1 ∙ same h))
+reason_before given Honest before mid now same (open_fault.Changed name) why = (why.0, λ h. subst (λ (f : Image). IsFoundOver name f now) (same h) (why.1 h))
+reason_before given Honest before mid now same (open_fault.Outside name) why = (why.0, λ h. subst (λ (f : Image). IsFoundOver name f now) (same h) (why.1 h))
 reason_before given Honest before mid now same (open_fault.TooLarge name) why =
     (why.0, λ h. let found = why.1 h in (found.0, found.1, found.2, subst (λ (f : Image). IsRecovered f now) (same h) found.3))
 reason_before given Honest before mid now same open_fault.Device why = why

@@ -89,7 +89,14 @@ module _ (old new : List ℕ → FileState) (own : (name : List ℕ) → IsImage
 
   pub still_recoverable : IsRecoverable old → IsRecoverable new
   still_recoverable (inl stable) = inl (λ name not. still_stable name (stable name not))
-  still_recoverable (inr over_record) = grind (arith, common_steps, one_content, still_stable, all_images)
+  still_recoverable (inr over_record) = inr (record {
+    entries = over_record.entries;
+    opened = λ bytes image. over_record.opened bytes (images _ bytes image);
+    found = λ bytes image. over_record.found bytes (images _ bytes image);
+    others = λ name not none. still_stable name (over_record.others name not none);
+    texts = over_record.texts;
+    same = λ image left. over_record.same image (all_images images image left);
+  })
 
   pub still_recovers : EachRecovers old → EachRecovers new
   still_recovers each image left = each image (all_images images image left)

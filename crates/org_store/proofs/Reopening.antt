@@ -10,9 +10,9 @@ use Rattle.org_disk.specs.Names.{journal_name, IsOrgFile}
 use Rattle.org_disk.proofs.Names.{name_cases}
 use Rattle.org_journal.specs.Recovered.{Image, SameFiles, recovered}
 use Rattle.org_fileset.specs.Names.{with_archives, AreSorted, AreFew, first_large, limit}
-use Rattle.org_fileset.specs.Opening.{IsReason}
+use Rattle.org_fileset.specs.Opening.{IsFoundOver, IsReason}
 use Rattle.org_fileset.specs.declared.open.OpenFault.{OpenFault}
-use Rattle.org_fileset.specs.declared.open.OpenFault.TheVariants.{TooManyFiles, BadJournal, TooLarge, Device, OutOfMemory}
+use Rattle.org_fileset.specs.declared.open.OpenFault.TheVariants.{TooManyFiles, BadJournal, Changed, Outside, TooLarge, Device, OutOfMemory}
 use Rattle.org_fileset.proofs.Elements.{no_member, cons_cases, cons_here, cons_later}
 use Rattle.org_fileset.proofs.Sorted.{all_sorted, archives_apart, archives_grow}
 use Rattle.org_commands.specs.declared.command.Command.{Command}
@@ -25,6 +25,7 @@ use Rattle.org_commands.specs.Session.{Session, Holds}
 use Rattle.org_commands.specs.Outcome.{IsAccepted, Outcome, Accepts, Shows, Reports, AsksToSettle, Refuses, outcome}
 use Rattle.org_commands.specs.Step.{Step, fills, done, settled}
 use Rattle.org_store.specs.Left.{IsLeft, PutsOnDisk}
+use Rattle.org_store.specs.Opening.{IsWithheld}
 use Rattle.org_store.specs.Reopening.{AreSameNames, IsOpenable, AreSmall}
 use Rattle.org_store.proofs.Accepted.{AreWithin, accepted_puts}
 use Rattle.org_store.proofs.Runs.{falls}
@@ -46,8 +47,11 @@ apart_names given names all sorted =
     (all_sorted (λ name. name ≢ journal_name) (with_archives given) names sorted
     (All-from_recursion (λ name. name ≢ journal_name) (with_archives given) (archives_apart given (recursion_from_All IsOrgFile given all))))
 
+withheld : {name : List ℕ} {image now : Image} → IsFoundOver name image now → IsFoundOver name image image
+withheld found = record { opened = found.opened; entries = found.entries; found = found.found; named = found.named; same = refl }
+
 pub only_faults : (given : List (List ℕ)) (honest : Type 0) (image now : Image) (fault : OpenFault) → All IsOrgFile given → honest → IsOpenable given image → IsReason given honest image now fault
-    → (fault ≡ OutOfMemory) ⊎ (fault ≡ Device)
+    → (((fault ≡ OutOfMemory) ⊎ (fault ≡ Device)) ⊎ IsWithheld image fault)
 only_faults given honest image now TooManyFiles all is can many = absurd (few_or_many given can.few many)
 only_faults given honest image now BadJournal all is can reason =
     absurd (subst (λ (o : Option Image). IsSomeAnd o (λ found. SameFiles found can.texts)) (reason.1 is).0 can.recovers_to)
@@ -59,14 +63,16 @@ only_faults given honest image now (TooLarge name) all is can reason =
     sym (same_large now can.texts can.names (apart_names given can.names all can.sorted) same) ∙ ap (first_large now) (sym one_names) ∙ found.2 in
     let small = can.small in
     absurd (cc)
-only_faults given honest image now Device all is can reason = inr refl
-only_faults given honest image now OutOfMemory all is can reason = inl refl
+only_faults given honest image now (Changed name) all is can reason = inr (withheld (reason.1 is))
+only_faults given honest image now (Outside name) all is can reason = inr (withheld (reason.1 is))
+only_faults given honest image now Device all is can reason = inl (inr refl)
+only_faults given honest image now OutOfMemory all is can reason = inl (inl refl)
 
 -- the fault of the disk comes with a failure
 pub counted_faults : (given : List (List ℕ)) (honest Counted : Type 0) (image now : Image) (fault : OpenFault) → All IsOrgFile given → honest → IsOpenable given image
-    → IsReason given honest image now fault → (fault ≡ Device → Counted) → (fault ≡ OutOfMemory) ⊎ ((fault ≡ Device) × Counted)
+    → IsReason given honest image now fault → (fault ≡ Device → Counted) → (fault ≡ OutOfMemory) ⊎ ((fault ≡ Device) × Counted) ⊎ IsWithheld image fault
 counted_faults given honest Counted image now fault all is can reason counted =
-    ⊎_elim (λ memory. inl memory) (λ device. inr (device, counted device)) (only_faults given honest image now fault all is can reason)
+    ⊎_elim (λ transient. ⊎_elim (λ memory. inl memory) (λ device. inr (inl (device, counted device))) transient) (λ held. inr (inr held)) (only_faults given honest image now fault all is can reason)
 
 -- the same names, put in order
 in_order : (given more names : List (List ℕ)) → AreSameNames given more → AreSorted given names → AreSorted more names

@@ -1,11 +1,11 @@
 -- What opening a store answers.
 use Rattle.std.specs.Prelude.{◌≡◌, ◌⊎◌, ℕ, false, List, [], Result}
 use Rattle.org_disk.specs.declared.disk.Disk.{Ghosts}
-use Rattle.org_journal.specs.Recovered.{contents}
-use Rattle.org_fileset.specs.Opening.{IsOpenedFor, disk_in}
+use Rattle.org_journal.specs.Recovered.{Image, contents}
+use Rattle.org_fileset.specs.Opening.{IsFoundOver, IsOpenedFor, disk_in}
 use Rattle.org_fileset.specs.declared.open.OpenFault.{OpenFault}
 use Rattle.org_fileset.specs.declared.open.OpenRefused.{OpenRefused}
-use Rattle.org_fileset.specs.declared.open.OpenFault.TheVariants.{Device, OutOfMemory}
+use Rattle.org_fileset.specs.declared.open.OpenFault.TheVariants.{Changed, Outside, Device, OutOfMemory}
 use Rattle.org_outline.specs.States.{Keywords}
 use Rattle.org_commands.specs.declared.tally.Group.TheVariants.{Of}
 use Rattle.org_commands.specs.InOrder.{texts_of}
@@ -38,6 +38,13 @@ pub record IsOpened {D : Type 0} (g : Ghosts D) (states : Keywords) (given : Lis
   pub set : IsOpenedFor given store.session.names (g.honest store.disk)
       (contents (g.files store.disk))
   pub dirty_files : store.dirty ≡ []
+
+-- An opening was refused for the sake of a file that an open journal's record names: another
+-- program changed it since, or it leads out of the folder. Nothing was changed.
+abbrev pub IsWithheld : Image → OpenFault → Type 0
+IsWithheld image (Changed name) = IsFoundOver name image image
+IsWithheld image (Outside name) = IsFoundOver name image image
+IsWithheld image fault = ⊥
 
 -- Memory or the disk failed: another opening may succeed.
 abbrev pub IsTransient : OpenFault → Type 0

@@ -32,7 +32,7 @@ ghost use Rattle.org_store.specs.Left.{IsApart, IsLeft, PutsOnDisk};
 ghost use Rattle.org_store.specs.OnePlace.{ArchivesOne, HaveNodesButFew, HaveSameNodes, HasNodesOf, HasNodesOfPrefix, IsSessionOf, MayMove, MayRefile, OnlyRefiles};
 ghost use Rattle.org_commands.specs.Outcome.{AsksToSettle, IsAccepted, outcome, written};
 ghost use Rattle.org_store.specs.Reopening.{AreSameNames, AreSmall, IsOpenable, CountsFailure};
-ghost use Rattle.org_store.specs.Opening.{opened};
+ghost use Rattle.org_store.specs.Opening.{opened, IsWithheld};
 ghost use Rattle.org_store.specs.Runs.{RunsOver, SettlesOver, IsOnDisk};
 ghost use Rattle.org_commands.specs.InOrder.{AreNames, texts_of, with_texts};
 ghost use Rattle.org_commands.specs.Session.{Session, StoreView, Holds};
@@ -304,15 +304,16 @@ pub fn archives_keep_counts()
 {}
 
 /// Every image of a store's disk opens again, with the names that the store was opened with: over a
-/// disk that holds such an image, `Store::open` answers Ok, OutOfMemory, or Device with a counted
-/// failure, and nothing else.
+/// disk that holds such an image, `Store::open` answers Ok, OutOfMemory, Device with a counted
+/// failure, or Changed or Outside of a file that an open journal's record names, and nothing else.
 pub fn every_image_opens<D: Disk>()
     // what a refused opening of such an image says
     ensures faults { (given : List (List ℕ)) (disk now : D) (fault : OpenFault)
         → All IsOrgFile given → D.honest now → IsOpenable given (files_on D.Disk disk)
         → IsReason given (D.honest now) (files_on D.Disk disk) (files_on D.Disk now) fault
         → (fault ≡ Device → CountsFailure D.Disk disk now)
-        → (fault ≡ OutOfMemory) ⊎ ((fault ≡ Device) × CountsFailure D.Disk disk now) }
+        → (fault ≡ OutOfMemory) ⊎ ((fault ≡ Device) × CountsFailure D.Disk disk now)
+        ⊎ IsWithheld (files_on D.Disk disk) fault }
     // what a crash left of a store's files is such an image, as long as no text of them was past
     // the limit
     ensures held { (given : List (List ℕ)) (s : Session) (others image : Image)

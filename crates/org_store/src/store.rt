@@ -2,14 +2,14 @@
 //!
 //! Between two calls the texts are those of the session, and the disk has those that were
 //! acknowledged. After a failure of the disk the store is broken, and makes no call.
-ghost use Rattle.std.specs.Prelude.{◌≡◌, IfOk, IfErr, IsErrOf};
+ghost use Rattle.std.specs.Prelude.{◌≡◌, ◌⊎◌, IfOk, IfErr, IsErrOf};
 ghost use Rattle.std.specs.List.{All};
 ghost use Rattle.org_disk.specs.CountsFailures.{CountsFailures};
 ghost use Rattle.org_disk.specs.Names.{IsOrgFile};
 ghost use Rattle.org_fileset.specs.Opening.{Opens};
 ghost use Rattle.org_fileset.specs.Replay.{files_on};
 ghost use Rattle.org_store.specs.Group.{IsGroup};
-ghost use Rattle.org_store.specs.Opening.{IsOpened, IsTransient, disk_of};
+ghost use Rattle.org_store.specs.Opening.{IsOpened, IsTransient, IsWithheld, disk_of};
 ghost use Rattle.org_store.specs.Reopening.{IsOpenable};
 ghost use Rattle.org_store.specs.Runs.{SaysBroken, StaysWhereNeedless, Runs, SettlesAll};
 ghost use Rattle.org_store.specs.Counts.{Counts, SettledCounts};
@@ -64,7 +64,8 @@ impl<D: Disk> Store<D> {
     /// # Errors
     ///
     /// Those of `FileSet::open`, with the disk handed back. On a disk that recovers to files of
-    /// these names, none past the limit, `Device` and `OutOfMemory` alone.
+    /// these names, none past the limit, `Device` and `OutOfMemory` alone; and over an open journal
+    /// `Changed` and `Outside` of a file that its record names.
     ///
     /// # Examples
     ///
@@ -89,7 +90,8 @@ impl<D: Disk> Store<D> {
         ensures opened { IfOk result (λ store. IsOpened D.Disk states names.items store) }
         ensures opens { Opens D.Disk names.items disk (disk_of result) result }
         ensures again { IfErr result (λ refused. D.honest refused.disk
-            → IsOpenable names.items (files_on D.Disk disk) → IsTransient refused.fault) }
+            → IsOpenable names.items (files_on D.Disk disk)
+            → IsTransient refused.fault ⊎ IsWithheld (files_on D.Disk disk) refused.fault) }
     {
         match Files::open(alloc, disk, names) {
             Ok(files) => Ok(Store {

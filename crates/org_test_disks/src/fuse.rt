@@ -4,7 +4,7 @@
 ghost use Rattle.std.specs.Prelude.{◌≡◌, ◌+◌, ◌-◌, ◌^◌, ◌↔◌, IsTrue, IsFalse, OnOk};
 ghost use Rattle.org_disk.specs.Disk.{IsCounted};
 
-use org_disk::{Disk, DiskFault, FileName};
+use org_disk::{Disk, DiskFault, FileName, Standing};
 
 /// A disk that passes its first k calls on, and then fails every call without effect. Its count of
 /// failures is its own plus the disk's, at most 2^64 - 1.
@@ -157,5 +157,16 @@ impl<D: Disk> Disk for Fuse<D> {
             return Err(DiskFault);
         }
         self.disk.sync(name)
+    }
+
+    fn standing(&mut self, name: &FileName) -> Result<Standing, DiskFault>
+        ensures looks { Looks D.Disk self.old.disk self.new.disk }
+        ensures accounts { AccountsOfFuse D.Disk self.old self.new result }
+        ensures burns { Burns self.old self.new result }
+    {
+        if !self.burn() {
+            return Err(DiskFault);
+        }
+        self.disk.standing(name)
     }
 }

@@ -8,7 +8,7 @@ ghost use Rattle.org_disk.specs.Disk.{FileState, IsCounted, IsImage, write};
 ghost use Rattle.org_test_disks.specs.Record.{effect_of, files_after, content_in, is_call, Keeps, KeepsCutImage, KeepsImage};
 
 use indexmap::IndexMap;
-use org_disk::{Disk, DiskFault, FileName};
+use org_disk::{Disk, DiskFault, FileName, Standing};
 use std::alloc::{AllocError, Global};
 
 /// What a crash leaves of each file, one of its images.
@@ -418,6 +418,11 @@ impl Disk for MemoryDisk {
         ensures recorded { OnOk result (call_count self.new ≡ call_count self.old + 1) }
     {
         self.call(name, Effect::Sync)
+    }
+
+    /// Nobody else writes this disk.
+    fn standing(&mut self, _name: &FileName) -> Result<Standing, DiskFault> {
+        Ok(Standing::Left)
     }
 }
 

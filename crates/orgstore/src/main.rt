@@ -1,6 +1,7 @@
-//! `orgstore DIR [--new NAME].. [--only NAME].. [--todo LIST] [--done LIST] [--group K | --whole]`:
-//! runs the command lines of standard input over the Org files of a folder, and writes their
-//! replies to standard output. A fault is a line on standard error and the exit status.
+//! `orgstore DIR [--new NAME].. [--only NAME].. [--todo LIST] [--done LIST] [--group K | --whole]
+//! [--adopt | --forget]`: runs the command lines of standard input over the Org files of a folder,
+//! and writes their replies to standard output. A fault is a line on standard error and the exit
+//! status.
 #![tactic(auto)]
 
 use org_program::{Fault, HostSystem, Unknown, given_words, input, output, run};

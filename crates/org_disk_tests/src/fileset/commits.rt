@@ -170,9 +170,10 @@ fn a_commit_of_nothing_makes_no_call(rt: HostRuntime) {
 }
 
 // Opens a set over a record of version 1, open or closed: the disk then, where the record is ended.
+// The opening that ends it leaves 0 after it.
 fn end_old(rt: &impl Abort, alloc: Global, disk: MemoryDisk) -> MemoryDisk {
-    let mut closed = OLD;
-    closed[0] = 0;
+    let mut closed = [0; 72];
+    closed[1..71].copy_from_slice(&OLD[1..]);
     let (disk, is_ended) = read_once(rt, alloc, disk, ("orgstore.journal", &closed, &TEXT));
     hold(rt, is_ended);
     disk

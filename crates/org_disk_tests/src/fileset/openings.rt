@@ -21,10 +21,18 @@ const GATES: &[(u8, u8, &[u8])] = &[
     (0xff, 0xff, b"* TO"),
 ];
 
+// The journal after an opening, which leaves 0 behind the record that it ends.
+fn after_opening(rt: &impl Abort, alloc: Global, gate: u8, after: u8) -> Vec<u8> {
+    let mark: &[u8] = if gate == 1 { &[0] } else { &[] };
+    let mut journal = Vec::from_slice(alloc, &with_gate(after)).expect(rt, "memory");
+    journal.extend_from_slice(mark).expect(rt, "memory");
+    journal
+}
+
 // Whether an opening leaves this gate and this inbox.org, and a.org as it was.
 fn leaves(rt: &impl Abort, alloc: Global, gate: u8, after: u8, inbox: &[u8]) -> bool {
     let disk = crashed(rt, alloc, gate);
-    let journal = with_gate(after);
+    let journal = after_opening(rt, alloc, gate, after);
     let (disk, is_left) = read_once(rt, alloc, disk, ("orgstore.journal", &journal, inbox));
     opens_with(rt, alloc, disk, ("a.org", b"* A\n", inbox)) && is_left
 }

@@ -172,6 +172,15 @@ const ONE_FAILS: &[Step] = &[
     Step::Call("a.org", Call::Each, Ok(0), 1),
 ];
 
+// The calls that sync the file's entry.
+const ENTRY: &[u64] = &[4, 5, 6];
+
+// Once a sync of the file's entry has failed, none counts: the calls fail again.
+const ENTRY_FAILS: &[Step] = &[
+    Step::Call("a.org", Call::Each, Err(DiskFault), 1),
+    Step::Call("a.org", Call::Each, Err(DiskFault), 2),
+];
+
 // The file system, of which the call with this number fails, counted behind the one that opens the
 // folder to lock it.
 fn failing_system(rt: &impl Abort, host: &HostRuntime, fails_in: u64) -> Failing {
@@ -181,14 +190,20 @@ fn failing_system(rt: &impl Abort, host: &HostRuntime, fails_in: u64) -> Failing
     }
 }
 
-// Whether it goes so on a new folder's disk at which the call of the system with this number fails;
-// then the file holds what the calls leave, wherever they were broken off at first.
-fn fails_at(rt: &impl Abort, host: &HostRuntime, fails_in: u64) -> bool {
+// Whether it goes so on a new folder's disk at which the call of the system with this number fails.
+fn go_so(rt: &impl Abort, host: &HostRuntime, fails_in: u64, steps: &[Step]) -> bool {
     make_folder(rt, host, "one_fails", &[]);
     let system = failing_system(rt, host, fails_in);
     let disk: FolderDisk<Failing, Unknown> = disk(rt, host, "one_fails", system);
-    first_wrong(rt, host, disk, ONE_FAILS).is_none()
-        && holds(rt, host, "one_fails/a.org", b"* A\n* C\n")
+    first_wrong(rt, host, disk, steps).is_none()
+}
+
+// The same, and then the file holds what the calls leave, wherever they were broken off at first.
+fn fails_at(rt: &impl Abort, host: &HostRuntime, fails_in: u64) -> bool {
+    if ENTRY.contains(&fails_in) {
+        return go_so(rt, host, fails_in, ENTRY_FAILS);
+    }
+    go_so(rt, host, fails_in, ONE_FAILS) && holds(rt, host, "one_fails/a.org", b"* A\n* C\n")
 }
 
 // The calls on a file make 12 calls of the system: the file is made, seen to be empty and written;

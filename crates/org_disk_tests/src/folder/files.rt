@@ -190,7 +190,7 @@ fn disk_without(
     let mut system: HostSystem<HostRuntime, Unknown> = locked(rt, own, folder);
     let names = vec![in host.alloc(); name.clone().expect(rt, "memory")].expect(rt, "memory");
     let absent = check_aliases(host.alloc(), &mut system, &names).expect(rt, "no aliases");
-    CallsDisk::over(host.alloc(), system, absent)
+    CallsDisk::over(host.alloc(), system, absent, false)
 }
 
 // A file that was found absent is believed to be so by the first call, and once more by the next:

@@ -1,14 +1,15 @@
 //! Journals on a disk.
-ghost use Rattle.std.specs.Prelude.{◌≡◌, ◌≤◌, length, OnOk};
+ghost use Rattle.std.specs.Prelude.{◌≡◌, ◌≤◌, length, IfOk, OnOk};
 ghost use Rattle.org_disk.specs.Disk.{IsStable};
 ghost use Rattle.org_disk.specs.Names.{journal_name};
+ghost use Rattle.org_journal.specs.Finding.{IsWritable};
 
 use super::{ALL, Body, TWO, behind_gate, body_of, is_capture, joined};
 use crate::disk::{hold, hold_row};
 use crate::fileset::{disk_with, is_refused};
 use org_disk::{Disk, DiskFault, FileName};
 use org_fixtures::{NEW, OLD};
-use org_journal::{FindFault, Found, arm, close_gate, find, open_gate, prepare};
+use org_journal::{FindFault, Found, all_fit, arm, close_gate, find, open_gate, prepare};
 use org_test_disks::MemoryDisk;
 use std::alloc::Global;
 use std::process::Abort;
@@ -22,10 +23,10 @@ enum Answer {
     Fault,
 }
 
-fn answer_in(found: Result<Found, FindFault>) -> Answer {
+fn answer_in(found: &Result<Found, FindFault>) -> Answer {
     match found {
         Ok(Found::Closed) => Answer::Closed,
-        Ok(Found::Open(record)) => if is_capture(&record) {
+        Ok(Found::Open(record, _)) => if is_capture(record) {
             Answer::Capture
         } else {
             Answer::Other
@@ -35,11 +36,26 @@ fn answer_in(found: Result<Found, FindFault>) -> Answer {
     }
 }
 
-// What `find` says over this journal, beside an inbox.org with this text.
+// The same, and `Bad` where the record doesn't fit its files.
+fn fitting_answer<D: Disk>(disk: &mut D, found: &Result<Found, FindFault>) -> Answer
+    requires { IfOk found.now (λ found. IsWritable found) }
+{
+    if let Ok(Found::Open(record, _)) = found {
+        match all_fit(disk, record.as_slice()) {
+            Ok(true) => {}
+            Ok(false) => return Answer::Bad,
+            Err(_) => return Answer::Fault,
+        }
+    }
+    answer_in(found)
+}
+
+// What `find` and `all_fit` say over this journal, beside an inbox.org with this text.
 fn answer_of(rt: &impl Abort, alloc: Global, bytes: &[u8], text: &[u8]) -> Answer {
     let mut disk = disk_with(rt, alloc, bytes, b"* A\n", text);
     let journal = FileName::journal_name(alloc).expect(rt, "memory");
-    let answer = answer_in(find(alloc, &mut disk, &journal));
+    let found = find(alloc, &mut disk, &journal);
+    let answer = fitting_answer(&mut disk, &found);
     drop(disk);
     answer
 }
@@ -50,7 +66,7 @@ const LATE: &[(usize, &[u8])] = &[(37, &[1, 0, 0, 0, 0, 0, 0, 0, 17])];
 // The final length is past the end of the patch, and of the file or not.
 const LONG: &[(usize, &[u8])] = &[(45, &[17])];
 
-// A gate, the bytes behind it, the text of inbox.org, and what `find` says.
+// A gate, the bytes behind it, the text of inbox.org, and what is said of them.
 static ROWS: &[(u8, Body, &[u8], Answer)] = &[
     (1, (&OLD, ALL, &[], b""), b"", Answer::Capture),
     (1, (&NEW, ALL, &[], b""), b"", Answer::Capture),
@@ -80,7 +96,7 @@ static ROWS: &[(u8, Body, &[u8], Answer)] = &[
     (1, (&TWO, ALL, &[], b""), b"* A\n* B\n", Answer::Other),
 ];
 
-// Whether `find` says this, and a set of files is refused where the journal is bad, and nowhere
+// Whether this is said, and a set of files is refused where the journal is bad, and nowhere
 // else.
 fn is_as_said(
     rt: &impl Abort,
@@ -133,9 +149,9 @@ fn opens_and_closes<D: Disk>(
     requires { journal.now ≡ journal_name }
 {
     open(disk, journal, body)?;
-    let is_open = answer_in(find(alloc, disk, journal)) == Answer::Capture;
+    let is_open = answer_in(&find(alloc, disk, journal)) == Answer::Capture;
     close_gate(disk, journal)?;
-    Ok(is_open && answer_in(find(alloc, disk, journal)) == Answer::Closed)
+    Ok(is_open && answer_in(&find(alloc, disk, journal)) == Answer::Closed)
 }
 
 #[test]

@@ -5,18 +5,20 @@
 //! calls: no contract says what a system does.
 ghost use Rattle.std.specs.Prelude.{◌≡◌, [], ◌∷◌, map, string_bytes, IfOk, IsFalse};
 ghost use Rattle.std.specs.Path.{path_buf_bytes, path_join};
-ghost use Rattle.org_folder.specs.Calls.{path_in, with_entries};
+ghost use Rattle.org_folder.specs.Calls.{path_in, with_entries, has_failed as has_failed_in};
 ghost use Rattle.org_folder.specs.Calls.Event.{Listed};
 
 use super::access::{Access, OWNER, is_shared};
+use super::again::again;
 use super::seen::{Change, Seen};
+use super::standing::{Times, of_file};
 use super::{Found, Opened, Reached, System};
 use crate::aliases::Node;
-use crate::list::ListFault;
+use crate::list::{ListFault, is_org_file};
 use crate::lock::{Locked, held};
 use crate::record::{Call, Record};
 use crate::start::Start;
-use org_disk::{DiskFault, FileName};
+use org_disk::{DiskFault, FileName, Standing};
 use org_fault::Fault;
 use std::alloc::{AllocError, Global};
 use std::cell::Cell;
@@ -26,6 +28,9 @@ use std::marker::PhantomData;
 use std::os::unix::fs::{FileExt, MetadataExt, OpenOptionsExt};
 use std::path::{Path, PathBuf};
 use std::{fs, io};
+
+// The first byte of a journal whose gate is open.
+const OPEN: u8 = 1;
 
 /// A folder that was opened and may be locked.
 pub trait Locks {
@@ -54,12 +59,19 @@ pub struct HostSystem<R: Files, S: Start> {
     streams: [Option<R::File>; 3],
     // the folder was synced, and this has made no file since
     is_synced: bool,
+    // a sync of an entry failed
+    has_failed: bool,
     // the folder's last change when the journal was found in it, where any later one shows
     unchanged: Cell<Option<Change>>,
+    // the times of the journal when it was opened
+    journal: Cell<Option<Times>>,
+    // more than those whom it is for may use the journal
+    is_wide: Cell<bool>,
     pub(crate) log: Record,
     start: PhantomData<S>,
     // the files are those of the folder that was locked
     ghost at: { string_bytes path ≡ path_in log.events },
+    ghost failing: { IsFalse has_failed → IsFalse (has_failed_in log.events) },
 }
 
 impl<R: Files + AllocGlobal + Clone + Drop, S: Start> HostSystem<R, S>
@@ -76,7 +88,10 @@ where
             lock: None,
             streams: [None, None, None],
             is_synced: false,
+            has_failed: false,
             unchanged: Cell::new(None),
+            journal: Cell::new(None),
+            is_wide: Cell::new(false),
             log: Record::new(),
             start: PhantomData,
         }
@@ -107,8 +122,27 @@ where
         self.log.note(Call::Listed, &[], &[]);
     }
 
+    // What stands in a place of the folder, and what a path leads to.
+    fn entry_at(&self, path: Path<'_>) -> io::Result<Metadata> {
+        again(|| fs::symlink_metadata(&self.rt, path))
+    }
+
+    fn file_at(&self, path: Path<'_>) -> io::Result<Metadata> {
+        again(|| fs::metadata(&self.rt, path))
+    }
+
+    fn folder(&self) -> io::Result<Metadata> {
+        self.file_at(Path::new(self.path.as_str()))
+    }
+
+    // The journal's name leads to what stands in the folder itself.
     fn found(&self, name: &FileName) -> io::Result<Found> {
-        let metadata = fs::metadata(&self.rt, self.path_of(name)?)?;
+        let path = self.path_of(name)?;
+        let metadata = if is_journal(name) {
+            self.entry_at(path.as_path())?
+        } else {
+            self.file_at(path.as_path())?
+        };
         Ok(Found {
             node: Node::new(metadata.dev(), metadata.ino()),
             is_plain: metadata.is_file(),
@@ -119,19 +153,21 @@ where
     fn find(&self, name: &FileName) -> io::Result<Reached<R::File>> {
         let path = self.path_of(name)?;
         let path = path.as_path();
-        let entry = fs::symlink_metadata(&self.rt, path)?;
+        let entry = self.entry_at(path)?;
         let is_own = entry.is_file();
-        let metadata = if is_own {
+        let metadata = if is_own || is_journal(name) {
             entry
         } else {
-            fs::metadata(&self.rt, path)?
+            self.file_at(path)?
         };
         if !metadata.is_file() {
             return Err(Error::from(ErrorKind::Unsupported));
         }
         let (file, is_writable) = self.open_file(path)?;
-        if is_journal(name) && is_shared(&metadata) {
-            self.access_to_journal()?.limit(&file, &file.metadata()?);
+        if is_journal(name) {
+            only_found(&metadata, &status_of(&file)?)?;
+            self.journal.set(Some(Times::of(&metadata)));
+            self.is_wide.set(is_shared(&metadata));
         }
         Ok(Reached {
             file,
@@ -139,6 +175,19 @@ where
             is_own,
             seen: Seen::of(&metadata),
         })
+    }
+
+    // Takes the journal from those whom it isn't for. That changes its status, whose last change
+    // says how old an open record is: so it is done once the gate was seen to be closed, or before
+    // the journal is written.
+    fn narrow(&self, journal: &R::File) {
+        if !self.is_wide.get() {
+            return;
+        }
+        self.is_wide.set(false);
+        if let (Ok(access), Ok(found)) = (self.access_to_journal(), status_of(journal)) {
+            access.limit(journal, &found);
+        }
     }
 
     // The file, and whether it may be written. One that may not is opened for reading alone.
@@ -158,17 +207,19 @@ where
         Opened::new(name, file)
     }
 
-    // A link that leads nowhere is followed: the file is made where it leads.
+    // A link that leads nowhere is followed: the file is made where it leads. But the journal is
+    // made in the folder itself.
     fn find_or_make(&self, name: &FileName) -> io::Result<Reached<R::File>> {
         let path = self.path_of(name)?;
         let access = self.access_to(name)?;
         let mut options = File::options();
         options.read(true).write(true).create(true);
+        options.create_new(is_journal(name));
         if access.is_some() {
             options.mode(OWNER);
         }
         let file = options.open(&self.rt, path.as_path())?;
-        let metadata = file.metadata()?;
+        let metadata = status_of(&file)?;
         only_empty(&metadata)?;
         if let Some(access) = access {
             access.give(&file, &metadata);
@@ -190,23 +241,64 @@ where
             return Ok(None);
         };
         let path = Path::new(self.path.as_str()).join(self.rt.alloc(), org_file)?;
-        match fs::metadata(&self.rt, path.as_path()) {
+        match self.file_at(path.as_path()) {
             Ok(metadata) => Ok(Some(Access::to_archive(&metadata))),
             Err(_) => Ok(None),
         }
     }
 
     fn access_to_journal(&self) -> io::Result<Access> {
-        let folder = fs::metadata(&self.rt, Path::new(self.path.as_str()))?;
-        Ok(Access::to_journal(&folder))
+        Ok(Access::to_journal(&self.folder()?))
     }
 
     fn sync_folder_of(&self, name: &FileName) -> io::Result<()> {
-        let path = fs::canonicalize(&self.rt, self.path_of(name)?)?;
+        let path = self.path_of(name)?;
+        let path = self.end_of(path.as_path())?;
         let Some(folder) = path.parent() else {
             return Err(Error::from(ErrorKind::NotFound));
         };
         File::open(&self.rt, folder)?.sync_all()
+    }
+
+    // Where a path ends, with all links followed.
+    fn end_of(&self, path: Path<'_>) -> io::Result<PathBuf> {
+        again(|| fs::canonicalize(&self.rt, path))
+    }
+
+    // A file that isn't there stands as it was left: it was still to be made.
+    fn stands(&self, name: &FileName) -> io::Result<Standing> {
+        let path = self.path_of(name)?;
+        let Some(entry) = there(self.entry_at(path.as_path()))? else {
+            return Ok(Standing::Left);
+        };
+        if !entry.is_symlink() {
+            return self.stands_beside_journal(&entry);
+        }
+        match self.linked(path.as_path())? {
+            Some(file) => self.stands_beside_journal(&file),
+            None => Ok(Standing::Outside),
+        }
+    }
+
+    fn stands_beside_journal(&self, file: &Metadata) -> io::Result<Standing> {
+        let Some(journal) = self.journal.get() else {
+            return Err(Error::from(ErrorKind::NotFound));
+        };
+        Ok(of_file(&self.rt, &Times::of(file), &journal))
+    }
+
+    // The file that a link leads to, where it is one of the folder's Org files. A link that leads
+    // nowhere may lead anywhere.
+    fn linked(&self, link: Path<'_>) -> io::Result<Option<Metadata>> {
+        let Some(end) = there(self.end_of(link))? else {
+            return Ok(None);
+        };
+        let folder = self.end_of(Path::new(self.path.as_str()))?;
+        if !is_org_file_in(folder.as_path(), end.as_path()) {
+            return Ok(None);
+        }
+        let file = self.file_at(end.as_path())?;
+        Ok(if file.is_file() { Some(file) } else { None })
     }
 
     // A file that may be written, and to which its name leads; it is as the calls so far left it.
@@ -218,20 +310,20 @@ where
             return self.try_journal(opened);
         }
         let path = self.path_of(&opened.name)?;
-        only_same(opened, &fs::metadata(&self.rt, path.as_path())?)
+        only_same(opened, &self.file_at(path.as_path())?)
     }
 
     // Where the folder has changed no entry since the journal was found in it, its name leads there
     // still. So the journal isn't looked at before each write: many systems note times at greater
     // cost where these were looked at.
     fn try_journal(&self, opened: &Opened<R::File>) -> io::Result<()> {
-        let folder = Change::of(&fs::metadata(&self.rt, Path::new(self.path.as_str()))?);
+        let folder = Change::of(&self.folder()?);
         if self.is_unchanged(&folder) {
             return Ok(());
         }
         let path = self.path_of(&opened.name)?;
-        only_same(opened, &fs::metadata(&self.rt, path.as_path())?)?;
-        let entry = fs::symlink_metadata(&self.rt, path.as_path())?;
+        only_same(opened, &self.file_at(path.as_path())?)?;
+        let entry = self.entry_at(path.as_path())?;
         let is_shown = entry.is_file() && Change::of(&entry).is_later_than(&folder);
         self.unchanged
             .set(if is_shown { Some(folder) } else { None });
@@ -250,6 +342,14 @@ where
             ≡ path_join (string_bytes self.now.path) name.now) }
     {
         Path::new(self.path.as_str()).join(self.rt.alloc(), name.as_str())
+    }
+}
+
+// Whether a path is that of an Org file of this folder, by its name.
+fn is_org_file_in(folder: Path<'_>, path: Path<'_>) -> bool {
+    match (path.parent(), path.file_name()) {
+        (Some(parent), Some(name)) => parent == folder && is_org_file(name),
+        _ => false,
     }
 }
 
@@ -275,6 +375,18 @@ fn only_same<F>(opened: &Opened<F>, now: &Metadata) -> io::Result<()> {
     Ok(())
 }
 
+// The journal that was opened is the file that was looked at: no link was put there meanwhile.
+fn only_found(looked: &Metadata, opened: &Metadata) -> io::Result<()> {
+    if looked.dev() != opened.dev() || looked.ino() != opened.ino() {
+        return Err(Error::from(ErrorKind::Other));
+    }
+    Ok(())
+}
+
+fn status_of<F: OpenFile>(file: &F) -> io::Result<Metadata> {
+    again(|| file.metadata())
+}
+
 fn cut_off<F: OpenFile>(opened: &Opened<F>, to: u64) -> io::Result<()> {
     opened.file.set_len(to)?;
     measured(opened)?;
@@ -283,13 +395,31 @@ fn cut_off<F: OpenFile>(opened: &Opened<F>, to: u64) -> io::Result<()> {
 
 // The length of a file; what the system says of it is kept for the next try.
 fn measured<F: OpenFile>(opened: &Opened<F>) -> io::Result<u64> {
-    let metadata = opened.file.metadata()?;
+    let metadata = status_of(&opened.file)?;
     opened.seen.set(Seen::of(&metadata));
     Ok(metadata.len())
 }
 
 fn is_refused(kind: ErrorKind) -> bool {
     kind == ErrorKind::PermissionDenied || kind == ErrorKind::ReadOnlyFilesystem
+}
+
+// What was found, if anything was. What may not be reached, or is reached by way of itself, isn't
+// in the folder.
+fn there<T: Drop>(answer: io::Result<T>) -> io::Result<Option<T>> {
+    match answer {
+        Ok(value) => Ok(Some(value)),
+        Err(error) if is_nowhere(error.kind()) => Ok(None),
+        Err(error) => Err(error),
+    }
+}
+
+fn is_nowhere(kind: ErrorKind) -> bool {
+    match kind {
+        ErrorKind::NotFound | ErrorKind::PermissionDenied => true,
+        ErrorKind::NotADirectory | ErrorKind::FilesystemLoop => true,
+        _ => false,
+    }
 }
 
 // A fault says no more than that the call failed.
@@ -335,7 +465,7 @@ where
     }
 
     fn list(&mut self) -> Result<Vec<String>, ListFault> {
-        let names = self.entries()?;
+        let names = again(|| self.entries())?;
         self.note_entries(&names);
         Ok(names)
     }
@@ -389,6 +519,9 @@ where
         into: &mut [u8],
     ) -> Result<(), DiskFault> {
         answered(opened.file.read_exact_at(into, from))?;
+        if is_journal(&opened.name) && from == 0 && into.first() != Some(&OPEN) {
+            self.narrow(&opened.file);
+        }
         self.log.note_file(Call::Read(from), &opened.name, into);
         Ok(())
     }
@@ -403,6 +536,9 @@ where
             self.try_file(opened)
         } else {
             opened.seen.set(opened.seen.get().written());
+            if is_journal(&opened.name) {
+                self.narrow(&opened.file);
+            }
             opened.file.write_all_at(bytes, from)
         });
         self.log
@@ -427,16 +563,23 @@ where
     // A file that was found in the folder itself was there when the folder was synced: nobody else
     // makes any.
     fn sync_entry(&mut self, opened: &mut Opened<R::File>) -> Result<(), DiskFault> {
-        let answer = if opened.is_own && self.is_synced {
+        let answer = if self.has_failed {
+            Err(DiskFault)
+        } else if opened.is_own && self.is_synced {
             Ok(())
         } else {
             answered(self.sync_folder_of(&opened.name))
         };
+        self.has_failed = answer.is_err();
         self.log
             .note_file(Call::Entered(answer.is_ok()), &opened.name, &[]);
         answer?;
         self.is_synced = self.is_synced || opened.is_own;
         opened.is_entered = true;
         Ok(())
+    }
+
+    fn standing(&mut self, name: &FileName) -> Result<Standing, DiskFault> {
+        answered(self.stands(name))
     }
 }

@@ -26,7 +26,7 @@ fn folder_disk(rt: &impl Abort, host: &HostRuntime) -> FolderDisk<HostRuntime, U
     let own = host.clone().expect(rt, "memory");
     let mut system: HostSystem<HostRuntime, Unknown> = HostSystem::new(own);
     system.lock(FOLDER).expect(rt, "not locked");
-    CallsDisk::over(host.alloc(), system, IndexSet::new(host.alloc()))
+    CallsDisk::over(host.alloc(), system, IndexSet::new(host.alloc()), false)
 }
 
 // Serves the line of a step over the folder, of whose disk so many calls pass: how many lines are

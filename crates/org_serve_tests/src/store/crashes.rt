@@ -74,13 +74,13 @@ fn crash_each_call(rt: &(impl Abort + AllocGlobal), group: u32, calls: u64) {
     assert!(rt; crashed(rt, group, (end, Outcome::None)) == (2, 2, 2));
 }
 
-// Each capture reads a length and a text, and makes twelve calls to be settled. In a group of two
+// Each capture reads a length and a text, and makes fourteen calls to be settled. In a group of two
 // they read two calls each, and are settled in one: a try of the journal and of both files, the
-// record and the gate with a sync each, a write and a length for each file, a sync of each, the
-// gate with its sync, and a try of each.
+// record and the gate with a sync each, a try of both, for each file a length, a write and a length
+// again, a sync of each, the gate with its sync, and a try of each.
 #[test]
 fn crashed_at_every_call(rt: HostRuntime) {
-    for (group, calls) in [(1, 29), (2, 22)] {
+    for (group, calls) in [(1, 33), (2, 26)] {
         crash_each_call(&rt, group, calls);
     }
 }

@@ -1,184 +1,48 @@
-use Rattle.std.proofs.Common.{◌≢◌, ◌≤◌, ◌+◌, ℕ, List, length, take, refl, sym, ◌∙◌, ap, subst, arith}
-use Rattle.std.proofs.lemmas.List.{take_all}
-use Rattle.org_splice.proofs.Failing.{not_ok}
-use Rattle.org_disk.specs.Disk.{FileState, write}
+use Rattle.std.proofs.Common.{◌≢◌, ◌∙◌, ap, sym, subst, ℕ, List, length}
+use Rattle.org_disk.specs.Disk.{FileState}
 use Rattle.org_splice.specs.Texts.{pairs_of}
-use Rattle.org_fileset.specs.Replay.{AppliesPatchesOver}
-use Rattle.org_fileset.specs.Writes.{LeavesAlone}
-use Rattle.org_fileset.proofs.Patching.{applies_none, applies_read, applies_write, applies_cut}
-use Rattle.org_fileset.proofs.Steps.{pair_at, patched_each-more, next_within, next_small, all_applied}
-use Rattle.org_disk.proofs.Accounting.{accounts_none, accounts_then, accounts_ok, accounts_call, accounts_call_ok}
-use Rattle.org_journal.proofs.Accounted.{accounts_failed, accounts_fine_test}
-use Rattle.org_fileset.proofs.Writes.{alone_none, alone_looked, alone_more}
-use Rattle.org_fileset.proofs.apply.apply_entry.Given.{Over}
+use Rattle.org_splice.proofs.Failing.{not_ok}
+use Rattle.org_splice.specs.Patches.{patched}
+use Rattle.org_disk.proofs.Accounting.{accounts_then, accounts_call, accounts_call_ok}
+use Rattle.org_journal.proofs.Accounted.{accounts_failed}
+use Rattle.org_fileset.specs.Replay.{CanPatch}
+use Rattle.org_fileset.proofs.Patching.{applies_none, applies_read, applies_behind}
+use Rattle.org_fileset.proofs.Writes.{alone_looks, alone_then}
 use Rattle.org_fileset.proofs.apply.apply_entry.Goals as goal
-use Rattle.org_fileset.proofs.apply.apply_entry.Goals.{After-cut}
 
-pub loop-patch-init : goal.loop-patch-init
-loop-patch-init g c = record {
-  accounts = accounts_none g.D.Disk c.args.disk.now;
-  content = λ honest. refl;
-  alone = λ honest. alone_none g.D.Disk (λ other. other ≢ c.args.entry.now.name) c.args.disk.now;
-  applies = λ honest to takes. applies_none (g.D.Disk.instant c.args.disk.now) (g.D.Disk.left_since c.args.disk.now) (g.D.Disk.files c.args.disk.now) takes;
-}
-
-pub write_patch-requires : goal.write_patch-requires
-write_patch-requires g c =
-    let sofar = c.loop-patch.invariant in
-    let entry = c.args.entry.now in
-    let text = (g.D.Disk.files c.args.disk.now entry.name).content in
-    let patch = c.patch-item.result in
-    let is = pair_at c.as_slice-patch-items.result.now entry.patches c.loop-patch.patch-index patch c.as_slice-patch-items.ensures c.loop-patch-test.true c.patch-item.is in
+pub apply_patches-requires : goal.apply_patches-requires
+apply_patches-requires g c =
+    let back = c.length.ensures.accounts.was_honest in
+    let name = c.args.entry.now.name in
     record {
-      within = λ h.
-          let can = c.requires (sofar.accounts.was_honest h) in
-          next_within (pairs_of entry.patches) entry.length c.loop-patch.patch-index patch.from patch.bytes text (g.D.Disk.files c.loop-patch.disk entry.name).content can.formed can.fits is (sofar.content h);
-      fits = λ h.
-          let can = c.requires (sofar.accounts.was_honest h) in
-          let small : patch.from + length patch.bytes ≤ entry.length = next_small (pairs_of entry.patches) entry.length c.loop-patch.patch-index patch.from patch.bytes text can.formed can.fits is in
-          omega (arith, small, can.small);
+      can = λ h. subst (λ (f : List ℕ → FileState). CanPatch c.args.entry.now (f name).content) (sym (c.length.ensures.looks h).same) (c.requires (back h));
+      before = λ h. c.in_ok-before.ensures.value h ∙ sym (ap (λ (f : List ℕ → FileState). length (f name).content) (c.length.ensures.looks h).same);
     }
 
-pub returns-in_err-write_patch-clause-applies : goal.returns-in_err-write_patch-clause-applies
-returns-in_err-write_patch-clause-applies g c ended to takes =
-    let h = c.write_patch.ensures.accounts.was_honest ended in
-    let can = c.requires (c.loop-patch.invariant.accounts.was_honest h) in
-    let entry = c.args.entry.now in
-    let patch = c.patch-item.result in
-    let is = pair_at c.as_slice-patch-items.result.now entry.patches c.loop-patch.patch-index patch c.as_slice-patch-items.ensures c.loop-patch-test.true c.patch-item.is in
-    let le = next_within (pairs_of entry.patches) entry.length c.loop-patch.patch-index patch.from patch.bytes (g.D.Disk.files c.args.disk.now entry.name).content
-    (g.D.Disk.files c.loop-patch.disk entry.name).content can.formed can.fits is (c.loop-patch.invariant.content h) in
-    applies_write c.loop-patch.patch-index c.write_patch.result can.formed is le (g.met.D.Disk.content_is_image c.loop-patch.disk entry.name h) (c.loop-patch.invariant.applies h to takes)
-    (c.write_patch.ensures.effect ended) (c.write_patch.ensures.time ended)
-
-pub loop-patch-preserved : goal.loop-patch-preserved
-loop-patch-preserved g c =
-    let sofar = c.loop-patch.invariant in
-    let patches = pairs_of c.args.entry.now.patches in
-    let name = c.args.entry.now.name in
-    let mid = g.D.Disk.files c.loop-patch.disk in
-    let from = c.patch-item.result.from in
-    let bytes = c.patch-item.result.bytes in
-    let is = pair_at c.as_slice-patch-items.result.now c.args.entry.now.patches c.loop-patch.patch-index c.patch-item.result
-    c.as_slice-patch-items.ensures c.loop-patch-test.true c.patch-item.is in
-    let back = c.write_patch.ensures.accounts.was_honest in
-    record {
-      accounts = accounts_then sofar.accounts (accounts_ok c.in_ok-write_patch.ensures.accounts);
-      content = λ ended.
-          let done = (c.in_ok-write_patch.ensures.effect ended).ok in
-          ap (λ (f : FileState). f.content) done
-          ∙ ap (λ (t : List ℕ). (write from bytes (record (mid name) { content = t })).content) (sofar.content (back ended))
-          ∙ sym (patched_each-more patches c.loop-patch.patch-index from bytes (g.D.Disk.files c.args.disk.now name).content is);
-      alone = λ ended. alone_more (sofar.alone (back ended)) (c.write_patch.ensures.effect ended) (c.write_patch.ensures.time ended);
-      applies = λ ended to takes.
-          let can = c.requires (sofar.accounts.was_honest (back ended)) in
-          let le = next_within patches c.args.entry.now.length c.loop-patch.patch-index from bytes (g.D.Disk.files c.args.disk.now name).content
-          (mid name).content can.formed can.fits is (sofar.content (back ended)) in
-          applies_write c.loop-patch.patch-index c.write_patch.result can.formed is le (g.met.D.Disk.content_is_image c.loop-patch.disk name (back ended)) (sofar.applies (back ended) to takes)
-          (c.write_patch.ensures.effect ended) (c.write_patch.ensures.time ended);
-    }
-
-pub returns-in_err-length-clause-applies : goal.returns-in_err-length-clause-applies
-returns-in_err-length-clause-applies g c ended to takes =
+pub returns-in_err-before-clause-applies : goal.returns-in_err-before-clause-applies
+returns-in_err-before-clause-applies g c ended to takes =
     let looks = c.length.ensures.looks ended in
-    applies_read (c.loop-patch.invariant.applies (c.length.ensures.accounts.was_honest ended) to takes) looks.same looks.time
+    applies_read (applies_none (g.D.Disk.instant c.args.disk.now) (g.D.Disk.left_since c.args.disk.now) (g.D.Disk.files c.args.disk.now) takes) looks.same looks.time
 
-pub cut-requires : goal.cut-requires
-cut-requires g c honest =
-    let h = c.length.ensures.accounts.was_honest honest in
-    let name = c.args.entry.now.name in
-    let within : c.args.entry.now.length ≤ length (g.D.Disk.files c.loop-patch.disk name).content = omega (arith, c.in_ok-length.ensures.value honest) in
-    subst (λ (f : List ℕ → FileState). c.args.entry.now.length ≤ length (f name).content) (sym (c.length.ensures.looks honest).same) within
+pub returns-in_err-before-clause-alone : goal.returns-in_err-before-clause-alone
+returns-in_err-before-clause-alone g c ended = alone_looks g.D.Disk (λ other. other ≢ c.args.entry.now.name) c.args.disk.now c.length.new.self (c.length.ensures.looks ended)
 
--- .. and the file is cut
-cut_applies : (g : Over) (c : After-cut g) → g.D.Disk.honest c.cut.new.self → AppliesPatchesOver g.D.Disk c.args.entry.now c.args.disk.now c.cut.new.self
-cut_applies g c ended to takes =
-    let back = c.cut.ensures.accounts.was_honest ended in
-    let h = c.length.ensures.accounts.was_honest back in
-    let within : c.args.entry.now.length ≤ length (g.D.Disk.files c.loop-patch.disk c.args.entry.now.name).content = omega (arith, c.in_ok-length.ensures.value back) in
-    applies_cut c.cut.result (c.requires (c.loop-patch.invariant.accounts.was_honest h)).formed within (g.met.D.Disk.content_is_image c.length.new.self c.args.entry.now.name back) (c.loop-patch.invariant.applies h to takes)
-    (c.length.ensures.looks back).same (c.length.ensures.looks back).time (c.cut.ensures.effect ended) (c.cut.ensures.time ended)
+pub returns-in_err-before-clause-content : goal.returns-in_err-before-clause-content
+returns-in_err-before-clause-content g c = not_ok _ _ c.from_residual.ensures.0
 
-cut_alone : (g : Over) (c : After-cut g) → g.D.Disk.honest c.cut.new.self → LeavesAlone g.D.Disk (λ other. other ≢ c.args.entry.now.name) c.args.disk.now c.cut.new.self
-cut_alone g c ended =
-    let back = c.cut.ensures.accounts.was_honest ended in
-    alone_more (alone_looked (c.loop-patch.invariant.alone (c.length.ensures.accounts.was_honest back)) (c.length.ensures.looks back)) (c.cut.ensures.effect ended) (c.cut.ensures.time ended)
+pub returns-in_err-before-clause-accounts : goal.returns-in_err-before-clause-accounts
+returns-in_err-before-clause-accounts g c = accounts_failed c.from_residual.ensures.0 (accounts_call _ c.in_err-before.ensures.accounts)
 
-pub returns-in_err-cut-clause-applies : goal.returns-in_err-cut-clause-applies
-returns-in_err-cut-clause-applies g c = cut_applies g (goal.at.returns-in_err-cut-clause-applies g c).After-cut
+pub returns-clause-applies : goal.returns-clause-applies
+returns-clause-applies g c ended to takes =
+    let looks = c.length.ensures.looks (c.apply_patches.ensures.accounts.was_honest ended) in
+    applies_behind takes looks.same looks.time (λ still. c.apply_patches.ensures.applies ended to still)
 
-pub returns-in_ok-cut-clause-applies : goal.returns-in_ok-cut-clause-applies
-returns-in_ok-cut-clause-applies g c = cut_applies g (goal.at.returns-in_ok-cut-clause-applies g c).After-cut
+pub returns-clause-alone : goal.returns-clause-alone
+returns-clause-alone g c ended =
+    let These : List ℕ → Type 0 = λ other. other ≢ c.args.entry.now.name in
+    alone_then g.D.Disk These c.args.disk.now c.length.new.self c.apply_patches.new.disk
+    (alone_looks g.D.Disk These c.args.disk.now c.length.new.self (c.length.ensures.looks (c.apply_patches.ensures.accounts.was_honest ended))) (c.apply_patches.ensures.alone ended)
 
-pub returns-else-length-entry-clause-applies : goal.returns-else-length-entry-clause-applies
-returns-else-length-entry-clause-applies g c ended to takes =
-    let looks = c.length.ensures.looks ended in
-    applies_read (c.loop-patch.invariant.applies (c.length.ensures.accounts.was_honest ended) to takes) looks.same looks.time
-
-pub returns-in_err-write_patch-clause-alone : goal.returns-in_err-write_patch-clause-alone
-returns-in_err-write_patch-clause-alone g c ended =
-    alone_more (c.loop-patch.invariant.alone (c.write_patch.ensures.accounts.was_honest ended)) (c.write_patch.ensures.effect ended) (c.write_patch.ensures.time ended)
-
-pub returns-in_err-length-clause-alone : goal.returns-in_err-length-clause-alone
-returns-in_err-length-clause-alone g c ended = alone_looked (c.loop-patch.invariant.alone (c.length.ensures.accounts.was_honest ended)) (c.length.ensures.looks ended)
-
-pub returns-in_err-cut-clause-alone : goal.returns-in_err-cut-clause-alone
-returns-in_err-cut-clause-alone g c = cut_alone g (goal.at.returns-in_err-cut-clause-alone g c).After-cut
-
-pub returns-in_ok-cut-clause-alone : goal.returns-in_ok-cut-clause-alone
-returns-in_ok-cut-clause-alone g c = cut_alone g (goal.at.returns-in_ok-cut-clause-alone g c).After-cut
-
-pub returns-else-length-entry-clause-alone : goal.returns-else-length-entry-clause-alone
-returns-else-length-entry-clause-alone g c ended = alone_looked (c.loop-patch.invariant.alone (c.length.ensures.accounts.was_honest ended)) (c.length.ensures.looks ended)
-
-pub returns-in_err-write_patch-clause-accounts : goal.returns-in_err-write_patch-clause-accounts
-returns-in_err-write_patch-clause-accounts g c =
-    accounts_then c.loop-patch.invariant.accounts (accounts_failed c.from_residual.ensures.0 c.in_err-write_patch.ensures.accounts)
-
-pub returns-in_err-length-clause-accounts : goal.returns-in_err-length-clause-accounts
-returns-in_err-length-clause-accounts g c =
-    accounts_then c.loop-patch.invariant.accounts (accounts_failed c.from_residual-in_err-length.ensures.0 (accounts_call _ c.in_err-length.ensures.accounts))
-
-pub returns-in_err-cut-clause-accounts : goal.returns-in_err-cut-clause-accounts
-returns-in_err-cut-clause-accounts g c =
-    accounts_then c.loop-patch.invariant.accounts (accounts_then (accounts_call_ok c.in_ok-length.ensures.accounts) (accounts_failed c.from_residual-in_err-cut.ensures.0 (accounts_call _ c.in_err-cut.ensures.accounts)))
-
-pub returns-in_ok-cut-clause-accounts : goal.returns-in_ok-cut-clause-accounts
-returns-in_ok-cut-clause-accounts g c =
-    accounts_fine_test (accounts_then c.loop-patch.invariant.accounts (accounts_then (accounts_call_ok c.in_ok-length.ensures.accounts) (accounts_call_ok c.in_ok-cut.ensures.accounts)))
-
-pub returns-else-length-entry-clause-accounts : goal.returns-else-length-entry-clause-accounts
-returns-else-length-entry-clause-accounts g c =
-    accounts_fine_test (accounts_then c.loop-patch.invariant.accounts (accounts_call_ok c.in_ok-length.ensures.accounts))
-
-pub returns-in_err-write_patch-clause-content : goal.returns-in_err-write_patch-clause-content
-returns-in_err-write_patch-clause-content g c = not_ok _ _ c.from_residual.ensures.0
-
-pub returns-in_err-length-clause-content : goal.returns-in_err-length-clause-content
-returns-in_err-length-clause-content g c = not_ok _ _ c.from_residual-in_err-length.ensures.0
-
-pub returns-in_err-cut-clause-content : goal.returns-in_err-cut-clause-content
-returns-in_err-cut-clause-content g c = not_ok _ _ c.from_residual-in_err-cut.ensures.0
-
-pub returns-in_ok-cut-clause-content : goal.returns-in_ok-cut-clause-content
-returns-in_ok-cut-clause-content g c ended =
-    let sofar = c.loop-patch.invariant in
-    let h1 = c.cut.ensures.accounts.was_honest ended in
-    let name = c.args.entry.now.name in
-    let final = c.args.entry.now.length in
-    ap (λ (f : FileState). f.content) (c.in_ok-cut.ensures.effect ended).ok
-    ∙ ap (λ (f : List ℕ → FileState). take final (f name).content) (c.length.ensures.looks h1).same
-    ∙ all_applied c.as_slice-patch-items.result.now c.args.entry.now.patches c.loop-patch.patch-index final (g.D.Disk.files c.args.disk.now name).content
-    (g.D.Disk.files c.loop-patch.disk name).content c.as_slice-patch-items.ensures c.loop-patch-test.false (sofar.content (c.length.ensures.accounts.was_honest h1))
-
-pub returns-else-length-entry-clause-content : goal.returns-else-length-entry-clause-content
-returns-else-length-entry-clause-content g c ended =
-    let sofar = c.loop-patch.invariant in
-    let name = c.args.entry.now.name in
-    let final = c.args.entry.now.length in
-    let now = (g.D.Disk.files c.loop-patch.disk name).content in
-    let short : length now ≤ final = omega (arith, c.in_ok-length.ensures.value ended) in
-    ap (λ (f : List ℕ → FileState). (f name).content) (c.length.ensures.looks ended).same
-    ∙ sym (take_all final now short)
-    ∙ all_applied c.as_slice-patch-items.result.now c.args.entry.now.patches c.loop-patch.patch-index final (g.D.Disk.files c.args.disk.now name).content
-    now c.as_slice-patch-items.ensures c.loop-patch-test.false (sofar.content (c.length.ensures.accounts.was_honest ended))
+pub returns-clause-accounts : goal.returns-clause-accounts
+returns-clause-accounts g c = accounts_then (accounts_call_ok c.in_ok-before.ensures.accounts) c.apply_patches.ensures.accounts

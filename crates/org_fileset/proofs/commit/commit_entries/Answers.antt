@@ -4,9 +4,10 @@ use Rattle.org_journal.proofs.Accounted.{accounts_failed}
 use Rattle.org_fileset.proofs.OpenGate.{on_ok_never}
 use Rattle.org_fileset.proofs.Commits.{WritesRecord, open_writes, opened_writes, still_can}
 use Rattle.org_fileset.proofs.Tried.{applicable_tried, gate_tried, writes_tried, commits_failed, commits_unwritten, commits_written, commits_err, commits_tried}
+use Rattle.org_fileset.proofs.Again.{commits_again, writes_again}
 use Rattle.org_fileset.proofs.commit.commit_entries.Given.{Over}
 use Rattle.org_fileset.proofs.commit.commit_entries.Goals as goal
-use Rattle.org_fileset.proofs.commit.commit_entries.Goals.{In_ok-open_gate}
+use Rattle.org_fileset.proofs.commit.commit_entries.Goals.{In_ok-open_gate, In_ok-try_again}
 
 -- the gate is open over the record
 written : (g : Over) (c : In_ok-open_gate g) → g.D.Disk.honest c.open_gate.new.disk
@@ -23,6 +24,15 @@ written g c ended =
     (opened_writes d c.try_all.new.disk c.args.journal.now c.requires.journal entries (applicable_tried d entries disk c.try_all.new.disk same (c.requires.applicable honest))
     (gate_tried d entries disk c.try_all.new.disk same (c.requires.gate honest)) c.args.body.now c.requires.body c.arm.new.disk c.open_gate.new.disk (Ok tt)
     (c.arm.ensures.any_moment armed) (c.in_ok-arm.ensures.puts armed) (c.open_gate.ensures.put.any_moment ended) (c.in_ok-open_gate.ensures.put.puts ended))
+
+-- .. and behind it the files are as they were
+tried_again : (g : Over) (c : In_ok-try_again g) → (g.D.Disk.honest c.open_gate.new.disk → WritesRecord g.D.Disk c.args.entries.now c.args.disk.now c.open_gate.new.disk (Ok tt))
+    → g.D.Disk.honest c.try_again.new.disk → WritesRecord g.D.Disk c.args.entries.now c.args.disk.now c.try_again.new.disk (Ok tt)
+tried_again g c record_written ended =
+    let opened = c.try_again.ensures.accounts.was_honest ended in
+    let tried = c.arm.ensures.accounts.was_honest (c.open_gate.ensures.put.accounts.was_honest opened) in
+    let can = c.requires.applicable (c.try_all.ensures.accounts.was_honest tried) in
+    writes_again g.D.Disk c.args.entries.now c.args.disk.now c.open_gate.new.disk tt (record_written opened) can c.try_again.new.disk (c.in_ok-try_again.ensures.again ended).ok
 
 pub returns-in_err-try_all : goal.returns-in_err-try_all
 returns-in_err-try_all g c = record {
@@ -73,29 +83,59 @@ returns-in_err-open_gate g c = record {
       (accounts_failed c.from_residual-in_err-open_gate.ensures.0 c.in_err-open_gate.ensures.put.accounts));
 }
 
-pub replay-requires-clause-applicable : goal.replay-requires-clause-applicable
-replay-requires-clause-applicable g c ended =
+pub try_again-requires-clause-applicable : goal.try_again-requires-clause-applicable
+try_again-requires-clause-applicable g c ended =
     let tried = c.arm.ensures.accounts.was_honest (c.open_gate.ensures.put.accounts.was_honest ended) in
     let can = c.requires.applicable (c.try_all.ensures.accounts.was_honest tried) in
-    still_can c.args.entries.now (g.D.Disk.files c.args.disk.now) can (g.D.Disk.files c.open_gate.new.disk) (written g (goal.at.replay-requires-clause-applicable g c).In_ok-open_gate ended).others
+    still_can c.args.entries.now (g.D.Disk.files c.args.disk.now) can (g.D.Disk.files c.open_gate.new.disk) (written g (goal.at.try_again-requires-clause-applicable g c).In_ok-open_gate ended).others
+
+pub try_again-requires-clause-opened : goal.try_again-requires-clause-opened
+try_again-requires-clause-opened g c ended = (written g (goal.at.try_again-requires-clause-opened g c).In_ok-open_gate ended).opened
+
+pub returns-in_err-try_again : goal.returns-in_err-try_again
+returns-in_err-try_again g c = record {
+  commits = λ ended.
+      let opened = c.try_again.ensures.accounts.was_honest ended in
+      let tried = c.arm.ensures.accounts.was_honest (c.open_gate.ensures.put.accounts.was_honest opened) in
+      let honest = c.try_all.ensures.accounts.was_honest tried in
+      let disk = c.args.disk.now in
+      commits_again g.D.Disk c.args.entries.now disk c.open_gate.new.disk tt (written g (goal.at.returns-in_err-try_again g c).In_ok-open_gate opened) (c.requires.applicable honest)
+      (λ image left. g.met.D.Disk.only_now disk image honest left) c.try_again.new.disk c.try_again.result (c.try_again.ensures.again ended)
+      (λ n. g.met.D.Disk.content_is_image c.try_again.new.disk n ended) c.from_residual-in_err-try_again.result c.from_residual-in_err-try_again.ensures.0;
+  accounts = accounts_then (accounts_ok c.in_ok-try_all.ensures.accounts) (accounts_then (accounts_ok c.in_ok-arm.ensures.accounts)
+      (accounts_then (accounts_ok c.in_ok-open_gate.ensures.put.accounts) (accounts_failed c.from_residual-in_err-try_again.ensures.0 c.in_err-try_again.ensures.accounts)));
+}
+
+pub replay-requires-clause-applicable : goal.replay-requires-clause-applicable
+replay-requires-clause-applicable g c ended =
+    let opened = c.try_again.ensures.accounts.was_honest ended in
+    let tried = c.arm.ensures.accounts.was_honest (c.open_gate.ensures.put.accounts.was_honest opened) in
+    let can = c.requires.applicable (c.try_all.ensures.accounts.was_honest tried) in
+    let at = goal.at.replay-requires-clause-applicable g c in
+    still_can c.args.entries.now (g.D.Disk.files c.args.disk.now) can (g.D.Disk.files c.try_again.new.disk) (tried_again g at.In_ok-try_again (written g at.In_ok-open_gate) ended).others
 
 pub replay-requires-clause-opened : goal.replay-requires-clause-opened
-replay-requires-clause-opened g c ended = (written g (goal.at.replay-requires-clause-opened g c).In_ok-open_gate ended).opened
+replay-requires-clause-opened g c ended =
+    let at = goal.at.replay-requires-clause-opened g c in
+    (tried_again g at.In_ok-try_again (written g at.In_ok-open_gate) ended).opened
 
 pub returns-in_err-replay : goal.returns-in_err-replay
 returns-in_err-replay g c = record {
   commits = λ ended.
       let d = g.D.Disk in
-      let opened = c.replay.ensures.accounts.was_honest ended in
+      let again = c.replay.ensures.accounts.was_honest ended in
+      let opened = c.try_again.ensures.accounts.was_honest again in
       let tried = c.arm.ensures.accounts.was_honest (c.open_gate.ensures.put.accounts.was_honest opened) in
       let honest = c.try_all.ensures.accounts.was_honest tried in
       let disk = c.args.disk.now in
+      let at = goal.at.returns-in_err-replay g c in
       commits_err d c.args.entries.now disk (λ image left. g.met.D.Disk.only_now disk image honest left) c.replay.new.disk c.replay.result c.from_residual-in_err-replay.result
-      (commits_written d c.args.entries.now disk (λ image left. g.met.D.Disk.only_now disk image honest left) (c.requires.applicable honest) c.open_gate.new.disk c.replay.new.disk tt
-      (written g (goal.at.returns-in_err-replay g c).In_ok-open_gate opened) c.replay.result (c.replay.ensures.replays ended))
+      (commits_written d c.args.entries.now disk (λ image left. g.met.D.Disk.only_now disk image honest left) (c.requires.applicable honest) c.try_again.new.disk c.replay.new.disk tt
+      (tried_again g at.In_ok-try_again (written g at.In_ok-open_gate) again) c.replay.result (c.replay.ensures.replays ended))
       c.from_residual-in_err-replay.ensures.0;
   accounts = accounts_then (accounts_ok c.in_ok-try_all.ensures.accounts) (accounts_then (accounts_ok c.in_ok-arm.ensures.accounts)
-      (accounts_then (accounts_ok c.in_ok-open_gate.ensures.put.accounts) (accounts_failed c.from_residual-in_err-replay.ensures.0 c.in_err-replay.ensures.accounts)));
+      (accounts_then (accounts_ok c.in_ok-open_gate.ensures.put.accounts) (accounts_then (accounts_ok c.in_ok-try_again.ensures.accounts)
+      (accounts_failed c.from_residual-in_err-replay.ensures.0 c.in_err-replay.ensures.accounts))));
 }
 
 pub returns : goal.returns
@@ -103,14 +143,17 @@ returns g c = record {
   commits = λ ended.
       let d = g.D.Disk in
       let replayed = c.try_files.ensures.accounts.was_honest ended in
-      let opened = c.replay.ensures.accounts.was_honest replayed in
+      let again = c.replay.ensures.accounts.was_honest replayed in
+      let opened = c.try_again.ensures.accounts.was_honest again in
       let tried = c.arm.ensures.accounts.was_honest (c.open_gate.ensures.put.accounts.was_honest opened) in
       let honest = c.try_all.ensures.accounts.was_honest tried in
       let disk = c.args.disk.now in
+      let at = goal.at.returns g c in
       commits_tried d c.args.entries.now disk (λ image left. g.met.D.Disk.only_now disk image honest left) c.replay.new.disk c.try_files.new.disk tt c.try_files.result
-      (commits_written d c.args.entries.now disk (λ image left. g.met.D.Disk.only_now disk image honest left) (c.requires.applicable honest) c.open_gate.new.disk c.replay.new.disk tt
-      (written g (goal.at.returns g c).In_ok-open_gate opened) (Ok tt) (c.in_ok-replay.ensures.replays replayed))
+      (commits_written d c.args.entries.now disk (λ image left. g.met.D.Disk.only_now disk image honest left) (c.requires.applicable honest) c.try_again.new.disk c.replay.new.disk tt
+      (tried_again g at.In_ok-try_again (written g at.In_ok-open_gate) again) (Ok tt) (c.in_ok-replay.ensures.replays replayed))
       (c.try_files.ensures.tries ended) (λ n. g.met.D.Disk.content_is_image c.try_files.new.disk n ended);
   accounts = accounts_then (accounts_ok c.in_ok-try_all.ensures.accounts) (accounts_then (accounts_ok c.in_ok-arm.ensures.accounts)
-      (accounts_then (accounts_ok c.in_ok-open_gate.ensures.put.accounts) (accounts_then (accounts_ok c.in_ok-replay.ensures.accounts) c.try_files.ensures.accounts)));
+      (accounts_then (accounts_ok c.in_ok-open_gate.ensures.put.accounts) (accounts_then (accounts_ok c.in_ok-try_again.ensures.accounts)
+      (accounts_then (accounts_ok c.in_ok-replay.ensures.accounts) c.try_files.ensures.accounts))));
 }

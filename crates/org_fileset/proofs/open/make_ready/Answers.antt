@@ -6,10 +6,9 @@ use Rattle.org_fileset.specs.Recovery.{IsReopened}
 use Rattle.org_fileset.proofs.OpenGate.{on_ok_always}
 use Rattle.org_disk.specs.Names.{journal_name}
 use Rattle.org_fileset.specs.Writes.{IsUnconcerned}
-use Rattle.org_journal.proofs.Accounted.{accounts_after}
-use Rattle.org_fileset.proofs.Accounted.{accounts_opened}
+use Rattle.org_journal.proofs.Accounted.{accounts_after, accounts_passed}
 use Rattle.org_fileset.proofs.Sets.{passed_never}
-use Rattle.org_fileset.proofs.Sizes.{found_few, answer_found, answer_sized}
+use Rattle.org_fileset.proofs.Sizes.{recovered_few, answer_recovered, answer_sized}
 use Rattle.org_fileset.proofs.Starting.{since_start}
 use Rattle.org_fileset.proofs.Writes.{alone_looks, alone_then}
 use Rattle.org_fileset.proofs.Recovering.{as_before}
@@ -46,7 +45,7 @@ returns-clause-reopens g c ended =
 
 pub returns-in_err-recover-clause-accounts : goal.returns-in_err-recover-clause-accounts
 returns-in_err-recover-clause-accounts g c =
-    accounts_opened c.in_err-recover.field-0.0 c.from_residual.ensures.1 c.in_err-recover.ensures.accounts
+    accounts_passed c.from_residual.ensures.1 c.in_err-recover.ensures.accounts
 
 pub returns-clause-accounts : goal.returns-clause-accounts
 returns-clause-accounts g c = accounts_after c.in_ok-recover.ensures.accounts c.check_sizes.ensures.accounts
@@ -54,10 +53,13 @@ returns-clause-accounts g c = accounts_after c.in_ok-recover.ensures.accounts c.
 pub returns-in_err-recover-clause-answer : goal.returns-in_err-recover-clause-answer
 returns-in_err-recover-clause-answer g c ended =
     let files = g.D.Disk.files in
-    answer_found (contents (files c.args.disk.now)) (contents (files c.recover.new.disk)) c.args.names.now c.from_residual.result c.in_err-recover.field-0.0 c.from_residual.ensures.1 (λ bad. c.in_err-recover.ensures.bad bad ended)
+    answer_recovered (contents (files c.args.disk.now)) (contents (files c.recover.new.disk)) c.args.names.now c.from_residual.result c.in_err-recover.field-0.0 c.from_residual.ensures.1
+    c.in_err-recover.ensures.fault ended
 
 pub returns-in_err-recover-clause-not_too_many : goal.returns-in_err-recover-clause-not_too_many
-returns-in_err-recover-clause-not_too_many g c = found_few c.in_err-recover.field-0.0 c.from_residual.ensures.1
+returns-in_err-recover-clause-not_too_many g c =
+    let files = g.D.Disk.files in
+    recovered_few (g.D.Disk.honest c.recover.new.disk) (contents (files c.args.disk.now)) (contents (files c.recover.new.disk)) c.in_err-recover.field-0.0 c.from_residual.ensures.1 c.in_err-recover.ensures.fault
 
 pub returns-clause-answer : goal.returns-clause-answer
 returns-clause-answer g c ended =

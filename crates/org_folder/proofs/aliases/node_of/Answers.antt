@@ -20,3 +20,7 @@ returns-in-Some-clause-looks g c =
 pub returns-in_ok-insert-in-None-clause-looks : goal.returns-in_ok-insert-in-None-clause-looks
 returns-in_ok-insert-in-None-clause-looks g c =
     look_made c.args.name.now (g.S.System.history c.args.system.now) (g.S.System.history c.look.new.self) c.look.result c.look.ensures.there c.look.ensures.absent c.look.ensures.err
+
+pub returns-in-Some-2-clause-looks : goal.returns-in-Some-2-clause-looks
+returns-in-Some-2-clause-looks g c =
+    look_made c.args.name.now (g.S.System.history c.args.system.now) (g.S.System.history c.look.new.self) c.look.result c.look.ensures.there c.look.ensures.absent c.look.ensures.err

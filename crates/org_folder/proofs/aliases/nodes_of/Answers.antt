@@ -6,10 +6,10 @@ pub returns-in_err-node-clause-looks : goal.returns-in_err-node-clause-looks
 returns-in_err-node-clause-looks g c =
     looks_on (g.S.System.history c.args.system.now) (g.S.System.history c.loop-name.system) (g.S.System.history c.node_of.new.system) c.loop-name.invariant.2 c.node_of.ensures.looks
 
-pub returns-then-is_err-clause-looks : goal.returns-then-is_err-clause-looks
-returns-then-is_err-clause-looks g c =
-    looks_on (g.S.System.history c.args.system.now) (g.S.System.history c.loop-name.system) (g.S.System.history c.node_of.new.system) c.loop-name.invariant.2 c.node_of.ensures.looks
-
 pub loop-name-preserved : goal.loop-name-preserved
 loop-name-preserved g c =
     (search rules, c.node_of.ensures.absent, looks_on (g.S.System.history c.args.system.now) (g.S.System.history c.loop-name.system) (g.S.System.history c.node_of.new.system) c.loop-name.invariant.2 c.node_of.ensures.looks)
+
+pub returns-in_err-push-clause-looks : goal.returns-in_err-push-clause-looks
+returns-in_err-push-clause-looks g c =
+    looks_on (g.S.System.history c.args.system.now) (g.S.System.history c.loop-name.system) (g.S.System.history c.node_of.new.system) c.loop-name.invariant.2 c.node_of.ensures.looks

@@ -14,8 +14,22 @@ serve_synced-disk-requires-clause-group g c =
 pub over-disk-requires-clause-held : goal.over-disk-requires-clause-held
 over-disk-requires-clause-held g c = held_on _ _ c.in-Ok.ensures.locks refl
 
-pub returns-in-Ok-clause-runs : goal.returns-in-Ok-clause-runs
-returns-in-Ok-clause-runs g c =
+pub returns-then-forgets-clause-forgets : goal.returns-then-forgets-clause-forgets
+returns-then-forgets-clause-forgets g c is = (
+  record {
+    disk = c.over-disk.result;
+    locks = subst
+        (λ calls. LocksFirst (string_bytes c.in-Ok.arguments.folder) (Filled (string_bytes c.in-Ok.arguments.folder) ∷ g.S.System.history c.args.system) (g.S.System.history calls))
+        (sym c.over-disk.ensures.system) c.in-Ok.ensures.locks;
+    failures = c.over-disk.ensures.failures;
+    forgets = c.give_up-end.ensures;
+  },
+  refl,
+  refl,
+)
+
+pub returns-else-forgets-clause-runs : goal.returns-else-forgets-clause-runs
+returns-else-forgets-clause-runs g c other =
     record {
       end = c.serve_synced-disk.result.end;
       is_reported = c.reported.ensures;
@@ -25,6 +39,7 @@ returns-in-Ok-clause-runs g c =
             (λ calls. LocksFirst (string_bytes c.in-Ok.arguments.folder) (Filled (string_bytes c.in-Ok.arguments.folder) ∷ g.S.System.history c.args.system) (g.S.System.history calls))
             (sym c.over-disk.ensures.system) c.in-Ok.ensures.locks;
         failures = c.over-disk.ensures.failures;
+        adopting = c.over-disk.ensures.adopts ∙ c.adopts-adopts.ensures;
         setup = c.in-Ok.setup;
         is_set_up = subst
             (λ calls. IsSetUp c.in-Ok.arguments c.in-Ok.setup (Filled (string_bytes c.in-Ok.arguments.folder) ∷ g.S.System.history c.args.system) (g.S.System.history calls))

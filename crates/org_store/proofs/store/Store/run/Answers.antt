@@ -1,10 +1,11 @@
-use Rattle.std.proofs.Common.{◌≡◌, ◌∙◌, inl, false, Err, Result, refl, sym, subst, ap, rules}
+use Rattle.std.proofs.Common.{◌≡◌, ◌∙◌, ℕ, inl, false, Ok, Err, Result, refl, sym, subst, ap, rules}
 use Rattle.org_journal.specs.Recovered.{contents}
 use Rattle.org_commands.specs.declared.command.RunFault.{RunFault}
 use Rattle.org_commands.specs.declared.command.RunFault.TheVariants.{Broken}
 use Rattle.org_commands.specs.declared.command.Command.{Command}
 use Rattle.org_commands.specs.declared.command.Command.TheVariants.{Settle}
 use Rattle.org_commands.specs.declared.command.Reply.{Reply}
+use Rattle.org_commands.specs.declared.command.Reply.TheVariants.{Safe}
 use Rattle.org_commands.specs.InOrder.{texts_of}
 use Rattle.org_commands.specs.Kinds.{asking, changing, command_of}
 use Rattle.org_commands.specs.Outcome.{outcome}
@@ -44,6 +45,17 @@ returns-in_err-settle-in-Settle-clause-did g c = λ honest.
     subst (λ (command : Command). RunsOver d old command c.from_residual.result new) (ap command_of (sym c.in-Settle.is) ∙ c.kind.ensures)
     (subst (λ (answer : Result Reply RunFault). RunsOver d old Settle answer new)
     (ap (reply_of old.session.accepted) c.in_err-settle-in-Settle.was ∙ sym given) (settling_runs d old new c.settle.result (c.settle.ensures.did honest)))
+
+pub returns-in_ok-settle-in-Settle-clause-did : goal.returns-in_ok-settle-in-Settle-clause-did
+returns-in_ok-settle-in-Settle-clause-did g c = λ honest.
+    let d = g.D.Disk in
+    let old = c.args.self.now in
+    let new = c.settle.new.self in
+    let all : old.session.accepted ≡ c.self-in-Settle.inside.tally.acknowledged = search rules in
+    let answered : reply_of old.session.accepted c.settle.result ≡ Ok (Safe c.self-in-Settle.inside.tally.acknowledged) =
+    ap (reply_of old.session.accepted) c.in_ok-settle-in-Settle.was ∙ ap (λ (n : ℕ). Ok (Safe n)) all in
+    subst (λ (command : Command). RunsOver d old command (Ok (Safe c.self-in-Settle.inside.tally.acknowledged)) new) (ap command_of (sym c.in-Settle.is) ∙ c.kind.ensures)
+    (subst (λ (answer : Result Reply RunFault). RunsOver d old Settle answer new) answered (settling_runs d old new c.settle.result (c.settle.ensures.did honest)))
 
 pub returns-in-Change-clause-did : goal.returns-in-Change-clause-did
 returns-in-Change-clause-did g c =

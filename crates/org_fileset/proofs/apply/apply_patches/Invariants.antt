@@ -4,7 +4,7 @@ use Rattle.org_splice.specs.Patches.{patched_each}
 use Rattle.org_splice.specs.Texts.{pairs_of}
 use Rattle.org_fileset.specs.Replay.{AppliesPatchesOver}
 use Rattle.org_fileset.specs.Writes.{LeavesAlone}
-use Rattle.org_fileset.proofs.apply.apply_entry.Given as goal
+use Rattle.org_fileset.proofs.apply.apply_patches.Given as goal
 
 -- the patches so far are applied, and the rest will make the same of whatever a crash leaves
 abbrev pub invariant-loop-patch : goal.invariant-loop-patch

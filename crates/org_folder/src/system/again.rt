@@ -1,0 +1,30 @@
+//! Looks that are made again if a signal interrupts them.
+//!
+//! std repeats opens, reads, writes and syncs by itself, but not looks at a file or at the entries
+//! of a folder.
+use std::io;
+use std::io::ErrorKind;
+
+// A bound, so that a system that interrupts each look doesn't keep the program for ever.
+const MOST_REPEATS: u32 = 1_000_000;
+
+/// The first answer of the call other than that a signal interrupted it, or the last such one.
+pub(super) fn again<T: Drop, F: Fn() -> io::Result<T>>(call: F) -> io::Result<T>
+    requires { F.IsAlwaysCallable call }
+{
+    let mut answer = call();
+    for _ in 0..MOST_REPEATS {
+        if !is_interrupted(&answer) {
+            return answer;
+        }
+        answer = call();
+    }
+    answer
+}
+
+fn is_interrupted<T>(answer: &io::Result<T>) -> bool {
+    match answer {
+        Ok(_) => false,
+        Err(error) => error.kind() == ErrorKind::Interrupted,
+    }
+}
