@@ -7,13 +7,15 @@
 ;; KILLS_MODE says what: `look' shows the files; `work' refiles and archives at random
 ;; until Emacs is killed; `refile', `archive' and `three' are one step over two or three
 ;; files, at whose call KILLS_AT the program is killed; `trouble' is a step that can't be
-;; written, for the reason KILLS_TROUBLE, and a save behind it.
+;; written, for the reason KILLS_TROUBLE, and a save after it; `recover' answers KILLS_KEY
+;; to the question what is to become of a step that was cut short.
 
 ;;; Code:
 
 (require 'org)
 (require 'org-archive)
 (require 'org-refile)
+(require 'rmc)
 (require 'orgstore)
 
 (setq orgstore-directory (getenv "KILLS_NOTES")
@@ -124,6 +126,7 @@
   (let ((trouble (getenv "KILLS_TROUBLE")))
     (pcase trouble
       ("full" (write-region "full 1\n" nil (getenv "KILLS_PLAN") nil 'quiet))
+      ("quota" (write-region "" nil (getenv "QUOTA_WHILE") nil 'quiet))
       ("read-only" (set-file-modes (kills-file "b.org") #o444))
       ("writer"
        (write-region "* Box\nwritten by another\n" nil (kills-file "b.org") nil 'quiet)
@@ -138,9 +141,20 @@
         (error (message "%s" (error-message-string err)))))
     (kills-tell '("a.org" "b.org"))
     (read-from-minibuffer "")
+    (when (equal trouble "quota") (delete-file (getenv "QUOTA_WHILE")))
     (cl-letf (((symbol-function 'yes-or-no-p) #'always))
       (with-current-buffer "b.org" (save-buffer)))
     (kills-tell '("a.org" "b.org"))))
+
+(defun kills-recover ()
+  "Settle the step that was cut short, as KILLS_KEY says."
+  (orgstore--find-program)
+  (cl-letf (((symbol-function 'read-multiple-choice)
+             (lambda (_ choices &rest _)
+               (message "step")
+               (assq (aref (getenv "KILLS_KEY") 0) choices))))
+    (with-current-buffer (find-file-noselect (kills-file "a.org"))
+      (orgstore-recover))))
 
 (pcase (getenv "KILLS_MODE")
   ("look" (dolist (it (kills-files))
@@ -154,6 +168,7 @@
                          '("a.org" "a.org_archive")))
   ("three" (kills-step (lambda () (orgstore-as-step #'kills-three))
                        '("a.org" "b.org" "c.org")))
+  ("recover" (kills-recover))
   ("trouble" (kills-trouble)))
 
 ;;; emacs_kills.el ends here

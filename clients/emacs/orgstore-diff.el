@@ -7,7 +7,7 @@
 ;; at the position AT.  The edits of a file go from its end to its start, so that
 ;; each AT is a position in the old text.
 ;;
-;; The common ends of both texts are found by comparing halves, as fast as memory is
+;; The common ends of both texts are found by comparing pieces, as fast as memory is
 ;; compared.  Between them bytes that occur once in the new text part both in two.
 
 ;;; Code:
@@ -19,67 +19,76 @@ Four times as many, all escaped, are less than the program's limit of a line.")
 (defvar orgstore--most-edits 1000
   "How many edits a file may have before they are made one.")
 
-(defun orgstore--common (a b &optional back)
-  "Return the length of the longest common start of the strings A and B.
-With BACK, of their longest common end."
-  (let ((low 0) (high (min (length a) (length b))))
-    (while (< low high)
-      (let ((mid (/ (+ low high 1) 2)))
-        (if (if back
-                (string= (substring a (- (length a) mid) (- (length a) low))
-                         (substring b (- (length b) mid) (- (length b) low)))
-              (string= (substring a low mid) (substring b low mid)))
-            (setq low mid)
-          (setq high (1- mid)))))
-    low))
+(defun orgstore--common (a from to b start end &optional back)
+  "Return how many bytes two strings have in common at their start.
+These are the bytes of A between FROM and TO, and those of B between START and
+END.  With BACK, return it of their end."
+  (let ((most (min (- to from) (- end start))) (done 0) (size 65536))
+    (while (> size 0)
+      (let ((n (min size (- most done))))
+        (if (and (> n 0)
+                 (if back
+                     (string= (substring a (- to done n) (- to done))
+                              (substring b (- end done n) (- end done)))
+                   (string= (substring a (+ from done) (+ from done n))
+                            (substring b (+ start done) (+ start done n)))))
+            (setq done (+ done n))
+          (setq size (/ size 2)))))
+    done))
 
 (defun orgstore--trim (a b)
-  "Return (FRONT . BACK): how many bytes A and B have in common at their ends."
-  (let ((front (orgstore--common a b)))
-    (cons front (orgstore--common (substring a front) (substring b front) t))))
+  "Return (FRONT . BACK): how much A and B have in common at their ends."
+  (let ((front (orgstore--common a 0 (length a) b 0 (length b))))
+    (cons front
+          (orgstore--common a front (length a) b front (length b) t))))
 
-(defun orgstore--anchor (a b)
+(defun orgstore--anchor (a from to b start end)
   "Return (I . J) where bytes of A from I on are those of B from J on, or nil.
-These are bytes that occur once in B."
-  (seq-some (lambda (part)
-              (let* ((i (/ (* part (length a)) 8))
-                     (piece (substring a i (min (length a) (+ i 64))))
-                     (j (string-search piece b)))
-                (and j (not (string-search piece b (1+ j))) (cons i j))))
-            '(4 2 6 1 3 5 7)))
+I is between FROM and TO, J between START and END, and the bytes occur once
+between these."
+  (let ((b (substring b start end)))
+    (seq-some (lambda (part)
+                (let* ((i (+ from (/ (* part (- to from)) 8)))
+                       (piece (substring a i (min to (+ i 64))))
+                       (j (string-search piece b)))
+                  (and j (not (string-search piece b (1+ j)))
+                       (cons i (+ start j)))))
+              '(4 2 6 1 3 5 7))))
 
-(defun orgstore--hunks (a b at start coarse)
-  "Return how the text A becomes B: lists (FROM TO START END), rising.
-The bytes of A between FROM and TO are those of B between START and END.  AT and
-START are added to these; with COARSE there is one list at most."
-  (pcase-let* ((`(,front . ,back) (orgstore--trim a b))
-               (a (substring a front (- (length a) back)))
-               (b (substring b front (- (length b) back)))
-               (at (+ at front))
-               (start (+ start front))
-               (`(,i . ,j) (and (not coarse)
-                                (> (min (length a) (length b)) 300)
-                                (orgstore--anchor a b))))
+(defun orgstore--hunks (a from to b start end coarse)
+  "Return how bytes of A become bytes of B: lists (FROM TO START END), rising.
+The bytes of A between FROM and TO are those of B between START and END, in the
+arguments as in each list.  With COARSE there is one list at most."
+  (let* ((front (orgstore--common a from to b start end))
+         (from (+ from front))
+         (start (+ start front))
+         (back (orgstore--common a from to b start end t))
+         (to (- to back))
+         (end (- end back))
+         (split (and (not coarse)
+                     (> (min (- to from) (- end start)) 300)
+                     (orgstore--anchor a from to b start end))))
     (cond
-     ((and (equal a "") (equal b "")) nil)
-     (i (append (orgstore--hunks (substring a 0 i) (substring b 0 j)
-                                 at start nil)
-                (orgstore--hunks (substring a i) (substring b j)
-                                 (+ at i) (+ start j) nil)))
-     (t (list (list at (+ at (length a)) start (+ start (length b))))))))
+     ((and (= from to) (= start end)) nil)
+     (split (append
+             (orgstore--hunks a from (car split) b start (cdr split) nil)
+             (orgstore--hunks a (car split) to b (cdr split) end nil)))
+     (t (list (list from to start end))))))
 
-(defun orgstore--edits (old new &optional at)
-  "Return the edits that make the bytes NEW of OLD.
-AT, or 0, is the position of OLD in its file."
-  (let ((hunks (orgstore--hunks old new 0 0 nil)) edits)
+(defun orgstore--edits (old new)
+  "Return the edits that make the bytes NEW of OLD."
+  (let* ((find (lambda (coarse)
+                 (orgstore--hunks old 0 (length old) new 0 (length new) coarse)))
+         (hunks (funcall find nil))
+         edits)
     (when (> (length hunks) orgstore--most-edits)
-      (setq hunks (orgstore--hunks old new 0 0 t)))
+      (setq hunks (funcall find t)))
     (pcase-dolist (`(,from ,to ,start ,end) hunks)
       (let* ((pieces (1+ (/ (max (- to from) (- end start)) orgstore--piece)))
              (cut (lambda (from to i) (+ from (/ (* i (- to from)) pieces)))))
         (dotimes (i pieces)
           (let ((here (funcall cut from to i)))
-            (push (list (+ (or at 0) here)
+            (push (list here
                         (substring old here (funcall cut from to (1+ i)))
                         (substring new (funcall cut start end i)
                                    (funcall cut start end (1+ i))))
@@ -97,15 +106,14 @@ AT, or 0, is the position of OLD in its file."
                        (- (length new) (length old)))
                      edits)))
 
-(defun orgstore--patched (bytes edits &optional at)
-  "Return BYTES after EDITS, or nil where they don't fit.
-AT, or 0, is the position of BYTES in their file."
+(defun orgstore--patched (bytes edits)
+  "Return BYTES after EDITS, or nil where they don't fit."
   (with-temp-buffer
     (set-buffer-multibyte nil)
     (insert bytes)
     (and (seq-every-p
           (pcase-lambda (`(,from ,old ,new))
-            (let* ((from (- (1+ from) (or at 0))) (to (+ from (length old))))
+            (let* ((from (1+ from)) (to (+ from (length old))))
               (when (and (<= 1 from to (point-max))
                          (string= old (buffer-substring from to)))
                 (delete-region from to)

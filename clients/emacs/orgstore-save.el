@@ -9,9 +9,10 @@
 ;; hook sees what it sees in an ordinary save, and all files are on the disk before
 ;; the first function of `after-save-hook'.
 ;;
-;; What is written are the bytes that Emacs itself would write.  If it is known which
-;; part of a text changed since its file was read or written, and the file is UTF-8
-;; with plain line ends, that part alone is encoded and compared.
+;; What is written are the bytes that Emacs itself would write.  They are compared
+;; with all bytes that the file has at that moment.  Nothing is kept of a file from
+;; one save to the next: so a buffer that visits another file by now, a link that
+;; leads elsewhere, or a file that was put back can't be taken for what it was.
 
 ;;; Code:
 
@@ -19,138 +20,70 @@
 (require 'orgstore-program)
 (require 'orgstore-diff)
 
-;;;; Which part of a text changed
-
-(cl-defstruct (orgstore--watch (:constructor orgstore--watch-make)
-                               (:copier nil))
-  "What is known of the changes of BUFFER.
-SEEN is the tick of the last one that was seen.  FILE and STEP are spans (FRONT
-. BACK): how many characters at the beginning and at the end of the text are what
-they were when it was that of the file, and when the last step began; nil where
-that isn't known.  SIZE is what the file has in bytes, which by CODING are those
-of the text in Emacs."
-  buffer seen file step size coding)
-
-(defvar-local orgstore--watch nil "The watch of this buffer.")
-(put 'orgstore--watch 'permanent-local t)
-(put 'orgstore--before-change 'permanent-local-hook t)
-(put 'orgstore--after-change 'permanent-local-hook t)
+;;;; Which buffers a command changes
 
 (defvar orgstore--commands nil
-  "The commands that go on: their recursion depths, and what they changed.
-They are lists (DEPTH (BUFFER TICK . SIZE)..), by what BUFFER was before.")
+  "The commands that go on, the innermost first.
+They are lists (DEPTH STEP (BUFFER TICK . SIZE)..): the recursion depth; the
+step that is written when the command ends, nil where there is none, t while it
+ends; and what the command changed, by what BUFFER was before.")
 
 (defun orgstore--mark ()
   "Return a mark of this buffer, by which a change is seen: (BUFFER TICK . SIZE)."
   (cons (current-buffer) (cons (buffer-chars-modified-tick) (buffer-size))))
 
-(defun orgstore--watched-p ()
-  "Whether this base buffer is watched; a clone of it has the same variables."
-  (and orgstore--watch
-       (eq (orgstore--watch-buffer orgstore--watch) (current-buffer))))
-
-(defun orgstore--look ()
-  "Return the watch of this buffer, or nil.
-Where a change wasn't seen, its spans are forgotten."
-  (when (orgstore--watched-p)
-    (let ((tick (buffer-chars-modified-tick)))
-      (unless (eql (orgstore--watch-seen orgstore--watch) tick)
-        (setf (orgstore--watch-file orgstore--watch) nil
-              (orgstore--watch-step orgstore--watch) nil
-              (orgstore--watch-seen orgstore--watch) tick)))
-    orgstore--watch))
+(put 'orgstore--before-change 'permanent-local-hook t)
 
 (defun orgstore--before-change (&rest _)
   "Note this buffer as one that a command is to change.
-Look whether there was a change that wasn't seen.  This is the last of
-`before-change-functions'."
+This is the last of `before-change-functions'."
   (with-current-buffer (orgstore--base)
-    (when-let* (((orgstore--look))
-                (command (assq (recursion-depth) orgstore--commands)))
-      (unless (assq (current-buffer) (cdr command))
-        (push (orgstore--mark) (cdr command))))))
+    (when-let* ((command (assq (recursion-depth) orgstore--commands)))
+      (unless (assq (current-buffer) (cddr command))
+        (push (orgstore--mark) (cddr command))))))
 
-(defun orgstore--after-change (from to _)
-  "Note that the text between FROM and TO is new.
-This is the first of `after-change-functions'."
-  (with-current-buffer (orgstore--base)
-    (when (orgstore--watched-p)
-      (setf (orgstore--watch-seen orgstore--watch)
-            (buffer-chars-modified-tick))
-      (dolist (it (list (orgstore--watch-file orgstore--watch)
-                        (orgstore--watch-step orgstore--watch)))
-        (when it
-          (setcar it (min (car it) (1- from)))
-          (setcdr it (min (cdr it) (- (1+ (buffer-size)) to))))))))
-
-(defun orgstore--start-watch ()
-  "Watch this buffer, and return the watch."
-  (add-hook 'before-change-functions #'orgstore--before-change 100 t)
-  (add-hook 'after-change-functions #'orgstore--after-change -100 t)
-  (unless (orgstore--watched-p)
-    (setq orgstore--watch (orgstore--watch-make :buffer (current-buffer))))
-  (orgstore--look))
+(defun orgstore--watch ()
+  "Have the commands be noted that change this buffer."
+  (add-hook 'before-change-functions #'orgstore--before-change 100 t))
 
 (defun orgstore--end-watch (buffer)
-  "Remove the watch of BUFFER, with its hooks."
+  "Have the commands that change BUFFER be noted no more."
   (with-current-buffer buffer
-    (remove-hook 'before-change-functions #'orgstore--before-change t)
-    (remove-hook 'after-change-functions #'orgstore--after-change t)
-    (kill-local-variable 'orgstore--watch)))
-
-(defun orgstore--edges (span)
-  "Return (FROM . TO): between these positions this widened buffer changed.
-SPAN says so."
-  (cons (1+ (car span))
-        (- (point-max) (min (cdr span) (- (buffer-size) (car span))))))
-
-(defun orgstore--note-clean (size coding)
-  "Note that this buffer's text is its file's, of SIZE bytes, by CODING."
-  (let ((watch (orgstore--start-watch)))
-    (setf (orgstore--watch-size watch) size
-          (orgstore--watch-coding watch) coding
-          (orgstore--watch-file watch)
-          (and coding enable-multibyte-characters
-               (memq (coding-system-type coding) '(utf-8 undecided))
-               (eq (coding-system-eol-type coding) 0)
-               (null (coding-system-get coding :bom))
-               ;; Raw bytes are longer in Emacs.
-               (= size (1- (save-restriction
-                             (widen) (position-bytes (point-max)))))
-               (cons (buffer-size) (buffer-size))))))
-
-(defun orgstore--stamp (file)
-  "Return the size of FILE, and when it was written."
-  (let ((it (file-attributes (file-truename file))))
-    (cons (or (file-attribute-size it) 0)
-          (file-attribute-modification-time it))))
+    (remove-hook 'before-change-functions #'orgstore--before-change t)))
 
 (defun orgstore--note-visit ()
   "Watch this buffer, if its file is served."
-  (when (orgstore--place)
-    (orgstore--start-watch)
-    (when (and (not (buffer-modified-p)) (verify-visited-file-modtime))
-      (orgstore--note-clean (car (orgstore--stamp buffer-file-name))
-                            buffer-file-coding-system))))
+  (when (orgstore--place) (orgstore--watch)))
 
 ;;;; The bytes of a save
 
-(defun orgstore--part (text coding)
-  "Return the bytes of TEXT by CODING, or nil where these aren't its own."
-  (let ((bytes (encode-coding-string text 'utf-8-unix)))
-    (and (= (length bytes) (string-bytes text))
-         (or (= (length bytes) (length text))
-             (eq (coding-system-type coding) 'utf-8))
-         bytes)))
+(defun orgstore--stamp (file)
+  "Return what FILE is told from others by, its size first.
+These are its size, when it was written and changed, its inode and device."
+  (let ((it (file-attributes (file-truename file))))
+    (list (or (file-attribute-size it) 0)
+          (file-attribute-modification-time it)
+          (file-attribute-status-change-time it)
+          (file-attribute-inode-number it)
+          (file-attribute-device-number it))))
+
+(defun orgstore--plain-coding-p (coding)
+  "Whether by CODING Unicode's characters are the bytes that Emacs has for them."
+  (and (memq (coding-system-base coding) '(utf-8 undecided prefer-utf-8))
+       (eq (coding-system-eol-type coding) 0)))
 
 (defun orgstore--plain-write-p (coding)
-  "Whether a save of this buffer does nothing to its text but encode it.
-CODING is what it was read or written by."
-  (and (eq coding buffer-file-coding-system)
+  "Whether a save of this widened buffer does nothing to its text but encode it.
+CODING is that of the buffer."
+  (and enable-multibyte-characters
        (local-variable-p 'buffer-file-coding-system)
        (null (or coding-system-for-write save-buffer-coding-system))
        (null buffer-file-format)
        (null write-region-annotate-functions)
+       ;; Else Emacs chooses another one, and may ask.
+       (if (eq (coding-system-type coding) 'utf-8)
+           (null (unencodable-char-position (point-min) (point-max) coding))
+         (= (position-bytes (point-max)) (point-max)))
        (let ((auto (save-excursion
                      (goto-char (point-min))
                      (find-auto-coding buffer-file-name (buffer-size)))))
@@ -158,30 +91,20 @@ CODING is what it was read or written by."
              (eq (coding-system-base (car auto))
                  (coding-system-base coding))))))
 
-(defun orgstore--changed-bytes ()
-  "Return what is new in this buffer's file by a save, nil if it isn't known.
-The value is (AT NEW TAIL CODING): the bytes NEW take the place of all bytes of
-the file but the first AT and the last TAIL."
-  (when-let* ((watch (orgstore--look))
-              (span (orgstore--watch-file watch))
-              (coding (orgstore--watch-coding watch))
-              ((verify-visited-file-modtime))
-              ((= (orgstore--watch-size watch)
-                  (car (orgstore--stamp buffer-file-name)))))
-    (save-restriction
-      (widen)
-      (when-let* (((orgstore--plain-write-p coding))
-                  (edges (orgstore--edges span))
-                  (new (orgstore--part (buffer-substring-no-properties
-                                        (car edges) (cdr edges))
-                                       coding)))
-        (list (1- (position-bytes (car edges))) new
-              (- (position-bytes (point-max)) (position-bytes (cdr edges)))
-              coding)))))
+(defun orgstore--encode (text coding)
+  "Return the bytes of TEXT by CODING."
+  (if (or (= (length text) (string-bytes text))
+          (not (orgstore--plain-coding-p coding)))
+      (encode-coding-string text coding)
+    ;; In a tenth of the time.
+    (with-temp-buffer
+      (insert text)
+      (set-buffer-multibyte nil)
+      (buffer-string))))
 
-(defun orgstore--all-bytes ()
-  "Return what `orgstore--changed-bytes' does, for the whole text.
-Emacs itself writes it, to another file of the same name."
+(defun orgstore--bytes-by-emacs ()
+  "Return what `orgstore--text-bytes' does, by a write of Emacs's own.
+That is to another file of the same name."
   (let* ((dir (make-temp-file "orgstore-" t))
          (file (expand-file-name (file-name-nondirectory buffer-file-name) dir))
          (write-region-inhibit-fsync t)
@@ -191,8 +114,22 @@ Emacs itself writes it, to another file of the same name."
         (progn
           (write-region nil nil file nil 'quiet)
           (let ((coding last-coding-system-used))
-            (list 0 (orgstore--bytes file) 0 coding)))
+            (cons (orgstore--bytes file) coding)))
       (delete-directory dir t))))
+
+(defun orgstore--text-bytes ()
+  "Return (BYTES . CODING): what a save of this buffer writes, and by what."
+  (save-restriction
+    (widen)
+    (let ((coding buffer-file-coding-system))
+      (if (and coding
+               (orgstore--plain-coding-p coding)
+               (orgstore--plain-write-p coding))
+          (cons (orgstore--encode (buffer-substring-no-properties
+                                   (point-min) (point-max))
+                                  coding)
+                coding)
+        (orgstore--bytes-by-emacs)))))
 
 ;;;; Bonds
 
@@ -229,11 +166,12 @@ Emacs itself writes it, to another file of the same name."
 
 (cl-defstruct (orgstore--entry (:constructor orgstore--entry-make)
                                (:copier nil))
-  "What the save of a buffer writes: PLACE and FILE, AT, NEW and TAIL as in
-`orgstore--changed-bytes', the file's STAMP then, EDITS for it; LATER, those of
-them since the step began, or t for all, and EARLIER, those before; DONE once it
-is written."
-  place file at new tail stamp edits later earlier done)
+  "What the save of a buffer writes: the bytes NEW, to FILE, which is PLACE.
+STAMP is the file's then, BEGUN the bytes of the text when the step began, or
+nil where these were the file's.  EDITS make NEW of the file's bytes; EARLIER
+make BEGUN of these, and LATER make NEW of BEGUN.  DONE is set once it is
+written."
+  place file new stamp begun edits earlier later done)
 
 (cl-defstruct (orgstore--batch (:constructor orgstore--batch-make)
                                (:copier nil))
@@ -246,6 +184,9 @@ FAILED is the error that ended it, LATE one after the write."
 (defvar orgstore--batch nil "The batch that is being saved, or nil.")
 (defvar orgstore--saving nil "The buffer whose save was just begun, or nil.")
 (defvar orgstore--step nil "The step that goes on, or nil.")
+(defvar orgstore--by-emacs nil "Whether Emacs itself is to save served files.")
+
+(define-error 'orgstore-unable "The store" 'orgstore-error)
 
 (defvar orgstore--history nil
   "What was written, newest first: lists (TIME (FILE . EDITS)..).")
@@ -284,38 +225,32 @@ doubles text and never loses it."
         (setq rest (nthcdr 256 rest))))
     (orgstore--sorted (nreverse records) #'orgstore--entries-gain)))
 
+(defun orgstore--path (entry)
+  "Return the file that the program writes for ENTRY."
+  (pcase-let ((`(,root . ,name) (orgstore--entry-place entry)))
+    (concat root name)))
+
 (defun orgstore--find-edits (entry)
   "Set the edits of ENTRY, by what its file has now."
-  (let* ((file (orgstore--entry-file entry))
-         (at (orgstore--entry-at entry))
-         (stamp (orgstore--stamp file)))
+  (let ((path (orgstore--path entry)))
     ;; Other saves of the batch may have asked the user meanwhile.
-    (unless (equal stamp (orgstore--entry-stamp entry))
+    (unless (equal (orgstore--stamp path) (orgstore--entry-stamp entry))
       (orgstore--fail "Nothing is saved: %s changed on the disk meanwhile"
-                      (abbreviate-file-name file)))
-    (let* ((old (orgstore--bytes file at (- (car stamp)
-                                            (orgstore--entry-tail entry))))
+                      (abbreviate-file-name (orgstore--entry-file entry))))
+    (let* ((old (orgstore--bytes path))
            (new (orgstore--entry-new entry))
-           (later (orgstore--entry-later entry))
-           (begun (and (listp later)
-                       (orgstore--patched new (orgstore--reversed later) at))))
-      (setf (orgstore--entry-edits entry) (orgstore--edits old new at))
-      (if begun
-          (setf (orgstore--entry-earlier entry) (orgstore--edits old begun at))
-        (setf (orgstore--entry-later entry) (orgstore--entry-edits entry))))))
-
-(defun orgstore--entry-size (entry)
-  "Return the size of the file of ENTRY once that is written."
-  (+ (orgstore--entry-at entry) (length (orgstore--entry-new entry))
-     (orgstore--entry-tail entry)))
+           (begun (orgstore--entry-begun entry))
+           (edits (orgstore--edits old new)))
+      (setf (orgstore--entry-edits entry) edits
+            (orgstore--entry-earlier entry) (and begun
+                                                 (orgstore--edits old begun))
+            (orgstore--entry-later entry) (if begun (orgstore--edits begun new)
+                                            edits)))))
 
 (defun orgstore--there-p (entry)
   "Whether the file of ENTRY is as it is to be."
-  (let ((file (orgstore--entry-file entry))
-        (at (orgstore--entry-at entry))
-        (new (orgstore--entry-new entry)))
-    (and (= (car (orgstore--stamp file)) (orgstore--entry-size entry))
-         (string= (orgstore--bytes file at (+ at (length new))) new))))
+  (string= (orgstore--bytes (orgstore--path entry))
+           (orgstore--entry-new entry)))
 
 (defun orgstore--check-written (entries run)
   "Signal an error unless ENTRIES, of one folder, are on the disk after RUN.
@@ -327,10 +262,13 @@ files the store is opened once more."
     (cond
      (trouble (orgstore--fail "%s" trouble))
      ((not (seq-every-p #'orgstore--there-p entries))
-      (orgstore--fail "Nothing is saved (%s): %s"
-                      (mapconcat (lambda (it) (cdr (orgstore--entry-place it)))
-                                 entries ", ")
-                      (orgstore--reason run (car place)))))))
+      (signal (if (string-match-p "TooLarge" (cdr run)) 'orgstore-unable
+                'orgstore-error)
+              (list (format "Nothing is saved (%s): %s"
+                            (mapconcat (lambda (it)
+                                         (cdr (orgstore--entry-place it)))
+                                       entries ", ")
+                            (orgstore--reason run (car place)))))))))
 
 (defun orgstore--write-folder (entries)
   "Write ENTRIES, of one folder, by one record."
@@ -415,25 +353,71 @@ each folder is a step of its own, the one that gains text first"))
        (or (buffer-modified-p buffer)
            (not (file-exists-p (buffer-file-name buffer))))))
 
-(defun orgstore--save-together (buffers &optional texts)
-  "Save BUFFERS, and those that are bound to them, in one step.
-TEXTS are as in `orgstore--batch'."
-  (let* ((buffers (orgstore--bound (seq-filter #'orgstore--to-save-p buffers)))
-         (batch (orgstore--batch-make :queue buffers :texts texts))
+(defun orgstore--save-by-store (buffers texts)
+  "Save BUFFERS in one step; TEXTS are as in `orgstore--batch'."
+  (let* ((batch (orgstore--batch-make :queue buffers :texts texts))
          (max-lisp-eval-depth (+ max-lisp-eval-depth (* 40 (length buffers))))
          ;; Else each copy of a large text is a collection.
          (gc-cons-threshold (max gc-cons-threshold 100000000))
          (orgstore--step nil))
-    ;; The program would finish it before it takes a line; Emacs shall see that.
-    (dolist (it buffers)
-      (when-let* ((trouble (orgstore--finish (orgstore--place it))))
-        (orgstore--fail "%s" trouble)))
     (with-suppressed-warnings ((obsolete max-specpdl-size))
       (let ((max-specpdl-size (+ max-specpdl-size (* 60 (length buffers)))))
         (save-current-buffer (orgstore--save-next batch))))
     (when-let* ((err (or (orgstore--batch-failed batch)
                          (orgstore--batch-late batch))))
       (signal (car err) (cdr err)))))
+
+(defun orgstore--save-by-emacs (buffers err)
+  "Have Emacs itself save BUFFERS, if the user wants it.
+ERR says why the store can't."
+  (let ((names (mapconcat #'buffer-name buffers ", ")))
+    (unless (and (not noninteractive)
+                 (yes-or-no-p (format "%s.  Save %s as Emacs does? "
+                                      (cadr err) names)))
+      (signal (car err) (cdr err)))
+    (let ((orgstore--by-emacs t))
+      (dolist (it buffers)
+        (with-current-buffer it
+          (basic-save-buffer)
+          (unless (buffer-modified-p) (orgstore--unbond it)))))))
+
+(defun orgstore--settle (buffer)
+  "Take BUFFER for saved, if its file has changed, and has its text now.
+So it is after a step was cut short and then finished."
+  (with-current-buffer buffer
+    (when (and (buffer-modified-p)
+               (not (verify-visited-file-modtime))
+               (file-exists-p buffer-file-name)
+               (string= (orgstore--bytes buffer-file-name)
+                        (car (orgstore--text-bytes))))
+      (set-visited-file-modtime)
+      (set-buffer-modified-p nil)
+      (orgstore--unbond buffer))))
+
+(defun orgstore--settle-all (&rest _)
+  "Take each buffer for saved whose served file has changed, and has its text."
+  (dolist (it (buffer-list))
+    (when (and (buffer-file-name it) (buffer-modified-p it)
+               (orgstore--place it))
+      (orgstore--settle it))))
+
+(defun orgstore--save-together (buffers &optional texts)
+  "Save BUFFERS, and those that are bound to them, in one step.
+TEXTS are as in `orgstore--batch'.  Where the store can't, the user is asked
+whether Emacs is to save them, each by itself."
+  (let ((all (orgstore--bound (seq-filter #'orgstore--to-save-p buffers))))
+    ;; The program would finish it before it takes a line; Emacs shall see that.
+    (dolist (it all)
+      (when-let* ((trouble (orgstore--finish (orgstore--place it))))
+        (orgstore--fail "%s" trouble)))
+    (mapc #'orgstore--settle all)
+    (condition-case err
+        (when-let* ((these (seq-filter #'orgstore--to-save-p all)))
+          (condition-case why (orgstore--find-program)
+            (orgstore-error (signal 'orgstore-unable (cdr why))))
+          (orgstore--save-by-store these texts))
+      (orgstore-unable
+       (orgstore--save-by-emacs (seq-filter #'orgstore--to-save-p all) err)))))
 
 (defun orgstore--prepare-write ()
   "Do what a save does to the file before it is written.
@@ -454,55 +438,35 @@ Return the modes that the file is to have afterwards, or nil."
       (unless (or (null modes) (file-writable-p buffer-file-name))
         (set-file-modes buffer-file-name (logior modes 128))))))
 
-(defun orgstore--edits-since (text bytes)
-  "Return edits for what changed since this buffer's text was TEXT.
-BYTES are of `orgstore--changed-bytes'.  If it isn't known, return t."
-  (pcase-let ((`(,at ,new ,tail ,coding) bytes)
-              (watch (orgstore--look)))
-    (save-restriction
-      (widen)
-      (if-let* (((or (> at 0) (> tail 0)))
-                (span (and watch (orgstore--watch-step watch)))
-                (edges (orgstore--edges span))
-                (back (- (point-max) (cdr edges)))
-                (old (orgstore--part
-                      (substring text (1- (car edges)) (- (length text) back))
-                      coding)))
-          (orgstore--edits
-           old (orgstore--part (buffer-substring-no-properties
-                                (car edges) (cdr edges))
-                               coding)
-           (1- (position-bytes (car edges))))
-        (or (< 0 (+ at tail))
-            (orgstore--edits (encode-coding-string text coding) new))))))
-
-(defun orgstore--make-entry (batch place bytes)
+(defun orgstore--make-entry (batch place)
   "Return what the save of this buffer writes at PLACE, as a part of BATCH.
-BYTES are of `orgstore--changed-bytes'."
-  (pcase-let ((text (cdr (assq (current-buffer)
-                               (orgstore--batch-texts batch))))
-              (`(,at ,new ,tail ,_) bytes))
-    (orgstore--entry-make
-     :place place :file buffer-file-name :at at :new new :tail tail
-     :stamp (orgstore--stamp buffer-file-name)
-     :later (or (null text) (orgstore--edits-since text bytes)))))
+Its coding system comes behind it: (ENTRY . CODING)."
+  (pcase-let ((`(,bytes . ,coding) (orgstore--text-bytes))
+              (begun (alist-get (current-buffer) (orgstore--batch-texts batch)))
+              (entry (orgstore--entry-make :place place :file buffer-file-name)))
+    (setf (orgstore--entry-new entry) bytes
+          (orgstore--entry-begun entry) (and begun
+                                             (orgstore--encode begun coding))
+          (orgstore--entry-stamp entry) (orgstore--stamp
+                                         (orgstore--path entry)))
+    (cons entry coding)))
 
 (defun orgstore--write ()
   "Write this buffer's file by the store, where it is served.
 This is the last of `write-file-functions'.  Into a folder that isn't there yet
 Emacs writes it, which asks whether it is to be made."
-  (when-let* ((place (orgstore--place))
+  (when-let* (((not orgstore--by-emacs))
+              (place (orgstore--place))
               ((file-directory-p (car place))))
-    (let* ((batch (if (and orgstore--batch
-                           (eq orgstore--saving (current-buffer)))
-                      orgstore--batch
-                    (orgstore--batch-make)))
-           (orgstore--batch nil)
-           (orgstore--saving nil)
-           (modes (orgstore--prepare-write))
-           (tick (buffer-chars-modified-tick))
-           (bytes (or (orgstore--changed-bytes) (orgstore--all-bytes)))
-           (entry (orgstore--make-entry batch place bytes)))
+    (pcase-let* ((batch (if (and orgstore--batch
+                                 (eq orgstore--saving (current-buffer)))
+                            orgstore--batch
+                          (orgstore--batch-make)))
+                 (orgstore--batch nil)
+                 (orgstore--saving nil)
+                 (modes (orgstore--prepare-write))
+                 (tick (buffer-chars-modified-tick))
+                 (`(,entry . ,coding) (orgstore--make-entry batch place)))
       (unwind-protect
           (progn
             (push entry (orgstore--batch-entries batch))
@@ -514,21 +478,20 @@ Emacs writes it, which asks whether it is to be made."
                        (orgstore--batch-late batch)
                        '(orgstore-error "Nothing is saved"))))
           (signal (car err) (cdr err))))
-      (orgstore--written entry tick (nth 3 bytes))
+      (orgstore--written entry tick coding)
       t)))
 
 (defun orgstore--written (entry tick coding)
   "Note that the text of TICK of this buffer is on the disk, by CODING.
 ENTRY was written.  These are what `write-region' does for the buffer."
-  (let ((size (orgstore--entry-size entry)))
-    ;; Else another program wrote it too, which Emacs is to notice.
-    (when (= size (car (orgstore--stamp buffer-file-name)))
-      (set-visited-file-modtime))
-    (if (/= tick (buffer-chars-modified-tick))
-        (setf (orgstore--watch-file (orgstore--start-watch)) nil)
-      (set-buffer-modified-p nil)
-      (orgstore--note-clean size coding)
-      (orgstore--unbond (current-buffer))))
+  ;; Else another program wrote it too, which Emacs is to notice.
+  (when (= (length (orgstore--entry-new entry))
+           (car (orgstore--stamp buffer-file-name)))
+    (set-visited-file-modtime))
+  (orgstore--watch)
+  (when (= tick (buffer-chars-modified-tick))
+    (set-buffer-modified-p nil)
+    (orgstore--unbond (current-buffer)))
   (setq buffer-saved-size (buffer-size))
   (when buffer-file-coding-system-explicit
     (setcar buffer-file-coding-system-explicit coding))

@@ -124,6 +124,7 @@ All of your settings and hooks stay as they are.  New is:
   "Print how the folder DIR of `orgstore-directory' stands."
   (princ (format "Folder %s: %s\n" (abbreviate-file-name dir)
                  (cond ((orgstore--folder-problem dir))
+                       ((orgstore--journal-problem dir))
                        ((orgstore--gate-open-p dir)
                         "a step was cut short; M-x orgstore-recover")
                        (t "at rest")))))
@@ -142,6 +143,14 @@ All of your settings and hooks stay as they are.  New is:
                                  (mapconcat #'buffer-name others ", "))
                        ""))))))
 
+(defun orgstore--print-finished ()
+  "Print what was finished after a crash."
+  (when orgstore--finished
+    (princ "\nFinished after a crash:\n")
+    (pcase-dolist (`(,time . ,words) orgstore--finished)
+      (princ (format "  %s  %s\n" (format-time-string "%H:%M:%S" time)
+                     words)))))
+
 ;;;###autoload
 (defun orgstore-status ()
   "Show the program, the folders, what isn't saved, and what was."
@@ -152,6 +161,7 @@ All of your settings and hooks stay as they are.  New is:
     (if orgstore-directory (mapc #'orgstore--print-folder (ensure-list orgstore-directory))
       (princ "`orgstore-directory' isn't set: do M-x orgstore-setup\n"))
     (orgstore--print-buffers)
+    (orgstore--print-finished)
     (princ (format "\nThe last steps and saves, of which M-x \
 orgstore-undo-last takes back the first:\n"))
     (pcase-dolist (`(,time . ,files) orgstore--history)

@@ -9,7 +9,8 @@
 ;; then, so that none of them is saved without the others.
 ;;
 ;; A command that isn't called as a step, and changed several served buffers, is
-;; made one behind it.
+;; made one when it ends.  So is one in which Lisp calls commands that are steps, as
+;; in a loop of the user's own: these are part of its step, which waits meanwhile.
 
 ;;; Code:
 
@@ -17,6 +18,7 @@
 (require 'orgstore-save)
 
 (defvar org-capture-mode)
+(defvar orgstore-commands)
 (defvar org-log-note-how)
 (declare-function org-capture-get "org-capture" (prop &optional local))
 (declare-function org-agenda-redo "org-agenda" (&optional all))
@@ -32,8 +34,8 @@
 The MARKS are those of all buffers at its start, or t where what changed doesn't
 matter; TEXTS are of those that were modified then, DEPTH is its recursion depth.
 SAVES are buffers whose saving was put off, KILLS those to be killed at its end,
-MADE files that were made empty."
-  marks texts depth saves kills made)
+MADE files that were made empty, BOND what it bound while it waited."
+  marks texts depth saves kills made bond)
 
 (defun orgstore--marks ()
   "Return a mark for each buffer that visits a file."
@@ -74,10 +76,7 @@ What a capture that is open put into a buffer is part of the step."
     (pcase-dolist (`(,it . ,_) marks)
       (when (and (buffer-modified-p it) (orgstore--place it)
                  (not (orgstore--capture-open-p (list it))))
-        (with-current-buffer it
-          (push (cons it (orgstore--text)) texts)
-          (setf (orgstore--watch-step (orgstore--start-watch))
-                (cons (buffer-size) (buffer-size))))))
+        (push (cons it (with-current-buffer it (orgstore--text))) texts)))
     (orgstore--step-make :marks marks :texts texts :depth (recursion-depth))))
 
 (defun orgstore--renew (step)
@@ -172,11 +171,20 @@ Where a capture buffer is left open, that is written with the capture."
         (orgstore--abandon step)
       (orgstore--end step))))
 
+(defun orgstore--end-step (step end)
+  "Have the function END write what STEP changed, then kill its buffers."
+  (funcall end step)
+  (dolist (it (orgstore--step-kills step))
+    (when (and (buffer-live-p it) (not (buffer-modified-p it)))
+      (kill-buffer it)))
+  (orgstore--mark-command))
+
 (defun orgstore--call (end function args)
   "Call FUNCTION with ARGS as a step, at whose end the function END is called.
 Within another step it is part of that one."
   (if orgstore--step
       (apply function args)
+    (orgstore--flush)
     (let ((step (or orgstore--pending (orgstore--begin))) whole result)
       (setq orgstore--pending nil)
       (unwind-protect
@@ -184,13 +192,11 @@ Within another step it is part of that one."
             (let ((orgstore--step step))
               (setq result (apply function args)
                     whole t))
-            (funcall end step)
+            (orgstore--end-step step end)
             result)
-        (unless whole (orgstore--abandon step))
-        (dolist (it (orgstore--step-kills step))
-          (when (and (buffer-live-p it) (not (buffer-modified-p it)))
-            (kill-buffer it)))
-        (orgstore--mark-command)))))
+        (unless whole
+          (orgstore--abandon step)
+          (orgstore--mark-command))))))
 
 ;;;###autoload
 (defun orgstore-as-step (function &rest args)
@@ -202,6 +208,17 @@ without the others.
 
 Steps may be nested: then the outermost is the step."
   (orgstore--call #'orgstore--end function args))
+
+(defun orgstore--as-command (function &rest args)
+  "Call FUNCTION, which is one of `orgstore-commands', with ARGS as a step.
+Where another command calls it, it is part of a step that ends with this one."
+  (let ((caller (and (null orgstore--step) (orgstore--caller))))
+    (if (null caller)
+        (orgstore--call #'orgstore--end function args)
+      (unless (cadr caller) (setf (cadr caller) (orgstore--begin)))
+      (unwind-protect
+          (let ((orgstore--step (cadr caller))) (apply function args))
+        (orgstore--wait caller)))))
 
 (defun orgstore--as-capture (function &rest args)
   "Call FUNCTION, which is `org-capture', with ARGS as a step."
@@ -215,6 +232,47 @@ This is the first function of `org-capture-after-finalize-hook'."
         (orgstore--abandon orgstore--step)
       (orgstore--end orgstore--step))
     (orgstore--renew orgstore--step)))
+
+;;;; Steps that wait for the end of a command
+
+(defun orgstore--caller ()
+  "Return the current command, if commands called in it are parts of its step.
+One that is a step itself has no others in it.  What is done in an open capture
+is written with that."
+  (let ((command (assq (recursion-depth) orgstore--commands)))
+    (and command
+         (not (eq (cadr command) t))
+         (not (memq this-command orgstore-commands))
+         (not (bound-and-true-p org-capture-mode))
+         (null orgstore--pending)
+         command)))
+
+(defun orgstore--wait (command)
+  "Have what COMMAND changed until now wait for its end.
+If it is saved before, it is saved together.  A record has room for 256 files."
+  (let ((step (cadr command))
+        (these (mapcar #'car (cddr command))))
+    (dolist (it (orgstore--step-saves step))
+      (unless (memq it these) (push it these)))
+    ;; It grows with the command.
+    (setq orgstore--bonds (delq (orgstore--step-bond step) orgstore--bonds))
+    (setf (orgstore--step-bond step) these)
+    (when (cdr these) (push these orgstore--bonds))
+    (when (nthcdr 255 these) (orgstore--flush))))
+
+(defun orgstore--waiting ()
+  "Return the step that waits for the end of the current command, or nil."
+  (let ((step (cadr (assq (recursion-depth) orgstore--commands))))
+    (and (orgstore--step-p step) step)))
+
+(defun orgstore--flush ()
+  "Write the step that waits for the end of the current command.
+So what Lisp saves is on the disk at once."
+  (when-let* ((step (orgstore--waiting)))
+    (setf (cadr (assq (recursion-depth) orgstore--commands)) nil)
+    ;; Without the command it doesn't wait for a note.
+    (let (orgstore--commands) (orgstore--end-step step #'orgstore--end))
+    (orgstore--mark-command)))
 
 ;;;; Saves within a step
 
@@ -241,10 +299,12 @@ at a prompt of the step writes all that it changed by then."
   (let ((base (orgstore--base)))
     (cond
      ((or (eq base orgstore--saving)
+          orgstore--by-emacs
           (not (orgstore--place base))
           (not (orgstore--to-save-p base)))
       (apply save args))
      ((null orgstore--step)
+      (orgstore--flush)
       (orgstore--save-together (list base)))
      (t
       (unless (memq base (orgstore--step-saves orgstore--step))
@@ -259,6 +319,7 @@ at a prompt of the step writes all that it changed by then."
 Where the user quits, what he had saved by then is saved.  Buffers whose files
 changed on the disk, of which Emacs will ask, aren't part of the step."
   (if orgstore--step (apply save args)
+    (orgstore--flush)
     (let ((step (orgstore--step-make :marks t :depth (recursion-depth))))
       (unwind-protect
           (let ((orgstore--step step)) (apply save args))
@@ -271,7 +332,9 @@ changed on the disk, of which Emacs will ask, aren't part of the step."
 (defun orgstore--kill-query ()
   "Whether this buffer may be killed now: its save may have been put off.
 That is done even where Org takes it for unmodified, as one of an aborted
-capture."
+capture.  What waits for the end of a command is saved before."
+  (when (and (null orgstore--step) (orgstore--waiting) (buffer-modified-p))
+    (orgstore--flush))
   (not (and orgstore--step
             (memq (current-buffer) (orgstore--step-saves orgstore--step))
             (push (current-buffer) (orgstore--step-kills orgstore--step))
@@ -289,16 +352,18 @@ capture."
 (defun orgstore--mark-command ()
   "Forget what the command changed until now."
   (when-let* ((command (assq (recursion-depth) orgstore--commands)))
-    (setcdr command nil)))
+    (setcdr (cdr command) nil)))
 
 (defun orgstore--before-command ()
   "Note how things are before a command."
   (let ((depth (recursion-depth)))
     (unless orgstore--step (setq orgstore--pending nil))
+    ;; The one that goes on does others, as a keyboard macro.
+    (when (orgstore--waiting) (orgstore--reported #'orgstore--flush))
     ;; Commands that were quit are forgotten.
     (while (and orgstore--commands (>= (caar orgstore--commands) depth))
       (pop orgstore--commands))
-    (push (list depth) orgstore--commands)
+    (push (list depth nil) orgstore--commands)
     (setq orgstore--failed nil
           orgstore--kill (car kill-ring))))
 
@@ -340,29 +405,44 @@ They may have been undone too."
                                              (buffer-modified-p it)))
                            (mapcar #'get-file-buffer files))))))))
 
+(defun orgstore--reported (function &rest args)
+  "Call FUNCTION with ARGS, and return whether it did well.
+An error is told: it would take the function that calls this off its hook."
+  (condition-case err (progn (apply function args) t)
+    ((error quit) (message "%s" (error-message-string err)) nil)))
+
 (defun orgstore--together (buffers)
   "Save BUFFERS, which one command changed, or bind them where that fails."
   (if orgstore--failed (orgstore--bond buffers)
-    ;; An error would take the function off the hook.
-    (condition-case err (orgstore--save-quietly buffers)
-      ((error quit)
-       (orgstore--bond (seq-filter #'buffer-modified-p buffers))
-       (message "%s" (error-message-string err))))))
+    (unless (orgstore--reported #'orgstore--save-quietly buffers)
+      (orgstore--bond (seq-filter #'buffer-modified-p buffers)))))
+
+(defun orgstore--end-waiting (step buffers)
+  "Write STEP, which waited for the end of a command that changed BUFFERS."
+  (setf (orgstore--step-saves step)
+        (seq-union (orgstore--step-saves step) buffers #'eq))
+  (if orgstore--failed (orgstore--abandon step)
+    (orgstore--reported #'orgstore--end-step step #'orgstore--end)))
 
 (defun orgstore--after-command ()
-  "Make a step of a command that changed several served buffers."
-  (let ((command (assq (recursion-depth) orgstore--commands)) changed)
-    (setq orgstore--commands (delq command orgstore--commands))
+  "Make a step of a command that changed several served buffers.
+So is one in which commands of `orgstore-commands' were called."
+  (let* ((command (assq (recursion-depth) orgstore--commands))
+         (step (orgstore--waiting))
+         changed)
     (unless orgstore--step
-      (dolist (mark (cdr command))
+      (dolist (mark (cddr command))
         (when-let* ((growth (orgstore--growth (car mark) mark)))
           (push (cons (car mark) growth) changed))))
-    (pcase changed
-      ('nil nil)
-      (`((,buffer . ,growth))
+    (when command (setf (cadr command) t))
+    (pcase (cons step changed)
+      ('(nil) nil)
+      (`(nil (,buffer . ,growth))
        (orgstore--note-cut buffer growth)
        (orgstore--note-undo buffer))
-      (_ (orgstore--together (mapcar #'car changed))))))
+      (`(nil . ,_) (orgstore--together (mapcar #'car changed)))
+      (_ (orgstore--end-waiting step (mapcar #'car changed))))
+    (setq orgstore--commands (delq command orgstore--commands))))
 
 ;;;; Undo, by the edits of bytes that saves and steps wrote
 
@@ -397,6 +477,7 @@ They may have been undone too."
 Called again it takes back the one before.  In each buffer that is a change
 which `undo' takes back."
   (interactive)
+  (orgstore--flush)
   (let* ((step (or (car orgstore--history)
                    (user-error "There is no step to take back")))
          (texts (mapcar (lambda (it) (orgstore--undone (car it) (cdr it)))

@@ -21,6 +21,7 @@
 ;; - A save hands the difference between buffer and file to the program.
 ;; - A command on entries, as `org-refile', is a step: the saves within it are put
 ;;   off, and at its end all served buffers that it changed are saved together.
+;;   Where Lisp calls such commands in another one, this is the step.
 ;; - Buffers that belong together, since a step into them failed or text was cut
 ;;   in one and pasted into the other, are bound: none is saved without the others.
 ;;
@@ -35,14 +36,15 @@
 (autoload 'orgstore-setup "orgstore-setup" nil t)
 (autoload 'orgstore-status "orgstore-setup" nil t)
 (autoload 'orgstore-archive-done "orgstore-archive" nil t)
+(autoload 'orgstore-recover "orgstore-recover" nil t)
 
 ;;;; Commands that are steps
 
 (defun orgstore--advise-commands (commands on)
   "With ON make each of COMMANDS a step, else make it what it was."
   (dolist (it commands)
-    (if on (advice-add it :around #'orgstore-as-step)
-      (advice-remove it #'orgstore-as-step))))
+    (if on (advice-add it :around #'orgstore--as-command)
+      (advice-remove it #'orgstore--as-command))))
 
 (defcustom orgstore-commands
   '(org-todo org-todo-yesterday org-shiftright org-shiftleft
@@ -50,11 +52,13 @@
     org-priority-down org-set-tags-command org-toggle-archive-tag
     org-set-property org-delete-property org-delete-property-globally
     org-set-effort org-inc-effort org-clock-modify-effort-estimate
-    org-toggle-ordered-property org-schedule org-deadline org-add-note
+    org-toggle-ordered-property org-id-get-create org-schedule org-deadline org-add-note
     org-store-log-note org-refile org-refile-reverse org-refile-copy
     org-archive-subtree org-archive-to-archive-sibling org-archive-set-tag
     org-archive-subtree-default org-archive-subtree-default-with-confirmation
-    org-archive-all-done org-archive-all-old org-clock-in org-clock-in-last
+    org-archive-all-done org-archive-all-old org-attach org-attach-attach
+    org-attach-buffer org-attach-new org-attach-sync org-attach-delete-all
+    org-clock-in org-clock-in-last
     org-clock-out org-clock-cancel org-resolve-clocks org-capture-finalize
     org-capture-kill org-capture-refile org-columns-edit-value
     org-columns-next-allowed-value org-columns-previous-allowed-value
@@ -94,12 +98,15 @@
     (save-some-buffers :around orgstore--save-some)
     (find-file-noselect :before orgstore--before-read)
     (org-id-update-id-locations :before orgstore--before-ids)
+    (orgstore-recover :after orgstore--settle-all)
     (org-capture :around orgstore--as-capture))
   "The advice of `orgstore-global-mode' beside that of `orgstore-commands'.")
 
 (defconst orgstore--hooks
   '((write-file-functions orgstore--write 100)
+    (write-file-functions orgstore--guard-write 100)
     (find-file-hook orgstore--note-visit 100)
+    (find-file-hook orgstore--tell-place 100)
     (before-revert-hook orgstore--before-read -100)
     (after-revert-hook orgstore--note-visit 100)
     (kill-buffer-query-functions orgstore--kill-query 100)

@@ -141,13 +141,20 @@ second
   (search-forward text)
   (beginning-of-line))
 
+(defun ost-row-attachment ()
+  "Make a file that can be attached, and have it in a buffer."
+  (ost-write "here.txt" "HERE\n")
+  (find-file-noselect (ost-path "here.txt")))
+
 (defun ost-row-run (command place keys plist)
   "At PLACE type KEYS, which do COMMAND.
-Of PLIST, :first are keys typed before at :at, :let are settings, :runs is how
-often the program is run at most, and :unsaved says that more is typed behind it."
+Of PLIST, :before is a function that is called before, :first are keys typed
+then at :at, :let are settings, :runs is how often the program is run at most,
+and :unsaved says that more is typed behind it."
   (let ((all (append (plist-get plist :let) ost-row-settings)) runs)
     (cl-progv (mapcar #'car all) (mapcar (lambda (it) (cdr (assq (car it) all))) all)
       (ost-row-templates)
+      (when-let* ((before (plist-get plist :before))) (funcall before))
       (when-let* ((first (plist-get plist :first)))
         (ost-row-go (or (plist-get plist :at) place))
         (ost-keys first)
@@ -270,6 +277,17 @@ KEYS are typed at PLACE; see `ost-row-run' for these and for PLIST."
 (ost-row org-inc-effort ("a.org" "Pay") "C-c C-x E")
 (ost-row org-insert-drawer ("a.org" "Plain" "Some") "C-c C-x d Notes RET")
 (ost-row org-id-get-create ("a.org" "Second") "M-x org-id-get-create RET")
+(ost-row org-id-get-create/anew ("a.org" "Second") "C-u M-x org-id-get-create RET"
+  :first "M-x org-id-get-create RET")
+(ost-row org-attach ("a.org" "Second") "C-c C-a a here.txt RET" :before ost-row-attachment)
+(ost-row org-attach/moved ("a.org" "Second") "C-c C-a m here.txt RET" :before ost-row-attachment)
+(ost-row org-attach/agenda (agenda "Second") "C-c C-a a ../notes/here.txt RET" :before ost-row-attachment)
+(ost-row org-attach-attach ("b.org" "Ann") "M-x org-attach-attach RET here.txt RET" :before ost-row-attachment)
+(ost-row org-attach-buffer ("b.org" "Ann") "C-c C-a b here.txt RET" :before ost-row-attachment)
+(ost-row org-attach-new ("b.org" "Ann") "C-c C-a n new.txt RET")
+(ost-row org-attach-sync ("b.org" "Ann") "C-c C-a z" :first "C-c C-a b here.txt RET" :before ost-row-attachment)
+(ost-row org-attach-delete-all ("b.org" "Ann") "C-u M-x org-attach-delete-all RET"
+  :first "C-c C-a b here.txt RET" :before ost-row-attachment)
 (ost-row org-id-copy ("a.org" "Twin") "M-x org-id-copy RET")
 (ost-row org-columns-edit-value ("a.org" "Project") "C-c C-x C-c C-n e Renamed SPC RET q"
   :let ((org-columns-default-format . "%ITEM %Kind")))

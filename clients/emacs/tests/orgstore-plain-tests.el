@@ -75,6 +75,69 @@
   (let ((make-backup-files t) (version-control nil))
     (ost-open "a.org" "Two") (insert "x\n") (ost-cmd 1 (save-buffer)) (insert "y\n") (ost-cmd 1 (save-buffer))))
 
+;; What was in a buffer when it visited another file says nothing of this one.
+(defconst ost-lists '(("list.org" . "* TODO Call Ann\n* TODO Pay rent\n") ("monday.org" . "* TODO Buy milk\n* TODO Run 50km\n")))
+
+(ost-scenario write-file-over-one-of-its-size ost-lists
+  (ost-open "list.org") (goto-char (point-max)) (insert "* TODO Three\n")
+  (ost-cmd 1 (write-file (ost-path "monday.org"))))
+
+(ost-scenario write-file-unchanged-over-one-of-its-size ost-lists
+  (ost-open "list.org")
+  (ost-cmd 1 (write-file (ost-path "monday.org"))))
+
+(ost-scenario set-visited-to-one-of-its-size ost-lists
+  (ost-open "list.org") (set-visited-file-name (ost-path "monday.org") t) (goto-char (point-max)) (insert "* TODO Three\n")
+  (ost-cmd 1 (save-buffer)))
+
+(defun ost-point (link target)
+  "Have the link LINK of the served folder lead to TARGET there."
+  (make-symbolic-link (ost-path target) (ost-path link) t))
+
+(ost-scenario link-that-leads-elsewhere '(("11.org" . "* A\n* B\n") ("12.org" . "* December\n* B\n* C\n"))
+  (ost-point "current.org" "11.org")
+  (ost-open "current.org" "B") (insert "* Eleven\n")
+  (ost-cmd 1 (save-buffer))
+  (ost-point "current.org" "12.org") (revert-buffer t t)
+  (goto-char (point-max)) (insert "* Twelve\n")
+  (ost-cmd 1 (save-buffer))
+  (ost-open "current.org" "B") (ost-cmd 1 (org-todo "TODO"))
+  (should (equal (ost-disk "11.org") "* A\n* Eleven\n* B\n")))
+
+;; As one folder is copied, with its times, to where it is to be from now on.
+(ost-scenario folder-link-that-leads-elsewhere '(("old/a.org" . "* A\n* B\n") ("new/b.org" . "* X\n"))
+  (ost-point "now" "old")
+  (ost-open "now/a.org" "B") (ost-cmd 1 (org-todo "TODO"))
+  (copy-file (ost-path "old/a.org") (ost-path "new/a.org") t t)
+  (delete-file (ost-path "now"))
+  (ost-point "now" "new")
+  (ost-open "now/a.org") (goto-char (point-max)) (insert "* C\n")
+  (ost-cmd 1 (save-buffer))
+  (ost-cmd 1 (ost-refile "B" "now/b.org" "X"))
+  (should (equal (ost-disk "old/a.org") "* A\n* TODO B\n")))
+
+;; Such a file Emacs takes for the one that it read, and writes its own text.
+(ost-scenario file-put-back-with-its-time '(("a.org" . "* ABC\n* D\n"))
+  (let ((time (encode-time '(0 0 0 1 1 2026 nil nil nil))))
+    (set-file-times (ost-path "a.org") time)
+    (ost-open "a.org")
+    (ost-write "a.org" "* XYZ\n* D\n")
+    (set-file-times (ost-path "a.org") time)
+    (goto-char (point-max)) (insert "typed\n")
+    (ost-cmd 1 (save-buffer))))
+
+;; A hook of the user's that puts the text right, and calls it unmodified.
+(ost-scenario hook-of-a-visit '(("a.org" . "* ABC\n* D\n"))
+  (let ((find-file-hook
+         (cons (lambda ()
+                 (goto-char (point-min))
+                 (when (search-forward "ABC" nil t) (replace-match "XYZ"))
+                 (set-buffer-modified-p nil))
+               find-file-hook)))
+    (ost-open "a.org")
+    (goto-char (point-max)) (insert "typed\n")
+    (ost-cmd 1 (save-buffer))))
+
 ;;;; Refile, archive
 
 (ost-scenario refile ost-ab
@@ -329,6 +392,66 @@
   (let ((org-log-note-clock-out t) (org-clock-into-drawer "LB"))
     (ost-open "a.org" "One") (ost-cmd 1 (org-clock-in))
     (ost-open "a.org" "Two") (ost-cmd nil (org-clock-out) (ost-note "did it"))))
+
+;; A loop of the user's own: what it calls is part of the command's step.
+(defconst ost-hundred
+  `(("a.org" . ,(apply #'concat "#+TODO: TODO | DONE(d!)\n" (mapcar (lambda (i) (format "* TODO A%d\n" i)) (number-sequence 1 50))))
+    ("b.org" . ,(apply #'concat (mapcar (lambda (i) (format "* TODO B%d\n" i)) (number-sequence 1 50))))
+    ("c.org" . "* Box\n")))
+
+(defun ost-all-done ()
+  "Have all entries of a.org and b.org be done."
+  (interactive)
+  (dolist (name '("a.org" "b.org"))
+    (with-current-buffer (find-file-noselect (ost-path name))
+      (org-map-entries (lambda () (org-todo 'done))))))
+
+(defun ost-files-away ()
+  "Refile an entry of each of two files, archive another, and set a tag."
+  (interactive)
+  (ost-open "a.org") (ost-refile "A7" "c.org" "Box")
+  (ost-open "b.org") (ost-refile "B7" "c.org" "Box")
+  (ost-open "b.org" "B9") (org-archive-subtree)
+  (ost-open "c.org" "A7") (org-set-tags-command '(4)) (org-set-property "P" "v"))
+
+(ost-scenario loop-of-a-command ost-hundred
+  (ost-open "c.org")
+  (ost-cmd 1 (ost-keys "M-x ost-all-done RET")))
+
+(ost-scenario loop-over-files ost-hundred
+  (ost-open "c.org")
+  (ost-cmd 1 (ost-keys "M-x ost-files-away RET")))
+
+(ost-scenario loop-behind-typed-text ost-hundred
+  (ost-open "b.org") (goto-char (point-max)) (insert "typed\n")
+  (ost-cmd 1 (ost-files-away)))
+
+;; The log of a state comes behind the command, and is of the same step.
+(ost-scenario loop-with-a-log ost-hundred
+  (ost-open "a.org" "A3")
+  (ost-cmd 1 (org-set-property "P" "v") (org-todo "DONE")))
+
+;; What the loop saves or kills itself is on the disk then.
+(defconst ost-three '(("a.org" . "* TODO A1\n* TODO A2\n") ("b.org" . "* TODO B1\n* TODO B2\n") ("c.org" . "* Box\n")))
+
+(ost-scenario loop-that-saves ost-three
+  (ost-cmd 2
+    (dolist (name '("a.org" "b.org"))
+      (ost-open name) (ost-refile "2" "c.org" "Box")
+      (ost-open name "1") (org-todo "DONE") (save-buffer)
+      (should (string-prefix-p "* DONE" (ost-disk name)))
+      (unless ost-plain (should-not (ost-modified)))
+      (kill-buffer))))
+
+(ost-scenario loop-that-kills ost-three
+  (ost-cmd 2
+    (dolist (name '("a.org" "b.org"))
+      (ost-open name "1") (org-todo "DONE") (when ost-plain (save-buffer)) (kill-buffer))))
+
+;; More files than a record has room for.
+(ost-scenario loop-over-many-files
+    (mapcar (lambda (i) (cons (format "n%03d.org" i) (format "* One %d\n" i))) (number-sequence 1 300))
+  (ost-cmd 2 (dotimes (i 300) (ost-open (format "n%03d.org" (1+ i))) (org-todo "TODO"))))
 
 (ost-scenario map-entries ost-ab
   (ost-open "a.org")

@@ -61,7 +61,7 @@
   (ost-open "a.org" "A")
   (should (memq 'basic-save-buffer (ost-advised)))
   (should (memq 'org-refile (ost-advised)))
-  (should (memq 'orgstore--after-change (ost-hooked)))
+  (should (memq 'orgstore--before-change (ost-hooked)))
   (should (advice-function-member-p #'orgstore--command-error command-error-function))
   (orgstore-global-mode -1)
   (should-not (ost-advised))

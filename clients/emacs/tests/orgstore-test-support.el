@@ -146,7 +146,7 @@ echo \"$*\" >> '%slog'
 [ -e '%splan' ] || exec '%s' \"$@\"
 read -r how at < '%splan'
 [ \"${how%%!}\" != \"$how\" ] || rm '%splan'
-LD_PRELOAD='%s' STOPS_HOW=\"${how%%!}\" STOPS_AT=\"$at\" '%s' \"$@\"
+LD_PRELOAD='%s':\"$LD_PRELOAD\" STOPS_HOW=\"${how%%!}\" STOPS_AT=\"$at\" '%s' \"$@\"
 status=$?
 [ $status -ne 137 ] || { echo killed >> '%slog'; kill -9 $$; }
 exit $status
@@ -409,7 +409,8 @@ it that is done at each run."
   (declare (indent 2) (debug t))
   `(unless ost-plain
      (ert-deftest ,(intern (format "store/%s" name)) ()
-       (ost-run ,files (lambda () ,@body)))))
+       (let ((process-environment (copy-sequence process-environment)))
+         (ost-run ,files (lambda () ,@body))))))
 
 ;;;; The runner
 

@@ -148,6 +148,50 @@
   (setq orgstore-program (ost-program-file))
   (ost-cmd 1 (org-save-all-org-buffers)))
 
+;; What the store can't save Emacs can, if the user wants it.
+(defun ost-asked (answer function)
+  "Call FUNCTION, answer ANSWER to what is asked, and return the questions."
+  (let (noninteractive asked)
+    (cl-letf (((symbol-function 'yes-or-no-p) (lambda (prompt) (push prompt asked) answer)))
+      (funcall function))
+    asked))
+
+(ost-alone no-program-as-emacs ost-ab
+  (ost-open "a.org")
+  (let ((before (ost-tree ost-dir)) (orgstore-program "/nowhere/orgstore"))
+    (ost-asked nil (lambda () (should-error (ost-refile "One" "b.org" "There"))))
+    (should (equal before (ost-tree ost-dir)))
+    (should (= 2 (length (ost-modified))))
+    (let ((asked (ost-asked t (lambda () (with-current-buffer "a.org" (save-buffer))))))
+      (should (string-match-p "no program.*Save a.org, b.org as Emacs does\\?" (car asked)))
+      (should-not (cdr asked))))
+  (should-not (ost-modified))
+  (should-not orgstore--bonds)
+  (should-not (string-search "One" (ost-disk "a.org")))
+  (should (string-search "*** One" (ost-disk "b.org")))
+  (ost-open "a.org" "Two")
+  (ost-cmd 1 (org-todo "TODO")))
+
+;; While a step that was cut short isn't finished nothing is saved around the store.
+(ost-alone no-program-and-an-open-step '(("a.org" . "* OLD\n") ("b.org" . "* OLD\n"))
+  (ost-open "a.org") (goto-char (point-max)) (insert "typed\n")
+  (ost-tear)
+  (let ((torn (ost-tree ost-dir)) (orgstore-program "/nowhere/orgstore"))
+    (should-not (ost-asked t (lambda () (should-error (save-buffer)))))
+    (should (equal torn (ost-tree ost-dir))))
+  (set-buffer-modified-p nil))
+
+(ost-alone too-large-as-emacs (list (cons "a.org" (concat "* A\n" (apply #'concat (make-list 67109 (concat (make-string 999 ?x) "\n"))))) (cons "b.org" "* B\n"))
+  (let (large-file-warning-threshold)
+    (ost-open "a.org" "A")
+    (ost-asked nil (lambda () (should-error (org-todo "TODO"))))
+    (should (equal "* A\n" (substring (ost-disk "a.org") 0 4)))
+    (let ((asked (ost-asked t #'save-buffer)))
+      (should (string-match-p "64 MiB.*Save a.org as Emacs does\\?" (car asked))))
+    (should-not (ost-modified))
+    (should (equal "* TODO A\nx" (substring (ost-disk "a.org") 0 10)))
+    (ost-open "b.org") (ost-cmd 1 (org-todo "TODO"))))
+
 (ost-alone changed-outside ost-ab
   (ost-open "b.org") (ost-open "a.org")
   (ost-write "b.org" "* Target\n** There\n* Other\n") (set-file-times (ost-path "b.org") (encode-time '(0 0 0 1 1 2027 nil nil nil)))
@@ -233,6 +277,39 @@
                           "edit\ta.org\t2\tOLD\tNEW\nedit\tb.org\t2\tOLD\tNEW\nsettle\n"))
     (should (equal "* OLD\n" (ost-disk "b.org")))))
 
+;; Where a step is finished after its save failed, its buffers are those of the files.
+(dolist (how '(by-recover by-visit))
+  (unless ost-plain
+    (ert-set-test
+     (intern (format "store/finished-%s" how))
+     (make-ert-test
+      :name (intern (format "store/finished-%s" how))
+      :body (lambda ()
+              (ost-run ost-ab
+                       (lambda ()
+                         (let ((at 0))
+                           (while (not (orgstore--gate-open-p ost-dir))
+                             (when (> (cl-incf at) 200) (error "Never open"))
+                             (ost-close)
+                             (pcase-dolist (`(,name . ,text) ost-ab) (ost-write name text))
+                             (ost-open "a.org") (ost-plan "kill" at)
+                             (cl-letf (((symbol-function 'orgstore--finish)
+                                        (lambda (_) (and (orgstore--gate-open-p ost-dir) "It isn't finished"))))
+                               (ignore-errors (ost-refile "One" "b.org" "There")))))
+                         (should (= 2 (length (ost-modified))))
+                         (pcase how
+                           ('by-recover
+                            (set-buffer "a.org")
+                            (require 'orgstore-recover nil t)
+                            (cl-letf (((symbol-function 'orgstore--ask) (lambda (_) ?f))) (orgstore-recover))
+                            (should-not (ost-modified)))
+                           ('by-visit (orgstore--before-read (ost-path "b.org"))))
+                         (should (string-search "*** One" (ost-disk "b.org")))
+                         (let ((after (ost-tree ost-dir)))
+                           (should-not (ost-asked nil (lambda () (ost-cmd 0 (with-current-buffer "a.org" (save-buffer))))))
+                           (should-not orgstore--bonds)
+                           (should (equal after (ost-tree ost-dir)))))))))))
+
 ;; Whatever reads a file of the folder finds the step done.
 (pcase-dolist (`(,name . ,reads)
                '((revert . (lambda () (with-current-buffer "a.org" (revert-buffer t t))))
@@ -252,8 +329,9 @@
                        (lambda ()
                          (ost-open "a.org")
                          (ost-tear)
-                         ;; Files of one moment and one size look the same to Emacs.
-                         (set-file-times (ost-path "a.org") (encode-time '(0 0 0 1 1 2027 nil nil nil)))
+                         ;; Files of one moment and one size look the same to Emacs; one that was
+                         ;; written long after the journal isn't the store's.
+                         (set-file-times (ost-path "a.org") (encode-time '(0 0 0 1 1 2026 nil nil nil)))
                          (funcall reads)
                          (should-not (orgstore--gate-open-p ost-dir))
                          (should (equal "* NEW\n" (ost-disk "b.org")))
@@ -317,7 +395,7 @@
   (with-current-buffer "a.org" (erase-buffer) (insert "* B\n") (ost-cmd 1 (save-buffer)))
   (should (equal "* B\n" (ost-disk "a.org"))))
 
-;;;; What a save takes for changed
+;;;; What a save writes
 
 (defun ost-scramble ()
   "Change the current buffer in some way."
@@ -339,48 +417,63 @@
       (11 (with-current-buffer (make-indirect-buffer (current-buffer) "ost-indirect" (= 0 (random 2)))
             (goto-char from) (insert word) (kill-buffer))))))
 
-;; Which part of a text a save hands over is found by hooks: after each change the
-;; file has to get the bytes that an ordinary save would write.
-(ost-alone changed-bytes `(("a.org" . ,(apply #'concat (make-list 30 "* Head ü\ntext ☃ x\n"))))
+;; Most texts are in Emacs the bytes of their files already, and aren't encoded once
+;; more: after each change these have to be the bytes that Emacs itself would write.
+(ost-alone text-bytes `(("a.org" . ,(apply #'concat (make-list 30 "* Head ü\ntext ☃ x\n"))))
   (random "seed")
   (ost-open "a.org")
   (buffer-enable-undo)
-  (let ((known 0))
-    (dotimes (_ 400)
+  (setq-local require-final-newline nil)
+  (let ((encode (symbol-function 'orgstore--bytes-by-emacs)) (n 0))
+    (dotimes (_ 200)
       (dotimes (_ (1+ (random 4))) (ost-scramble))
-      (let ((old (ost-disk "a.org"))
-            (all (nth 1 (orgstore--all-bytes))))
-        (when (< (buffer-size) 200) (insert (make-string 300 ?x)) (setq all (nth 1 (orgstore--all-bytes))))
-        (pcase (orgstore--changed-bytes)
-          (`(,at ,new ,tail ,_)
-           (setq known (1+ known))
-           (should (equal all (concat (substring old 0 at) new
-                                      (substring old (- (length old) tail)))))))
+      (let ((all (funcall encode)))
+        (cl-letf (((symbol-function 'orgstore--bytes-by-emacs) (lambda () (setq n (1+ n)) (funcall encode))))
+          (should (equal all (orgstore--text-bytes))))
         (when (= 0 (random 3))
-          (if (= 0 (random 5)) (revert-buffer t t)
-            (write-region all nil (ost-path "a.org") nil 'quiet)
-            (set-visited-file-modtime)
-            (set-buffer-modified-p nil)
-            (orgstore--note-clean (length all) buffer-file-coding-system)))))
-    ;; Most changes are seen.
-    (should (> known 100))))
+          (ost-cmd nil (save-buffer))
+          (should (equal (car all) (ost-disk "a.org"))))))
+    (should (= 0 n))))
 
-;; These texts are written as a whole: some of their bytes aren't those in Emacs.
+;; These texts Emacs itself encodes: some of their bytes aren't those that it has.
 (ost-alone not-one-to-one
     '(("crlf.org" . "* A\r\nx\r\n") ("latin.org" . "# -*- coding: latin-1 -*-\n* B\374ro\n")
       ("bom.org" . "\357\273\277* A\nx\n") ("raw.org" . "* A\n\377 \303\274\nx\n")
       ("cookie.org" . "* A\nx\n"))
-  (dolist (name '("crlf.org" "latin.org" "bom.org" "raw.org"))
-    (ost-open name)
-    (insert "* New\n")
-    (should-not (orgstore--changed-bytes))
-    (set-buffer-modified-p nil)
-    (kill-buffer))
+  (let* ((encode (symbol-function 'orgstore--bytes-by-emacs)) (n 0))
+    (cl-letf (((symbol-function 'orgstore--bytes-by-emacs) (lambda () (setq n (1+ n)) (funcall encode))))
+      (dolist (name '("crlf.org" "latin.org" "bom.org" "raw.org"))
+        (ost-open name)
+        (insert "* New\n")
+        (ost-cmd 1 (save-buffer))))
+    (should (= 4 n)))
   (ost-open "cookie.org")
   (insert "# -*- coding: latin-1 -*-\n* Bü\n")
-  (should-not (orgstore--changed-bytes))
   (ost-cmd 1 (save-buffer))
   (should (string-prefix-p "# -*- coding: latin-1 -*-\n* B\374\n" (ost-disk "cookie.org"))))
+
+;; Text that isn't saved yet, far from what a command changes, doesn't make it slow.
+(ost-alone far-unsaved-text
+    (list (cons "a.org" (apply #'concat "* One\n"
+                               (mapcar (lambda (i) (format "* A heading, übung %d\nwith a body of some length\n" i))
+                                       (number-sequence 1 150000)))))
+  (let* ((took (lambda (state)
+                 (ost-open "a.org" "One")
+                 (garbage-collect)
+                 (let ((start (float-time (get-internal-run-time))))
+                   (ost-cmd 1 (org-todo state))
+                   (- (float-time (get-internal-run-time)) start))))
+         (near (min (funcall took "TODO") (funcall took "DONE"))))
+    (ost-open "a.org")
+    (goto-char (point-max))
+    (insert "* Typed\n")
+    (let ((far (funcall took "TODO"))) (should (< far (* 5 near))))
+    (should (string-prefix-p "* TODO One\n* A h" (ost-disk "a.org")))
+    (should (string-suffix-p "length\n* Typed\n" (ost-disk "a.org")))
+    ;; That text was there before.
+    (orgstore-undo-last)
+    (should (string-prefix-p "* DONE One\n* A h" (ost-disk "a.org")))
+    (should (string-suffix-p "length\n* Typed\n" (ost-disk "a.org")))))
 
 ;;;; Notes, prompts and captures
 
@@ -463,6 +556,68 @@
     (should (= 2 (length (ost-modified))))
     (ost-cmd 1 (save-buffer))
     (should (equal before (ost-tree ost-dir)))))
+
+;;;; Commands that call others
+
+(defun ost-two-states ()
+  "Have an entry of each file be one to do, and fail."
+  (interactive)
+  (ost-open "a.org" "One") (org-todo "TODO")
+  (ost-open "b.org" "Last") (org-todo "TODO")
+  (error "Mine"))
+
+;; Where the loop ends in an error nothing is written, and no part of it without the others.
+(ost-alone failing-loop ost-ab
+  (let ((before (ost-tree ost-dir)))
+    (ost-open "a.org")
+    (orgstore--before-command)
+    (should-error (ost-two-states))
+    (orgstore--command-error)
+    (orgstore--after-command)
+    (should (equal before (ost-tree ost-dir)))
+    (should (= 2 (length (ost-modified))))
+    (ost-cmd 1 (with-current-buffer "a.org" (save-buffer)))
+    (should (string-search "TODO Last" (ost-disk "b.org")))
+    (orgstore-undo-last)
+    (should (equal before (ost-tree ost-dir)))))
+
+;; What can't be written at the end of a command is told, and written later.
+(ost-alone loop-on-a-full-disk ost-ab
+  (let ((before (ost-tree ost-dir)) told)
+    (ost-open "b.org" "Last") (ost-open "a.org" "One")
+    (ost-plan "full!" 1)
+    (cl-letf (((symbol-function 'message) (lambda (format &rest args) (push (apply #'format format args) told))))
+      (orgstore--before-command)
+      (org-todo "TODO") (ost-open "b.org" "Last") (org-todo "TODO")
+      (orgstore--after-command))
+    (should (seq-some (lambda (it) (string-match-p "Nothing is saved.*disk" it)) told))
+    (should (equal before (ost-tree ost-dir)))
+    (should (= 2 (length (ost-modified))))
+    (delete-file (ost-planned))
+    (ost-cmd nil (with-current-buffer "a.org" (save-buffer)))
+    (should-not (ost-modified))))
+
+;; `orgstore-as-step' has written its step when it returns, with what waits.
+(ost-alone as-step-in-a-loop ost-ab
+  (ost-open "a.org" "One")
+  (ost-cmd 2
+    (org-todo "TODO")
+    (should (ost-modified))
+    (orgstore-as-step (lambda () (ost-open "b.org" "Last") (org-todo "TODO")))
+    (should-not (ost-modified)))
+  (should (= 2 (length orgstore--history))))
+
+;; A file whose ID isn't saved would have its attachments nowhere.
+(ost-alone attach-is-a-step '(("a.org" . "* One\n"))
+  (ost-write "doc.txt" "DOC")
+  (let ((org-attach-method 'mv))
+    (ost-open "a.org" "One")
+    (ost-plan "kill" 4)
+    (should-error (org-attach-attach (ost-path "doc.txt")))
+    (should (equal "* One\n" (ost-disk "a.org")))
+    (ost-cmd nil (save-buffer))
+    (should (equal "* One                                                                :ATTACH:\n:PROPERTIES:\n:ID:       id-1\n:END:\n"
+                   (ost-disk "a.org")))))
 
 ;;;; The disk
 
