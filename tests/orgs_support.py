@@ -2,9 +2,12 @@
 
 A script calls `use(PROGRAM)` before all else.
 """
+import contextlib
 import os
+import shutil
 import subprocess
 import sys
+import tempfile
 
 import common
 
@@ -12,6 +15,7 @@ TOP = os.path.dirname(os.path.dirname(os.path.abspath(__file__)))
 ORGS = os.path.join(TOP, "clients", "shell", "orgs")
 PYTHON = [sys.executable, "-ISXutf8"]  # as the first line of `orgs` has it
 AT = ["--at", "2026-07-01 10:00"]
+NOBODY = 65534
 CLEAN = {name: value for name, value in os.environ.items() if not name.startswith("ORGSTORE_")}
 ENVIRONMENT = {**CLEAN, "LC_ALL": "C.UTF-8", "TERM": "dumb", "PYTHONDONTWRITEBYTECODE": "1"}
 
@@ -36,7 +40,7 @@ class Ended:
         self.status, self.out, self.err = status, out, err
 
     def __eq__(self, other):
-        return (self.status, self.out, self.err) == (other.status, other.out, other.err)
+        return isinstance(other, Ended) and (self.status, self.out, self.err) == (other.status, other.out, other.err)
 
     def __repr__(self):
         return "status %d, out %r, err %r" % (self.status, self.out, self.err)
@@ -48,6 +52,16 @@ def orgs(folder, *words, given=b"", more=None, cwd=None):
                            capture_output=True, timeout=120, env={**ENVIRONMENT, **(more or {})}, cwd=cwd)
     return Ended(ended.returncode, ended.stdout.decode("utf-8", "surrogateescape"),
                  ended.stderr.decode("utf-8", "surrogateescape"))
+
+
+def journal_of(gate, *files):
+    """A journal, by docs/FORMATS.md: of each file its name, its final length, and what is written from where on."""
+    record = len(files).to_bytes(4, "big")
+    for name, length, patches in files:
+        record += len(name).to_bytes(2, "big") + name.encode() + length.to_bytes(8, "big") + len(patches).to_bytes(4, "big")
+        for at, new in patches:
+            record += at.to_bytes(8, "big") + len(new).to_bytes(8, "big") + new.encode()
+    return bytes([gate]) + b"ORGJ\2\0\0" + len(record).to_bytes(8, "big") + record
 
 
 def said(text):
@@ -79,3 +93,32 @@ def row(room, words, before, after, says, given=b"", name=None):
         del left[text]
     room.judge(name or " ".join(words), (got, held(folder)), (wanted, left))
     return folder
+
+
+@contextlib.contextmanager
+def another_user(room):
+    """A way to run orgs as a user who isn't root, and that user's number; None where there is none."""
+    python = sys.executable if os.getuid() else "/usr/bin/python3"
+    if not os.path.exists(python):
+        print("skipped: there is no /usr/bin/python3, which others than root can run")
+        yield None, os.getuid()
+        return
+    # not in memory, where nothing may be run
+    prefix = tempfile.mkdtemp(prefix="orgstore-orgs.")
+    os.chmod(prefix, 0o755)
+    os.chmod(room.made.name, 0o755)
+    shutil.copytree(os.path.join(TOP, "clients", "python", "orgstore"), os.path.join(prefix, "lib/orgstore/orgstore"))
+    os.mkdir(os.path.join(prefix, "bin"))
+    shutil.copy(ORGS, os.path.join(prefix, "bin"))
+    shutil.copy(ENVIRONMENT["ORGSTORE_PROGRAM"], os.path.join(prefix, "bin", "orgstore"))
+    who = {"user": NOBODY, "group": NOBODY, "extra_groups": []} if os.getuid() == 0 else {}
+
+    def run(folder, *words, cwd="/"):
+        ended = subprocess.run([python, os.path.join(prefix, "bin/orgs"), *(["-C", folder] if folder else []), *words],
+                               capture_output=True, text=True, cwd=cwd, timeout=60, env={**CLEAN, "LC_ALL": "C.UTF-8"}, **who)
+        return Ended(ended.returncode, ended.stdout, ended.stderr)
+
+    try:
+        yield run, NOBODY if who else os.getuid()
+    finally:
+        shutil.rmtree(prefix)

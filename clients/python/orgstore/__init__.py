@@ -41,7 +41,9 @@ if TYPE_CHECKING:
     from .keywords import States
     from .kinds import Cause, Moment, Order, Path, Target, Text
     from .lines import Nth, titles
+    from .journal import Recovered
     from .process import program
+    from .recovery import Patch, Unfinished, UnfinishedFile, finish, forget, unfinished
     from .refused import (AlreadyArchive, BadEntry, BadLine, BadLocation, BadRepeat, BadTemplate, ClockBackwards,
                           DateRange, InsideItself, NoClock, NoSuchFile, NotFound, NotThere, NotUnique, OddPlanning,
                           TooLarge, UnknownState)
@@ -55,9 +57,9 @@ __all__ = [
     "CannotRead", "CannotWrite", "Capture", "CaptureTemplate", "Cause", "Changed", "ClockBackwards", "ClockIn",
     "ClockOut", "Closed", "Command", "Date", "DateRange", "Died", "Done", "Edit", "Error", "Fault", "Head", "Heading",
     "InsideItself", "Locked", "Misused", "Moment", "NoClock", "NoProgram", "NoSuchFile", "NotFound", "NotThere",
-    "NotUnique", "Nth", "OddPlanning", "Order", "Path", "Refile", "Refused", "States", "Store", "Target", "Text",
-    "TimedOut", "Todo", "TooLarge", "Top", "Under", "UnknownState", "headings", "lookup", "many", "program",
-    "titles",
+    "NotUnique", "Nth", "OddPlanning", "Order", "Patch", "Path", "Recovered", "Refile", "Refused", "States", "Store",
+    "Target", "Text", "TimedOut", "Todo", "TooLarge", "Top", "Under", "Unfinished", "UnfinishedFile", "UnknownState",
+    "finish", "forget", "headings", "lookup", "many", "program", "titles", "unfinished",
 ]
 
 # where each name is: a module is loaded when one of its names is asked for, since `orgs` needs few of them
@@ -67,10 +69,12 @@ _MODULES = {
     "errors": ("CannotOpen", "CannotRead", "CannotWrite", "Changed", "Closed", "Died", "Error", "Fault", "Locked",
                "Misused", "NoProgram", "Refused", "TimedOut"),
     "heading": ("Heading", "headings", "lookup"),
+    "journal": ("Recovered",),
     "keywords": ("States",),
     "kinds": ("Cause", "Moment", "Order", "Path", "Target", "Text"),
     "lines": ("Nth", "titles"),
     "process": ("program",),
+    "recovery": ("Patch", "Unfinished", "UnfinishedFile", "finish", "forget", "unfinished"),
     "store": ("Store", "many"),
     "targets": ("Date", "Head", "Top", "Under"),
 }

@@ -1,11 +1,12 @@
-"""Why the machine refuses: what a folder and its files show of it. Each function looks, and changes nothing."""
+"""Why the machine refuses: what a folder and its files show of it. Each function looks, and changes no file that has a
+name."""
 from __future__ import annotations
 
 import errno
 import os
 import stat
 
-from .journal import unfinished
+from .journal import half_written
 from .lines import as_bytes, as_string
 from .light import TYPE_CHECKING, record
 from .names import ARCHIVE, JOURNAL, is_file_name, own_name
@@ -17,6 +18,7 @@ if TYPE_CHECKING:
 
 # Less room than this may be too little: a commit writes its record first, in whole blocks, and then the files.
 _ROOM = 65_536
+_MOST_TRIED = 64 << 20
 
 
 @record(frozen=True)
@@ -76,15 +78,16 @@ def _why_not_read(folder: str, name: str, needed: bool) -> Optional[Why]:
 
 
 def _why_no_journal(folder: str) -> Optional[Why]:
-    """Why a journal can't be made, where there is none."""
-    if os.path.exists(os.path.join(folder, JOURNAL)):
-        return None
-    return why_not_made(folder, JOURNAL) or why_full(folder, 0)
+    """Why a journal can't be made, where there is none, or one without a gate."""
+    try:
+        return why_full(folder, 0) if os.lstat(os.path.join(folder, JOURNAL)).st_size < 16 else None
+    except OSError:
+        return why_not_made(folder, JOURNAL) or why_full(folder, 0)
 
 
 def why_not_finished(folder: str) -> Optional[Why]:
     """Why a change that is half written can't be finished; None where nothing is seen, or where none is."""
-    names = unfinished(folder)
+    names = half_written(folder)
     found = (why_not_written(folder, name) for name in names)
     return next(filter(None, found), None) or (why_full(folder, 0) if names else None)
 
@@ -143,7 +146,30 @@ def why_full(folder: str, size: int) -> Optional[Why]:
         return Why("full", "", "the disk is full: it has %s free; make room" % _bytes_text(free))
     if room.f_files and not room.f_favail:
         return Why("full", "", "the disk is full: it has room for no more files; make room")
-    return None
+    refused = _room_refused(folder, min(_ROOM + 4 * size, _MOST_TRIED))
+    if refused == errno.EDQUOT:
+        return Why("full", "", "your disk quota is used up; make room, or have it raised")
+    return Why("full", "", "the disk is full; make room") if refused == errno.ENOSPC else None
+
+
+def _room_refused(folder: str, size: int) -> int:
+    """The error at which so many bytes aren't taken, in a file without a name, which is gone at once; 0 where they are,
+    or where there are no such files. A quota shows in nothing else."""
+    try:
+        stream = os.open(folder, os.O_TMPFILE | os.O_RDWR | os.O_CLOEXEC, 0o600)
+    except OSError as fault:
+        return fault.errno or 0
+    try:
+        at = 0
+        while at < size:
+            # bytes that can't be made fewer
+            at += os.pwrite(stream, os.urandom(min(size - at, 1 << 20)), at)
+        os.fsync(stream)
+    except OSError as fault:
+        return fault.errno or 0
+    finally:
+        os.close(stream)
+    return 0
 
 
 def why_failed(folder: str, names: Iterable[str], elsewhere: bool, size: int) -> Optional[Why]:

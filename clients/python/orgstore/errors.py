@@ -28,9 +28,10 @@ class Misused(Error):
 class CannotOpen(Error):
     """The program didn't open the folder, and no command was run.
 
-    `name` is the program's word for it (`Locked`, `BadJournal`, `Device`, `SameFile NAME`, `TooLarge NAME`,
-    `TooManyFiles`, `OutOfMemory`, `bad name NAME`, `bad states`, `usage`), `said` its line on standard error, `status`
-    its exit status. Of a `Device`, `cause` and `file` say why, and `why` is a sentence on it.
+    `name` is the program's word for it (`Locked`, `BadJournal`, `Changed NAME`, `Outside NAME`, `Linked NAME`,
+    `Device`, `SameFile NAME`, `TooLarge NAME`, `TooManyFiles`, `OutOfMemory`, `bad name NAME`, `bad states`, `usage`),
+    `said` its line on standard error, `status` its exit status. Of a `Device`, `cause` and `file` say why, and `why` is
+    a sentence on it; `Changed`, `Outside` and `Linked` have a `file` too.
     """
 
     def __init__(self, message: str, *, name: str = "", said: str = "", status: int = 3, cause: Cause = "",
@@ -96,12 +97,13 @@ class Changed(Error):
 
     Commands that were accepted and not safe are given up, so that nothing is written over what that program wrote.
     `lost` says that the file may lack safe commands too: it was replaced while they were put on the disk, and isn't
-    what the store wrote.
+    what the store wrote. `done` says that the command that was given is done: its change is in the files, and the other
+    program wrote just after it.
     """
 
-    def __init__(self, message: str, *, safe: int = 0, file: str = "", lost: bool = False) -> None:
+    def __init__(self, message: str, *, safe: int = 0, file: str = "", lost: bool = False, done: bool = False) -> None:
         super().__init__(message)
-        self.safe, self.file, self.lost = safe, file, lost
+        self.safe, self.file, self.lost, self.done = safe, file, lost, done
 
 
 class Refused(Error):

@@ -6,12 +6,14 @@ import time
 from .errors import CannotRead
 from .keywords import states_of
 from .light import TYPE_CHECKING, os
-from .marks import look_at_journal
-from .names import ARCHIVE, is_archive, is_file_name, own_name
+from .marks import JOURNAL_MOST, look_at_journal
+from .names import ARCHIVE, JOURNAL, is_archive, is_file_name, own_name
+from .plain import NotPlain, check_plain
 
 if TYPE_CHECKING:
-    from typing import Dict, Iterable, List, Optional, Sequence
+    from typing import Callable, Dict, Iterable, List, Optional, Sequence
 
+    from .journal import Recovered
     from .keywords import States
     from .outline import Outline
     from .store import Store
@@ -29,6 +31,17 @@ class Folder:
         """Whether what was read is half of a change, which the next opening finishes."""
         self.torn = False
         """Whether what was read isn't of one moment, since a store wrote all the time."""
+        self.recovered: Callable[[Recovered], None] = lambda change: None
+        """Is called where an opening finished a change that a crash had cut short."""
+
+    def check_journal(self) -> None:
+        """Raises `CannotRead` where the journal is no plain file, or is larger than one can be."""
+        try:
+            check_plain(os.path.join(self.path, JOURNAL), JOURNAL_MOST)
+        except NotPlain as fault:
+            raise CannotRead("%s: %s" % (self.path, fault), JOURNAL) from None
+        except OSError:
+            pass  # there is none, or the program says what is wrong with it
 
     def names(self, archives: bool = True) -> List[str]:
         """The store's files that are there, in byte order; an archive file counts beside its file alone."""
@@ -96,7 +109,10 @@ class Folder:
         from . import undo  # noqa: F401
         from .store import Store
 
-        return Store.opened(opening, self.wait)
+        store = Store.opened(opening, self.wait)
+        if store.recovered:
+            self.recovered(store.recovered)
+        return store
 
 
 def _is_file(entry: os.DirEntry[str]) -> bool:

@@ -161,6 +161,13 @@ else:
         def exists(self, path):
             return _mode(path) is not None
 
+        def lexists(self, path):
+            try:
+                posix.lstat(path)
+            except (OSError, ValueError):
+                return False
+            return True
+
         def isfile(self, path):
             return S_ISREG(_mode(path) or 0)
 

@@ -5,9 +5,14 @@ from _stat import S_ISREG
 
 from .light import TYPE_CHECKING, os, record
 from .names import JOURNAL
+from .plain import open_plain
 
 if TYPE_CHECKING:
     from typing import Dict, Iterable, List, Optional, Tuple
+
+
+JOURNAL_MOST = 36 << 30
+"""More bytes than the record of any change has."""
 
 
 @record(frozen=True)
@@ -50,10 +55,20 @@ def look(folder: str, only: Optional[Iterable[str]] = None) -> Dict[str, Mark]:
 def look_at_journal(folder: str) -> Tuple[Optional[Mark], bytes]:
     """The mark of the journal, and the front of its record: each commit changes them."""
     try:
-        with open(os.path.join(folder, JOURNAL), "rb") as file:
+        with open_plain(os.path.join(folder, JOURNAL), JOURNAL_MOST) as file:
             return mark_of(os.fstat(file.fileno())), file.read(4096)[1:]
     except OSError:
         return None, b""
+
+
+def gate_is_open(folder: str) -> bool:
+    """Whether a commit is under way, or was cut short."""
+    try:
+        with open_plain(os.path.join(folder, JOURNAL), JOURNAL_MOST) as file:
+            head = file.read(16)
+    except OSError:
+        return False
+    return len(head) == 16 and head[0] == 1
 
 
 def differing(before: Dict[str, Mark], after: Dict[str, Mark]) -> List[str]:

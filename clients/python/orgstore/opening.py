@@ -4,7 +4,7 @@ from __future__ import annotations
 from .errors import CannotOpen, Died, Locked, NoProgram, TimedOut
 from .light import TYPE_CHECKING, os, record
 from .lines import as_bytes
-from .marks import look, look_at_journal
+from .marks import gate_is_open, look, look_at_journal
 from .names import ARCHIVE, own_name
 from .process import Process, Stuck, ended_by
 
@@ -12,6 +12,7 @@ if TYPE_CHECKING:
     from typing import Dict, FrozenSet, Iterable, List, Optional
 
     from .errors import Error
+    from .journal import Recovered
     from .keywords import States
     from .marks import Mark
 
@@ -19,12 +20,21 @@ _OPENING: Dict[str, str] = {
     "Locked": "another store is open on it: try again when that has ended",
     "BadJournal": "a change was cut short, and the journal is damaged, or another program's. Nothing was changed: "
                   "copy the folder, look through the files, and take orgstore.journal away",
+    "Changed": "a change was cut short, and %s was written by another program since, or copied or restored. Nothing "
+               "was done: orgstore.unfinished shows the change, and finish does it over what is there now, or forget "
+               "gives it up",
+    "Outside": "a change was cut short, and %s is a link that leads out of the folder. Nothing was done: "
+               "orgstore.unfinished shows the change and where the link leads; finish writes there, forget gives it up",
+    "Linked": "%s is a link, or no plain file. Nothing was done: find out who put it there, and take it away",
     "Device": "a call of the disk failed, or the folder can't be listed",
     "SameFile": "two names lead to one file: keep one of them",
     "TooLarge": "a file is past 64 MiB: split it",
     "TooManyFiles": "it has more than 256 Org files: take some to another folder",
     "OutOfMemory": "there isn't memory enough",
 }
+
+
+_OF_FILES = ("Changed", "Outside", "Linked")
 
 
 def cannot_open(folder: str, program: str, status: int, said: str, new: Iterable[str] = ()) -> Error:
@@ -41,13 +51,16 @@ def cannot_open(folder: str, program: str, status: int, said: str, new: Iterable
         name = said[len("orgstore: "):]
         name = name[len("open: "):] if name.startswith("open: ") else name
     why = why_not_opened(folder, new) if name == "Device" else None
-    sentence = why.sentence if why else _OPENING.get(name.split(" ")[0], "its words aren't taken")
+    word, _, of = name.partition(" ")
+    sentence = why.sentence if why else _OPENING.get(word, "its words aren't taken")
+    if word in _OF_FILES:
+        sentence = sentence % of
     if name.startswith("bad name"):
         sentence = "a new file's name ends in .org, and has no folder"
     kind = Locked if name == "Locked" else CannotOpen
     return kind("the folder '%s' can't be opened: %s (%s)" % (folder, sentence, said), name=name, said=said,
                 status=status, cause=why.cause if why else "device" if name == "Device" else "",
-                file=why.file if why else "", why=sentence)
+                file=why.file if why else of if word in _OF_FILES else "", why=sentence)
 
 
 @record(frozen=True)
@@ -55,6 +68,8 @@ class Terms:
     """What a store is opened with, as `Store` has it; `only` without archive files."""
 
     folder: str
+    place: str
+    """The folder, wherever the process goes."""
     program: str
     states: States
     group: int
@@ -62,11 +77,6 @@ class Terms:
     only: Optional[List[str]]
     whole: bool
     timeout: Optional[float]
-
-    @property
-    def place(self) -> str:
-        """The folder, wherever the process goes."""
-        return os.path.abspath(self.folder)
 
     def look(self, names: Iterable[str]) -> Dict[str, Mark]:
         """The marks of the files that the store may have, which are these where some alone are meant."""
@@ -87,6 +97,7 @@ class Opening:
     """The program, on its way to open a folder; `wait` answers it once that is open.
 
     `marks` and `journal` are what the files looked like before: one that is replaced meanwhile is another program's.
+    `recovered` is the change that the opening finishes, where a crash cut one short.
     Raises `NoProgram` where it can't be started.
     """
 
@@ -94,6 +105,7 @@ class Opening:
         self.terms, self.names = terms, sorted(names)
         self._safe = safe
         self.marks = terms.look(self.names)
+        self.recovered = _begun(terms.place)
         try:
             self._process = Process(terms.words(self.names), terms.timeout)
         except OSError as fault:
@@ -125,9 +137,19 @@ class Opening:
         raise NoProgram("%s isn't orgstore: it answered %r" % (terms.program, reply[:40]))
 
 
+def _begun(folder: str) -> Optional[Recovered]:
+    """The change that the next opening of a folder finishes."""
+    if not gate_is_open(folder):
+        return None
+    from .journal import recovered  # crashes are rare
+
+    return recovered(folder)
+
+
 def terms_of(folder: str, program: str, states: States, group: int, new: Iterable[str], only: Optional[Iterable[str]],
              whole: bool, timeout: Optional[float]) -> Terms:
     """The terms of a store that has these files alone, or of one that has all."""
     meant = None if only is None else sorted(map(own_name, [only] if isinstance(only, str) else only))
     begun = frozenset({new} if isinstance(new, str) else new)
-    return Terms(folder, program, states, group, begun, meant, whole, timeout)
+    path = os.path.abspath(program) if "/" in program else program
+    return Terms(folder, os.path.abspath(folder), path, states, group, begun, meant, whole, timeout)

@@ -10,7 +10,7 @@ from .errors import CannotWrite, Changed, Closed, Died, Error, Fault, Locked, Mi
 from .keywords import States
 from .light import TYPE_CHECKING, cast, os
 from .lines import titles
-from .marks import differing, doubtful, look_at_journal, replaced
+from .marks import differing, doubtful, gate_is_open, look_at_journal
 from .names import is_archive, is_file_name, own_name
 from .opening import Opening, Terms, terms_of
 from .process import Process, Stuck, ended_by, program
@@ -24,6 +24,7 @@ if TYPE_CHECKING:
     from .causes import Why
     from .commands import Command
     from .heading import Heading
+    from .journal import Recovered
     from .kinds import Moment, Order, Path, Target, Text
     from .marks import Mark
 
@@ -80,6 +81,8 @@ class Store:
         """How many commands were accepted since the store was opened."""
         self.acknowledged = 0
         """How many of them are on the disk."""
+        self.recovered: Optional[Recovered] = None
+        """What an opening of this store finished last of a change that a crash had cut short."""
         self._terms, self._place = terms, terms.place
         self._process: Optional[Process] = None
         self._owner = os.getpid(), get_ident()
@@ -89,7 +92,8 @@ class Store:
         self._before = 0  # how many commands were accepted by processes before this one
         self._names = {*terms.new, *(terms.only or ())}
         self._marks: Dict[str, Mark] = {}
-        self._journal = look_at_journal(self._place)
+        self._journal: Tuple[Optional[Mark], bytes] = None, b""
+        self._looked = 0  # how many commands were safe at the last look at the journal
         self._sent: Set[str] = set()  # the files that commands named since the last look
         self._writable: Set[str] = set()  # those of them that were seen to be writable
         self._sent_size, self._elsewhere = 0, False
@@ -103,6 +107,8 @@ class Store:
             try:
                 self._process = opening.wait()
                 self._marks, self._journal = opening.marks, opening.journal
+                self.recovered = opening.recovered or self.recovered
+                self._looked = self.acknowledged
                 self._names |= {name for name in opening.marks if not is_archive(name) and is_file_name(name)}
                 return
             except Locked:
@@ -362,6 +368,19 @@ class Store:
                        "again"
                        % (name, self._safe_words()), safe=self.acknowledged, file=name, lost=True)
 
+    def _lost(self, name: str) -> Changed:
+        """What is raised where another program wrote a file that may lack what was put on the disk."""
+        return Changed("%s: another program replaced it while a command was put on the disk, and it isn't what the "
+                       "store wrote: look whether the change is in it, before you give the command again. %s"
+                       % (name, self._safe_words()), safe=self.acknowledged, file=name, lost=True)
+
+    def _put_in(self, name: str) -> Changed:
+        """What is raised where another program wrote a file just after what is pending was put on the disk."""
+        self.acknowledged = self.accepted
+        return Changed("%s: another program wrote it just after the change was put in, which is there: don't give the "
+                       "command again, but look whether what that program wrote is whole. %s: open the store again"
+                       % (name, self._safe_words()), safe=self.acknowledged, file=name, done=True)
+
     def _keep_marks(self) -> None:
         """Takes the files for written by this program, once its commands are safe; one that has appeared is still to be
         noticed. Raises `Changed` for one that another program wrote after it, and that lacks what this one wrote."""
@@ -374,10 +393,9 @@ class Store:
         self._marks = {name: mark for name, mark in now.items()
                        if name not in lost and (name in self._marks or own_name(name) in self._names)}
         self._journal = journal
+        self._looked = self.acknowledged
         if lost:
-            raise Changed("%s: another program replaced it while a command was put on the disk, and it isn't what the "
-                          "store wrote: look whether the change is in it, before you give the command again. %s"
-                          % (lost[0], self._safe_words()), safe=self.acknowledged, file=lost[0], lost=True)
+            raise self._lost(lost[0])
 
     def _lacks(self, name: str) -> bool:
         """Whether a file on the disk isn't what the program holds."""
@@ -508,7 +526,7 @@ class Store:
         if word == b"refused":
             return self._refusal(rest, command, show)
         if word == b"fault":
-            raise self._fault(rest.decode())
+            raise self._fault(rest.decode(), command.changes)
         if word == b"text":
             return self._text(int(rest))
         if word not in (b"safe", b"time"):
@@ -566,10 +584,11 @@ class Store:
         return TimedOut("orgstore (process %d) didn't answer in time, and was killed. %s: open the folder again, which "
                         "finishes or forgets each other command" % (number, self._safe_words()), safe=self.acknowledged)
 
-    def _fault(self, name: str) -> Union[Fault, Changed]:
-        """What is raised for a fault that the program reported, or for its end."""
+    def _fault(self, name: str, of_change: bool = False) -> Union[Fault, Changed]:
+        """What is raised for a fault that the program reported, maybe of a change that it hasn't counted, or for its
+        end."""
         if name == "Device" and not self._broken:
-            return self._device()
+            return self._device(of_change)
         advice = {
             "OutOfMemory": "memory was short, and the command changed nothing: try it again, or a smaller one",
             "Device": _UNKNOWN,
@@ -580,21 +599,16 @@ class Store:
         return Fault("%s. %s" % (advice, self._safe_words()), name=name, safe=self.acknowledged,
                      cause=why.cause if why else "", file=why.file if why else "", why=why.sentence if why else "")
 
-    def _device(self) -> Union[Fault, Changed]:
+    def _device(self, of_change: bool) -> Union[Fault, Changed]:
         """A call of the disk failed: says why, as far as the folder shows it, and what became of the command."""
         self._broken = True
-        now, journal = self._look(), look_at_journal(self._place)
+        journal = look_at_journal(self._place)
         untouched = journal == self._journal
-        # behind its record the program writes files itself, but it replaces none
-        written = differing(self._marks, now) if untouched and not self._many else replaced(self._marks, now)
-        known = [name for name in written if own_name(name) in self._names]
-        if known:
-            self._again = untouched and self.accepted == self.acknowledged and not self._many
+        disturbed = self._disturbed(untouched, journal[0], of_change)
+        if disturbed:
             self._finish()
-            return self._replaced(known[0]) if self._many else self._given_up(known[0])
+            return disturbed
         from .causes import why_failed
-        from .journal import gate_is_open
-
         done = False if untouched else gate_is_open(self._place) or None
         self._why = why = why_failed(self._place, self._sent, self._elsewhere, self._sent_size)
         became = {False: "Nothing of it was written", True: "Opening the folder again finishes it",
@@ -603,6 +617,40 @@ class Store:
         return Fault("%s. %s" % (sentence, self._safe_words()), name="Device", safe=self.acknowledged, done=done,
                      cause=why.cause if why else "device", file=why.file if why else "",
                      why=why.sentence if why else "")
+
+    def _disturbed(self, untouched: bool, journal: Optional[Mark], of_change: bool) -> Optional[Changed]:
+        """What is raised where a call failed since another program wrote a file, and where that is seen."""
+        now = self._look()
+        written = differing(self._marks, now)
+        alone = self.accepted == self.acknowledged and not self._many
+        exact = self.acknowledged == self._looked  # else the journal was written since it was looked at
+        if untouched and exact:
+            found = self._known(written)
+            self._again = bool(found) and alone
+            return self._given_up(found[0]) if found else None
+        if gate_is_open(self._place):
+            return None  # the next opening goes on, or says which file was changed
+        from .journal import left
+
+        stand = left(self._place)
+        # the program writes all files of a record or none, replaces none, and writes the journal last
+        other = {name for name, how in stand.items() if how != "written"}
+        found = self._known({*other.intersection(written), *doubtful(self._marks, now, journal)}.intersection(stand))
+        if not found:
+            return None
+        if not exact:
+            return self._replaced(found[0])
+        if {"written", "longer"}.issuperset(stand.values()):
+            self.accepted += of_change
+            return self._put_in(found[0])
+        if other.difference(written) or set(stand.values()) == {"none"}:
+            self._again = alone
+            return self._given_up(found[0])
+        return self._lost(found[0])
+
+    def _known(self, names: Iterable[str]) -> List[str]:
+        """Those of the names that are files of the store, in order."""
+        return sorted(name for name in names if own_name(name) in self._names)
 
     def _safe_words(self) -> str:
         count = self.acknowledged

@@ -5,7 +5,7 @@ import shutil
 import stat
 import tempfile
 import unittest
-from typing import Dict, List, Union
+from typing import Dict, List, Tuple, Union
 
 import orgstore
 
@@ -20,6 +20,28 @@ Texts = Dict[str, Union[str, bytes]]
 
 def as_bytes(text: Union[str, bytes]) -> bytes:
     return text if isinstance(text, bytes) else text.encode()
+
+
+Patches = List[Tuple[int, bytes]]
+
+
+def journal_of(version: int, gate: int, *files: Tuple[str, int, Patches], old: int = 0, before: bytes = b"",
+               after: bytes = b"") -> bytes:
+    """A journal, by docs/FORMATS.md: of each file its name, its final length, and what is written from where on."""
+    record = len(files).to_bytes(4, "big")
+    for name, length, patches in files:
+        record += len(name).to_bytes(2, "big") + name.encode()
+        if version == 1:
+            (at, new), = patches
+            record += b"".join(number.to_bytes(8, "big") for number in (at, length, len(new))) + new
+            continue
+        record += length.to_bytes(8, "big")
+        if version == 3:
+            record += old.to_bytes(8, "big") + bytes([len(before)]) + before + bytes([len(after)]) + after
+        record += len(patches).to_bytes(4, "big")
+        for at, new in patches:
+            record += at.to_bytes(8, "big") + len(new).to_bytes(8, "big") + new
+    return bytes([gate]) + b"ORGJ" + bytes([version, 0, 0]) + len(record).to_bytes(8, "big") + record
 
 
 def closed(text: bytes) -> bytes:

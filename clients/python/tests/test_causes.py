@@ -12,7 +12,7 @@ from typing import Any, Callable, List, Tuple
 import orgstore
 from orgstore import Archive, CannotOpen, CannotWrite, Capture, Changed, Done, Fault, Misused, Store, TimedOut
 
-from .support import FolderTest, Texts
+from .support import FolderTest, Patches, Texts, journal_of
 
 HERE = os.path.dirname(os.path.dirname(os.path.abspath(__file__)))
 NOBODY = 65534
@@ -217,6 +217,63 @@ class Saver(FolderTest):
             store.many(Capture("a.org", "* N") for _ in range(100))
             store.many([Archive("b.org", "B")])
         self.assertEqual(asked, [])
+
+
+class JustAfter(FolderTest):
+    """Another program writes between the commit's write and its last look, at which the program answers `Device`."""
+
+    def fault(self, version: int, files: Texts, left: Texts, *entries: Tuple[str, int, Patches],
+              before: bytes = b"") -> Tuple[Any, Store]:
+        """What is raised where the program leaves these files and this record."""
+        folder, made = self.folder(files), self.folder(left)
+        self.write(made, "orgstore.journal", journal_of(version, 0, *entries, before=before))
+        program = self.script("read -r line", "echo safe 0", "read -r line", "cp '%s'/* '%s'" % (made, folder),
+                              "echo fault Device", "cat > /dev/null")
+        store = Store(folder, program)
+        with self.assertRaises(orgstore.Error) as caught:
+            store.capture("a.org", "* N")
+        store._finish()
+        return caught.exception, store
+
+    def test_an_append(self) -> None:
+        """The command is done, and counts."""
+        for version in (2, 3):
+            fault, store = self.fault(version, {"a.org": "* A\n"}, {"a.org": "* A\n* N\n* other\n"},
+                                      ("a.org", 8, [(4, b"* N\n")]))
+            self.assertIsInstance(fault, Changed)
+            self.assertEqual((fault.done, fault.lost, fault.file, fault.safe, str(fault)), (
+                True, False, "a.org", 1, "a.org: another program wrote it just after the change was put in, which is "
+                "there: don't give the command again, but look whether what that program wrote is whole. The first "
+                "command is safe: open the store again"))
+            self.assertEqual((store.accepted, store.acknowledged, store.closed), (1, 1, True))
+
+    def test_a_save_over_it(self) -> None:
+        """It isn't done: it is given again, and in the end given up."""
+        fault, store = self.fault(2, {"a.org": "* A\n"}, {"a.org": "* saved\n"}, ("a.org", 8, [(4, b"* N\n")]))
+        self.assertEqual((type(fault), fault.done, fault.lost, store.acknowledged), (Changed, False, False, 0))
+
+    def test_a_save_that_may_have_it(self) -> None:
+        """Where that can't be told, one is to look."""
+        for version, before in ((2, b""), (3, b"* A\n")):
+            fault, _ = self.fault(version, {"a.org": "* A\n"}, {"a.org": "x\n* A\n* N\n"},
+                                  ("a.org", 8, [(4, b"* N\n")]), before=before)
+            self.assertEqual((type(fault), fault.done, fault.lost), (Changed, False, True))
+        fault, _ = self.fault(2, {"a.org": "* A\n", "b.org": "* B\n"}, {"a.org": "* A\n", "b.org": "* B\n* A\n"},
+                              ("b.org", 8, [(4, b"* A\n")]), ("a.org", 0, [(0, b"")]))
+        self.assertEqual((type(fault), fault.done, fault.lost), (Changed, False, True))
+
+    def test_a_save_before_it(self) -> None:
+        """A file that nobody wrote tells that nothing was written, whatever stands in another."""
+        fault, _ = self.fault(2, {"a.org": "* A\n", "b.org": "* B\n"}, {"a.org": "* A\n* other\n"},
+                              ("b.org", 8, [(4, b"* A\n")]), ("a.org", 0, [(0, b"")]))
+        self.assertEqual((type(fault), fault.file, fault.done, fault.lost), (Changed, "a.org", False, False))
+
+    def test_no_other_program(self) -> None:
+        """A disk that fails isn't taken for one, before the files were written and after it."""
+        rows: List[Texts] = [{}, {"a.org": "* A\n* N\n"}, {"a.org": "* A\n* N\n", "c.org": "* another's\n"}]
+        for left in rows:
+            fault, _ = self.fault(2, {"a.org": "* A\n"}, left, ("a.org", 8, [(4, b"* N\n")]))
+            self.assertEqual((type(fault), fault.cause), (Fault, "device"))
 
 
 class Disk(FolderTest):

@@ -10,7 +10,7 @@ from typing import Callable, List, Optional, Tuple, Type
 import orgstore
 from orgstore import CannotOpen, Capture, Closed, Died, Done, Error, Fault, Locked, NoProgram, Store, process
 
-from .support import M, FolderTest
+from .support import M, FolderTest, journal_of
 
 
 def write(folder: str, name: str, text: bytes = b"") -> None:
@@ -38,6 +38,13 @@ def bad_journal(folder: str) -> None:
     write(folder, "orgstore.journal", bytes.fromhex("01 4f52474a 01 0000 00000000000000ff"))
 
 
+def linked_out(folder: str) -> None:
+    os.symlink("../x.org", os.path.join(folder, "a.org"))
+    write(folder, "orgstore.journal", journal_of(2, 1, ("a.org", 4, [(0, b"* N\n")])))
+
+
+LINKED = "orgstore.journal is a link, or no plain file. Nothing was done: find out who put it there, and take it away"
+
 # What is made of the folder, the fault's name, and what is said of it.
 OPENINGS: List[Tuple[Callable[[str], None], str, str]] = [
     (bad_journal, "BadJournal",
@@ -47,8 +54,12 @@ OPENINGS: List[Tuple[Callable[[str], None], str, str]] = [
     (lambda folder: write(folder, "\udcff"), "Device", "the name of its entry '\\xff' isn't UTF-8: rename it"),
     (lambda folder: os.symlink("l.org", folder + "/l.org"), "Device",
      "l.org is a link that leads in a circle: take it away"),
-    (lambda folder: os.mkdir(folder + "/orgstore.journal"), "Device",
-     "orgstore.journal is no file: give it another name"),
+    (lambda folder: os.mkdir(folder + "/orgstore.journal"), "Linked orgstore.journal", LINKED),
+    (lambda folder: os.mkfifo(folder + "/orgstore.journal"), "Linked orgstore.journal", LINKED),
+    (lambda folder: os.symlink("../x", folder + "/orgstore.journal"), "Linked orgstore.journal", LINKED),
+    (linked_out, "Outside a.org",
+     "a change was cut short, and a.org is a link that leads out of the folder. Nothing was done: orgstore.unfinished "
+     "shows the change and where the link leads; finish writes there, forget gives it up"),
     (two_names, "SameFile b.org", "two names lead to one file: keep one of them"),
     (too_large, "TooLarge a.org", "a file is past 64 MiB: split it"),
     (too_many, "TooManyFiles", "it has more than 256 Org files: take some to another folder"),
@@ -93,6 +104,13 @@ class Openings(FolderTest):
         short = self.script("echo 'orgstore: open: OutOfMemory' >&2", "exit 3")
         self.check(self.refusal(folder, short), "OutOfMemory", "orgstore: open: OutOfMemory", 3,
                    "the folder '%s' can't be opened: there isn't memory enough (orgstore: open: OutOfMemory)" % folder)
+
+    def test_changed_since(self) -> None:
+        folder, said = self.folder({}), "orgstore: open: Changed a.org"
+        self.check(self.refusal(folder, self.script("echo '%s' >&2" % said, "exit 3")), "Changed a.org", said, 3,
+                   "the folder '%s' can't be opened: a change was cut short, and a.org was written by another program "
+                   "since, or copied or restored. Nothing was done: orgstore.unfinished shows the change, and finish "
+                   "does it over what is there now, or forget gives it up (%s)" % (folder, said))
 
     def test_locked(self) -> None:
         folder = self.folder({})

@@ -76,7 +76,7 @@ class System(FolderTest):
             os.symlink(target, os.path.join(folder, name))
         for name in ["", *os.listdir(folder), "d/../a", "to_d/../a", "a/x", "nothing", "\0", "x" * 300]:
             one = os.path.join(folder, name)
-            for asked in ("exists", "isfile", "isdir"):
+            for asked in ("exists", "lexists", "isfile", "isdir"):
                 self.assertEqual(getattr(self.system.path, asked)(one), getattr(os.path, asked)(one), (asked, name))
             if name != "\0":
                 self.assertEqual(self.system.path.realpath(one), os.path.realpath(one), name)

@@ -71,3 +71,21 @@ class Whole(FolderTest):
         with Store(folder, whole=True) as store:
             store.many([Todo("a.org", "A\\#2/T", "TODO", M), Todo("a.org", [Nth("A", 1)], "TODO", M)])
         self.assert_files(folder, {"a.org": "* TODO A\n* A\n** TODO T\n"})
+
+
+class Elsewhere(FolderTest):
+    """A folder that is named from where the process stands."""
+
+    def test_the_process_goes_elsewhere(self) -> None:
+        """The store stays where it was opened, also when it opens the folder again."""
+        folder, other = self.folder({"a.org": "* A\n"}), self.folder({"a.org": "* Other\n"})
+        self.addCleanup(os.chdir, os.getcwd())
+        os.chdir(folder)
+        with Store(".") as store:
+            os.chdir(other)
+            store.capture("a.org", "* 1")
+            self.write(folder, "a.org", "* saved\n")
+            store.capture("a.org", "* 2")
+        self.assert_files(folder, {"a.org": "* saved\n* 2\n"})
+        self.assert_files(other, {"a.org": "* Other\n"})
+        self.assertEqual(os.listdir(other), ["a.org"])

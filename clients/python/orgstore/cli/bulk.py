@@ -112,7 +112,8 @@ def send(run: Run, store: Store, plan: Plan, past: str) -> int:
                 progress.show(sent, store.acknowledged)
     except Error as fault:
         stop = stop_of(fault, run.folder.path)
-        raise Stop(stop.status, "%s; %d were to be %s" % (stop, total, past), total=total, **stop.fields) from None
+        status = stop.status if store.acknowledged == total else stop.status or REFUSED
+        raise Stop(status, "%s; %d were to be %s" % (stop, total, past), total=total, **stop.fields) from None
     except Left:
         safe, more = store.acknowledged, min(BULK_GROUP, total - sent)
         raise Stop(INTERRUPTED, "interrupted: %d of %d %s, and safe; each of the next %d is done whole or not at all; "

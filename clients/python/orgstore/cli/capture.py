@@ -6,6 +6,7 @@ import sys
 from ..errors import CannotWrite, Refused
 from ..keywords import title_of
 from ..light import TYPE_CHECKING, os
+from ..lines import LINE_LIMIT
 from ..names import is_file_name, own_name
 from ..settings import SETTINGS
 from .naming import file_of, named, names_file
@@ -45,7 +46,8 @@ def body_of(options: Options) -> bytes:
     """--body, standard input where it is '-', with every line indented where that is asked for."""
     if options.body is None:
         return b""
-    return sys.stdin.buffer.read() if options.body == "-" else os.fsencode(options.body)
+    # more is refused, however much there is
+    return sys.stdin.buffer.read(LINE_LIMIT + 1) if options.body == "-" else os.fsencode(options.body)
 
 
 def title_and_body(run: Run) -> Tuple[str, bytes]:

@@ -26,6 +26,7 @@ def edit(run: Run) -> int:
     """`orgs edit`."""
     place = run.take_place()
     run.no_more_words()
+    run.finish_begun()
     entry, = run.choose_headings([place])
     before = changes.subtree(entry)
     path = write_beside(before)

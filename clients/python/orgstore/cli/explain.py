@@ -4,7 +4,7 @@ from __future__ import annotations
 from ..errors import CannotOpen, CannotRead, CannotWrite, Changed, Error, Fault, NoProgram, Refused, TimedOut
 from ..journal import holder
 from ..names import JOURNAL
-from .stops import FAULT, REFUSED, Stop, cannot, cannot_write, refusal
+from .stops import FAULT, OK, REFUSED, Stop, cannot, cannot_write, refusal
 
 
 def stop_of(fault: Error, folder: str) -> Stop:
@@ -35,6 +35,9 @@ def stop_of(fault: Error, folder: str) -> Stop:
 
 def changed(fault: Changed) -> Stop:
     """Another program wrote a file in the middle."""
+    if fault.done:
+        return Stop(OK, "%s: done, and another program wrote the file just after it; look whether what that wrote is "
+                    "whole" % fault.file, reply="changed", file=fault.file, safe=fault.safe, lost=False, done=True)
     if fault.lost:
         says = "another program wrote it while commands were put on the disk, and may have left them out; look what " \
                "is in it, and give the command again where its change isn't"
@@ -73,6 +76,12 @@ def cannot_open(fault: CannotOpen, folder: str) -> str:
         "Locked": "a store is open on it%s; try again, or wait longer with --wait 60" % by,
         "BadJournal": "a change was cut short, and the journal is damaged; nothing was changed. Copy the folder, "
                       "look through its files, and take %s away" % JOURNAL,
+        "Changed": "a change was cut short, and %s was written by another program since, or copied or restored; "
+                   "nothing was changed. `orgs recover` shows the change, and finishes it or gives it up" % of,
+        "Outside": "a change was cut short, and %s is a link that leads out of the folder; nothing was changed. `orgs "
+                   "recover` shows the change and where the link leads, and finishes it or gives it up" % of,
+        "Linked": "%s is a link, or no plain file; nothing was changed. Find out who put it there, and take it away"
+                  % of,
         "TooManyFiles": "it has more than 256 Org files; move some into another folder",
         "Device": "the disk failed; find out what is wrong with it, and unmount it, before the next command",
         "OutOfMemory": "there was no memory to open it; try again",

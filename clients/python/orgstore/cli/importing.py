@@ -27,7 +27,9 @@ def import_tasks(run: Run) -> int:
     file = file_of(run.folder, run.options.file or run.settings.get("capture.file") or INBOX)
     if not is_file_name(file):
         raise Usage("'%s' can't be a file's name: it ends in .org, and has no slash and no dot in front" % file)
-    tasks, known = new_tasks(run, read_tasks(run, source))
+    tasks = read_tasks(run, source)
+    run.finish_begun()
+    tasks, known = new_tasks(run, tasks)
     if run.options.dry_run:
         for task in tasks:
             run.report.say(task.text(run.folder.states_of(file)).decode("utf-8", "surrogateescape").rstrip("\n"),

@@ -21,7 +21,7 @@ def init(run: Run) -> int:
         return show(run, find_folder(words[0] if words else options.directory))
     path = words[0] if words else options.directory or os.environ.get("ORGSTORE_DIR") or "."
     try:
-        os.makedirs(path, exist_ok=True)
+        os.makedirs(path, mode=0o700, exist_ok=True)  # whoever may read a folder can hold its lock
     except OSError as fault:
         raise cannot("Device", "%s: %s" % (path, fault.strerror)) from None
     old = settings_of(path).get("states")
@@ -29,14 +29,27 @@ def init(run: Run) -> int:
     if old is not None and str(States.parse(old)) != str(states):
         raise refusal("UnknownState", "%s has the states %s already; edit it" % (os.path.join(path, SETTINGS), old))
     folder = Folder(path, states, options.wait)
+    folder.check_journal()
+    folder.recovered = run.report.recovered
     with folder.open(only=folder.names(archives=False)[:1] or None) as store:
         store.settle()
     if old is None:
-        with open(os.path.join(path, SETTINGS), "w", encoding="utf-8") as file:
-            file.write("# read by orgs: the states of this folder, active | done\nstates = %s\n" % states)
+        write_states(path, states)
     run.report.say("%s: begun, with the states %s" % (path, states), reply="ok", command="init",
                    folder=os.path.abspath(path), states=states_field(states))
     return OK
+
+
+def write_states(folder: str, states: States) -> None:
+    """Adds the states to the settings that are there, else writes them to a new file."""
+    flags = os.O_RDWR | os.O_CREAT | os.O_APPEND | os.O_NOFOLLOW | os.O_NONBLOCK | os.O_CLOEXEC
+    try:
+        with open(os.open(os.path.join(folder, SETTINGS), flags, 0o666), "rb+") as file:
+            between = "" if file.read()[-1:] in (b"", b"\n") else "\n"
+            text = "# read by orgs: the states of this folder, active | done\nstates = %s\n" % states
+            file.write((between + text).encode())
+    except OSError as fault:
+        raise cannot("Device", "%s: %s" % (os.path.join(folder, SETTINGS), fault.strerror)) from None
 
 
 def show(run: Run, path: str) -> int:

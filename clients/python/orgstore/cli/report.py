@@ -10,6 +10,7 @@ from .stops import FAULT, OK
 if TYPE_CHECKING:
     from typing import Any, Dict, Optional, Union
 
+    from ..journal import Recovered
     from .stops import Stop
 
 _CONTROL = pattern(r"[\x00-\x08\x0a-\x1f\x7f-\x9f]")
@@ -51,6 +52,15 @@ class Report:
         """Tells people something more, on standard error."""
         if not self.as_json:
             self._tell(text)
+
+    def note(self, text: str) -> None:
+        """Tells people what they may know already, on standard error."""
+        if not self.quiet:
+            self.warn(text)
+
+    def recovered(self, change: Recovered) -> None:
+        """Tells of a change that this run finished before its own, on standard error."""
+        self._tell("finished %s" % change)
 
     def caution(self, name: str, text: str) -> None:
         """Tells people and programs what to think of what is printed."""

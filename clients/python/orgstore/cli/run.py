@@ -3,11 +3,12 @@ from __future__ import annotations
 
 import time
 
-from ..errors import CannotRead, CannotWrite
+from ..errors import CannotRead, CannotWrite, Changed, Fault
 from ..folder import Folder
 from ..keywords import States
 from ..light import TYPE_CHECKING, cached, os
 from ..lines import steps
+from ..marks import gate_is_open
 from ..names import ARCHIVE, JOURNAL, own_name
 from ..settings import SETTINGS, settings
 from .naming import FILE_LINE, LISTED, Place, existing, file_of, named, names_file
@@ -83,8 +84,11 @@ class Run:
 
     @cached
     def path(self) -> str:
-        """The folder that is meant."""
-        return find_folder(self.options.directory)
+        """The folder that is meant; where it is found above the one that one stands in, that is said."""
+        found, named = find_folder(self.options.directory), self.options.directory or os.environ.get("ORGSTORE_DIR")
+        if not named and found != os.getcwd():
+            self.report.note("the folder is %s" % shown(found))
+        return found
 
     @cached
     def settings(self) -> Dict[str, str]:
@@ -94,12 +98,21 @@ class Run:
     @cached
     def folder(self) -> Folder:
         """The folder that is meant, with its states."""
-        return Folder(self.path, read_states(self.settings, self.options.states), self.options.wait)
+        folder = Folder(self.path, read_states(self.settings, self.options.states), self.options.wait)
+        folder.check_journal()
+        folder.recovered = self.report.recovered
+        return folder
 
     @cached
     def moment(self) -> datetime.datetime:
         """--at, else this minute."""
         return moment_of(self.options.at)
+
+    def finish_begun(self) -> None:
+        """Finishes what a crash cut short, before what the files have is taken along without a store."""
+        if gate_is_open(self.path):
+            with self.folder.open(only=self.folder.names(archives=False)[:1] or None):
+                pass
 
     def take_file(self) -> Optional[str]:
         """--file, else the first word where it names a file and isn't the only one."""
@@ -235,12 +248,15 @@ class Recording:
     def __enter__(self) -> None:
         self._before = {file: self._run.folder.read(file) for file in self._files}
 
-    def __exit__(self, *ended: object) -> None:
-        self._run.keep(self._before)
+    def __exit__(self, kind: object, value: object, trace: object) -> None:
+        # what another program wrote isn't the command's, and half of a change can't be taken back
+        if not isinstance(value, (Changed, Fault)) and not gate_is_open(self._run.folder.path):
+            self._run.keep(self._before)
 
 
 def find_folder(given: Optional[str]) -> str:
-    """-C DIR, else $ORGSTORE_DIR, else the nearest folder from here upward that has a journal or settings."""
+    """-C DIR, else $ORGSTORE_DIR, else the nearest folder from here upward that has a journal or settings. Where others
+    than this user own that, or what it has of the two, it is refused: they could have notes written to them."""
     folder = given or os.environ.get("ORGSTORE_DIR")
     if folder:
         if not os.path.isdir(folder):
@@ -248,12 +264,37 @@ def find_folder(given: Optional[str]) -> str:
         return folder
     at = os.getcwd()
     while True:
-        if any(os.path.exists(os.path.join(at, name)) for name in (JOURNAL, SETTINGS)):
+        marks = [name for name in (JOURNAL, SETTINGS) if os.path.lexists(os.path.join(at, name))]
+        if marks:
+            check_owner(at, marks)
             return at
         if at == os.path.dirname(at):
             raise cannot("NoFolder", "no %s here or above; name the folder with -C DIR, or begin one with `orgs init`"
                          % JOURNAL)
         at = os.path.dirname(at)
+
+
+def check_owner(folder: str, marks: List[str]) -> None:
+    """Refuses a folder that wasn't named, and that is another user's, or has another's journal or settings."""
+    for name in ("", *marks):
+        path = os.path.join(folder, name)
+        try:
+            owner = os.lstat(path).st_uid
+        except OSError:
+            continue  # it is gone
+        if owner != os.geteuid():
+            raise cannot("NotYours", "%s belongs to %s, so it isn't taken unasked; name the folder with -C %s"
+                         % (path.rstrip("/") or "/", user_name(owner), folder))
+
+
+def user_name(number: int) -> str:
+    """A user's name, else the number."""
+    import pwd  # rarely needed
+
+    try:
+        return pwd.getpwuid(number).pw_name
+    except KeyError:
+        return "the user %d" % number
 
 
 def read_states(settings: Dict[str, str], given: Optional[str]) -> States:

@@ -5,7 +5,7 @@ import os
 import sys
 
 from ..commands import Todo
-from ..errors import CannotRead, Refused
+from ..errors import CannotRead, Changed, Refused
 from ..folder import Folder
 from ..light import TYPE_CHECKING
 from ..section import BLANKS, planning
@@ -59,9 +59,17 @@ def change_states(run: Run, places: List[Place], wanted: Optional[str]) -> int:
                            safe=store.acknowledged, **named)
         return OK
 
+    status = OK
     for entries in groups.values():
-        run.with_headings([Place(entry.file, path=entry.heading.steps) for entry in entries], act, whole=True)
-    return OK
+        try:
+            run.with_headings([Place(entry.file, path=entry.heading.steps) for entry in entries], act, whole=True)
+        except Changed as fault:
+            from .explain import changed  # rarely needed
+
+            if not fault.done:
+                raise
+            status = run.report.stopped(changed(fault))
+    return status
 
 
 def command_of(run: Run, store: Store, entry: Entry, wanted: Optional[str]) -> Todo:

@@ -29,7 +29,7 @@ def status(run: Run) -> int:
     clock, since = running_clock(folder, texts), ""
     if clock:
         since = clock[1].strftime("%Y-%m-%d %H:%M")
-    word, says, unfinished = journal_state(folder.read, process)
+    word, says, unfinished = journal_state(folder.path, process)
     why = why_not_finished(folder.path) if unfinished else None
     says += "; before that, " + why.sentence if why else ""
     rows = [("folder", os.path.abspath(folder.path)), ("states", str(folder.states)),
