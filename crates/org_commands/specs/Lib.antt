@@ -10,7 +10,6 @@ pub mod Edit
 pub mod Clocks
 pub mod Noted
 pub mod Clocking
-pub mod Kinds
 pub mod Outcome
 pub mod Planning
 pub mod Step

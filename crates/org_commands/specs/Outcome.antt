@@ -20,7 +20,11 @@ use Rattle.org_state.specs.declared.run.Running.{Running}
 use Rattle.org_state.specs.Clock.{clocked_at}
 use Rattle.org_state.specs.Todo.{todo as in_state}
 use Rattle.org_commands.specs.declared.command.Command.{Command}
-use Rattle.org_commands.specs.declared.command.Command.TheVariants.{Capture, Refile, Todo, ClockIn, ClockOut, Archive, Edit, Time, Show, Settle}
+use Rattle.org_commands.specs.declared.command.Command.TheVariants as command
+use Rattle.org_commands.specs.declared.command.Change.{Change}
+use Rattle.org_commands.specs.declared.command.Change.TheVariants.{Capture, Refile, Todo, ClockIn, ClockOut, Archive, Edit}
+use Rattle.org_commands.specs.declared.command.Question.{Question}
+use Rattle.org_commands.specs.declared.command.Question.TheVariants.{Time, Show}
 use Rattle.org_commands.specs.Capture.{new_entry}
 use Rattle.org_commands.specs.Clocks.{running_over}
 use Rattle.org_commands.specs.Clocking.{clocked_in, clocked_out, clock_moved}
@@ -199,17 +203,25 @@ abbrev pub show : Option (List ℕ) → Outcome
 show None = Refuses NoSuchFile
 show (Some text) = Shows text
 
-abbrev pub outcome : Session → Command → Outcome
-outcome s (Capture c) =
+-- what a change is to do
+abbrev pub outcome_of_change : Session → Change → Outcome
+outcome_of_change s (Capture c) =
     capture s c.file c.target c.place c.moment c.template c.initial (text_at s.names s.files c.file)
-outcome s (Refile c) =
+outcome_of_change s (Refile c) =
     refile s c.file c.path c.to_file c.to_path c.place (text_at s.names s.files c.file)
     (text_at s.names s.files c.to_file)
-outcome s (Todo c) = todo s c.file c.path c.state c.moment (text_at s.names s.files c.file)
-outcome s (Archive c) = archive s c.file c.path c.moment (text_at s.names s.files c.file)
-outcome s (ClockIn c) = clock_in s c.file c.path c.moment (text_at s.names s.files c.file)
-outcome s (ClockOut moment) = clock_out s moment (running_over s.names s.files)
-outcome s (Edit c) = edit s c.file c.at c.old c.new (text_at s.names s.files c.file)
-outcome s (Time file path) = time s path (text_at s.names s.files file)
-outcome s (Show file) = show (text_at s.names s.files file)
-outcome s Settle = AsksToSettle
+outcome_of_change s (Todo c) = todo s c.file c.path c.state c.moment (text_at s.names s.files c.file)
+outcome_of_change s (Archive c) = archive s c.file c.path c.moment (text_at s.names s.files c.file)
+outcome_of_change s (ClockIn c) = clock_in s c.file c.path c.moment (text_at s.names s.files c.file)
+outcome_of_change s (ClockOut moment) = clock_out s moment (running_over s.names s.files)
+outcome_of_change s (Edit c) = edit s c.file c.at c.old c.new (text_at s.names s.files c.file)
+
+-- what a question is to be answered
+abbrev pub outcome_of_question : Session → Question → Outcome
+outcome_of_question s (Time file path) = time s path (text_at s.names s.files file)
+outcome_of_question s (Show file) = show (text_at s.names s.files file)
+
+abbrev pub outcome : Session → Command → Outcome
+outcome s (command.Change change) = outcome_of_change s change
+outcome s (command.Ask question) = outcome_of_question s question
+outcome s command.Settle = AsksToSettle

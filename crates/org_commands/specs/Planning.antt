@@ -4,10 +4,11 @@ use Rattle.std.specs.Option.{ForSome}
 use Rattle.org_disk.specs.declared.disk.Disk.{Ghosts}
 use Rattle.org_outline.specs.States.{Keywords}
 use Rattle.org_texts.specs.declared.plan.Plan.{Plan}
+use Rattle.org_commands.specs.declared.command.Change.{Change}
 use Rattle.org_commands.specs.declared.command.RunFault.{RunFault}
 use Rattle.org_commands.specs.Files.{IsPlanFor, OpenFiles}
 use Rattle.org_commands.specs.Keeping.{Plans, PlansOrStays}
-use Rattle.org_commands.specs.Outcome.{Outcome}
+use Rattle.org_commands.specs.Outcome.{Outcome, outcome_of_change}
 use Rattle.org_commands.specs.Reading.{OnlyReads}
 use Rattle.org_commands.specs.Session.{BetweenSessions, Session}
 
@@ -30,3 +31,15 @@ pub record PlansOrStaysAs {D : Type 0} (g : Ghosts D) (states : Keywords) (old :
   pub plans : BetweenSessions g states old new
       (λ before after. PlansOrStays before (to_do before) answer new.held after)
   pub disk : OnlyReads g old new answer
+
+-- A change was planned over files that work, or it can't be done: the plan makes its outcome.
+abbrev pub PlansFor : {D : Type 0} → Ghosts D → Keywords → OpenFiles D → Change
+    → Result Plan RunFault → OpenFiles D → Type 0
+PlansFor g states old change answer new =
+    PlansAs g states old (λ s. outcome_of_change s change) answer new
+
+-- The same of a change that may change nothing: then there is no plan.
+abbrev pub PlansOrStaysFor : {D : Type 0} → Ghosts D → Keywords → OpenFiles D → Change
+    → Result (Option Plan) RunFault → OpenFiles D → Type 0
+PlansOrStaysFor g states old change answer new =
+    PlansOrStaysAs g states old (λ s. outcome_of_change s change) answer new

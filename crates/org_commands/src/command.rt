@@ -144,13 +144,13 @@ pub struct ClockIn {
     pub moment: Moment,
 }
 
-/// What a store is asked to do.
+/// A command that changes files.
 #[derive(Drop)]
-pub enum Command<'a> {
+pub enum Change<'a> {
     /// Puts a new entry into a file.
     Capture(Capture<'a>),
     /// Makes a subtree a child of another heading. The two paths are looked up before anything
-    /// moves, and the place among the children is that behind the move. A refile changes its files,
+    /// moves, and the place among the children is that after the move. A refile changes its files,
     /// also where it leaves their bytes.
     Refile(Refile),
     /// Puts a heading into another TODO state. Where it has that state already, all bytes stay.
@@ -173,18 +173,32 @@ pub enum Command<'a> {
     /// last line without a newline gets none. An edit changes its file, also where it leaves its
     /// bytes.
     Edit(Edit<'a>),
-    /// Answers the time clocked at a heading and below it (Org manual, "The clock table").
+}
+
+/// A command that asks for something, and changes nothing.
+#[derive(Drop)]
+pub enum Question {
+    /// Asks for the time clocked at a heading and below it (Org manual, "The clock table").
     Time {
         /// The file of the heading.
         file: FileName,
         /// Its path there.
         path: Path,
     },
-    /// Answers the text of a file.
+    /// Asks for the text of a file.
     Show {
         /// The file whose text is asked for.
         file: FileName,
     },
+}
+
+/// What a store is asked to do.
+#[derive(Drop)]
+pub enum Command<'a> {
+    /// Changes files.
+    Change(Change<'a>),
+    /// Answers a question.
+    Ask(Question),
     /// Puts all accepted commands on the disk.
     Settle,
 }

@@ -1,11 +1,9 @@
 //! What each command is to do: a change is planned, and a question is answered.
 //!
-//! A planner edits nothing that is kept, and counts nothing. Behind a fault its edits are to be
+//! A planner edits nothing that is kept, and counts nothing. After a fault its edits are to be
 //! taken back.
 ghost use Rattle.org_commands.specs.Files.{AreReadyForCommand};
-ghost use Rattle.org_commands.specs.Kinds.{asking, changing};
-ghost use Rattle.org_commands.specs.Outcome.{outcome};
-ghost use Rattle.org_commands.specs.Planning.{PlansOrStaysAs};
+ghost use Rattle.org_commands.specs.Planning.{PlansOrStaysFor};
 ghost use Rattle.org_commands.specs.Questions.{AnswersQuestion};
 
 pub(crate) mod archive;
@@ -20,7 +18,7 @@ pub(crate) mod show;
 pub(crate) mod time;
 pub(crate) mod todo;
 
-use crate::command::{Reply, RunFault};
+use crate::command::{Change, Question, Reply, RunFault};
 use crate::commands::archive::plan_archive;
 use crate::commands::capture::plan_capture;
 use crate::commands::clock::{plan_clock_in, plan_clock_out};
@@ -30,7 +28,6 @@ use crate::commands::show::show;
 use crate::commands::time::time;
 use crate::commands::todo::plan_todo;
 use crate::files::Files;
-use crate::kind::{Change, Question};
 use org_disk::Disk;
 use org_outline::States;
 use org_texts::Plan;
@@ -46,19 +43,18 @@ use org_texts::Plan;
 pub fn plan<'a, D: Disk>(
     files: &mut Files<D>,
     states: &States,
-    change: &Change<'a>,
+    change: &'a Change<'_>,
 ) -> Result<Option<Plan<'a>>, RunFault>
     requires between { AreReadyForCommand files.old }
-    ensures { PlansOrStaysAs D.Disk states.now files.old
-        (λ s. outcome s (changing change.now)) result files.new }
+    ensures { PlansOrStaysFor D.Disk states.now files.old change.now result files.new }
 {
-    match *change {
+    match change {
         Change::Capture(command) => plan_capture(files, states, command).map(Some),
         Change::Refile(command) => plan_refile(files, states, command).map(Some),
         Change::Todo(command) => plan_todo(files, states, command),
         Change::Archive(command) => plan_archive(files, states, command).map(Some),
         Change::ClockIn(command) => plan_clock_in(files, states, command),
-        Change::ClockOut { moment } => plan_clock_out(files, states, moment),
+        Change::ClockOut { moment } => plan_clock_out(files, states, *moment),
         Change::Edit(command) => plan_edit(files, command).map(Some),
     }
 }
@@ -74,12 +70,12 @@ pub fn plan<'a, D: Disk>(
 pub fn answer<D: Disk>(
     files: &mut Files<D>,
     states: &States,
-    question: &Question<'_>,
+    question: &Question,
 ) -> Result<Reply, RunFault>
     requires between { AreReadyForCommand files.old }
-    ensures { AnswersQuestion D.Disk states.now files.old (asking question.now) result files.new }
+    ensures { AnswersQuestion D.Disk states.now files.old question.now result files.new }
 {
-    match *question {
+    match question {
         Question::Time { file, path } => time(files, states, file, path),
         Question::Show { file } => show(files, file),
     }

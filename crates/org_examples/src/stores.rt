@@ -7,7 +7,7 @@ use org_disk::FileName;
 use org_folder::org_file;
 use org_outline::States;
 use org_serve::{Counted, ServeEnd, read_command, serve};
-use org_store::{Command, Edit, Group, Reply, Store};
+use org_store::{Change, Command, Edit, Group, Reply, Store};
 use org_test_disks::MemoryDisk;
 use std::test::Fail;
 
@@ -50,7 +50,7 @@ fn store_run(rt: HostRuntime) -> Result<(), Fail> {
     let line = b"todo\ta.org\tA\tDONE\t2026-07-01 10:00";
     let todo = read_command(alloc, line).expect(&rt, "a command");
     assert!(rt; matches!(store.run(&todo), Ok(Reply::Done(1))));
-    let clock_out = Command::ClockOut { moment: now };
+    let clock_out = Command::Change(Change::ClockOut { moment: now });
     assert!(rt; store.run(&clock_out).is_err());
     assert_eq!(rt; store.accepted(), 1);
     // Not shown:
@@ -85,10 +85,12 @@ fn reads_a_command(rt: HostRuntime) -> Result<(), Fail> {
     let alloc = rt.alloc();
     // Shown:
     let edit = read_command(alloc, b"edit\ta.org\t2\tA\tC")?;
-    assert!(rt; matches!(&edit, Command::Edit(Edit { at: 2, .. })));
+    assert!(rt; matches!(&edit, Command::Change(Change::Edit(Edit { at: 2, .. }))));
     assert!(rt; read_command(alloc, b"edit\ta.org").is_err());
     // Not shown:
-    assert!(rt; matches!(&edit, Command::Edit(edit) if edit.new.as_slice() == b"C".as_slice()));
+    assert!(rt;
+        matches!(&edit, Command::Change(Change::Edit(edit)) if edit.new.as_slice() == b"C".as_slice())
+    );
     drop(edit);
     Ok(())
 }

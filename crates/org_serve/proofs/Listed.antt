@@ -1,6 +1,6 @@
 -- What holds of each of the texts by which a run is reported, where accepted commands keep it: they are
 -- within the limit, and after refiles alone they have the same nodes.
-use Rattle.std.proofs.Common.{◌≡◌, inl, inr, ⊎_elim, ℕ, ◌+◌, true, List, [], ◌∷◌, ◌++◌, Option, Some, None, Result, Ok, Err, refl, sym, ap, ◌∙◌, subst, arith}
+use Rattle.std.proofs.Common.{◌≡◌, inl, inr, ⊎_elim, ℕ, ◌+◌, true, List, [], ◌∷◌, ◌++◌, Result, Ok, Err, refl, sym, ap, ◌∙◌, subst, arith}
 use Rattle.org_disk.specs.declared.disk.Disk.{Ghosts}
 use Rattle.std.specs.Prelude.{All}
 use Rattle.std.specs.List.{AllByRecursion, IsDistinct}
@@ -14,13 +14,13 @@ use Rattle.org_commands.specs.declared.command.Reply.{Reply}
 use Rattle.org_commands.specs.declared.command.Reply.TheVariants.{Done, Safe, Text, Time}
 use Rattle.org_commands.specs.declared.command.RunFault.{RunFault}
 use Rattle.org_commands.specs.declared.command.RunFault.TheVariants.{Refused, OutOfMemory, Device, Broken}
-use Rattle.org_commands.specs.InOrder.{text_at}
 use Rattle.org_store.specs.History.{Trace, Adds, Lists, HoldsPrefix}
 use Rattle.org_store.specs.OnePlace.{HaveSameNodes, HasNodesOf, HasNodesOfPrefix, IsSessionOf}
-use Rattle.org_commands.specs.Outcome.{Accepts, AsksToSettle, IsAccepted, outcome, show}
+use Rattle.org_commands.specs.Outcome.{Accepts, AsksToSettle, IsAccepted, outcome}
 use Rattle.org_store.specs.Reopening.{IsOpenable, AreSmall}
 use Rattle.org_commands.specs.Session.{Session}
 use Rattle.org_commands.specs.Step.{Step}
+use Rattle.org_store.proofs.Accepted.{IsAnswering, question_answers}
 use Rattle.org_store.proofs.Follows.{step_setting}
 use Rattle.org_store.proofs.History.{Texts, lists_step}
 use Rattle.org_store.proofs.Listed.{KeptNodes, each_at, keeps_nodes, keeps_small, prefix_nodes, prefix_opens, prefix_same}
@@ -120,10 +120,6 @@ any_line : (lines : List (List ℕ)) → AllByRecursion Any lines
 any_line [] = tt
 any_line (line ∷ lines) = (tt, any_line lines)
 
-shows : (old : Option (List ℕ)) (names files : List (List ℕ)) → show old ≡ Accepts names files → ⊥
-shows None names files accepts = absurd (cc)
-shows (Some text) names files accepts = absurd (cc)
-
 settles : (names files : List (List ℕ)) → AsksToSettle ≡ Accepts names files → ⊥
 settles names files accepts = absurd (cc)
 
@@ -132,7 +128,7 @@ line_keeps : (names base : List (List ℕ)) → IsDistinct bytes_eq names → (s
 line_keeps names base apart s line command files same only read kept accepts = ⊎_elim
     (λ refile. keeps_nodes names base apart s command files same refile kept accepts)
     (⊎_elim
-    (λ shown. absurd (shows (text_at s.names s.files shown.0) accepts.0 files (subst (λ (c : Command). outcome s c ≡ Accepts accepts.0 files) shown.1 accepts.1)))
+    (λ asked. absurd (subst IsAnswering (subst (λ (c : Command). outcome s c ≡ Accepts accepts.0 files) asked.1 accepts.1) (question_answers s asked.0)))
     (λ settle. absurd (settles accepts.0 files (subst (λ (c : Command). outcome s c ≡ Accepts accepts.0 files) settle accepts.1))))
     (only command read.1)
 

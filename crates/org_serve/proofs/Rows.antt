@@ -8,7 +8,9 @@ use Rattle.org_outline.specs.declared.steps.Step.{Step}
 use Rattle.org_capture.specs.declared.target.Target.{Target}
 use Rattle.org_capture.specs.declared.target.Target.TheVariants.{Top, Head, Path, Date}
 use Rattle.org_stamp.specs.Calendar.{Moment, at_minute, civil_day}
-use Rattle.org_commands.specs.declared.command.Command.TheVariants.{Capture, Refile, Show}
+use Rattle.org_commands.specs.declared.command.Command.TheVariants.{Change, Ask}
+use Rattle.org_commands.specs.declared.command.Change.TheVariants.{Capture, Refile}
+use Rattle.org_commands.specs.declared.command.Question.TheVariants.{Show}
 use Rattle.org_commands.specs.declared.command.RunFault.TheVariants.{Device}
 use Rattle.org_serve.specs.Grammar.{command_of, unescaped, escaped, moment_of, file_of, path_of, step_of, path_field, show_of, capture_of, refile_of, target_of, place_of, position_of}
 use Rattle.org_serve.specs.Lines.{cut}
@@ -123,17 +125,17 @@ each_of_moments : map (λ row. moment_of row.0) moments ≡ map (λ row. row.1) 
 unfolding moment_of
 each_of_moments = refl
 
-shows : is_utf8 (codes "inbox.org") ≡ true → command_of (codes "show\tinbox.org") ≡ Some (Show (codes "inbox.org"))
+shows : is_utf8 (codes "inbox.org") ≡ true → command_of (codes "show\tinbox.org") ≡ Some (Ask (Show (codes "inbox.org")))
 unfolding show_of file_of
 shows utf8 = rw utf8 refl
 
 captures : is_utf8 (codes "inbox.org") ≡ true → command_of (codes "capture\tinbox.org\ttop\tlast\t2026-07-01 10:00\t* TODO Call Ann\t")
-    ≡ Some (Capture (record { file = codes "inbox.org"; target = Top; place = Last; moment = at_minute (civil_day 2026 7 1) 600; template = codes "* TODO Call Ann"; initial = [] }))
+    ≡ Some (Change (Capture (record { file = codes "inbox.org"; target = Top; place = Last; moment = at_minute (civil_day 2026 7 1) 600; template = codes "* TODO Call Ann"; initial = [] })))
 unfolding capture_of file_of target_of place_of moment_of
 captures utf8 = rw utf8 refl
 
 refiles : is_utf8 (codes "a.org") ≡ true → is_utf8 (codes "b.org") ≡ true → command_of (codes "refile\ta.org\tA/B\tb.org\tT\tfirst")
-    ≡ Some (Refile (record { file = codes "a.org"; path = only (codes "A") ∷ only (codes "B") ∷ []; to_file = codes "b.org"; to_path = only (codes "T") ∷ []; place = First }))
+    ≡ Some (Change (Refile (record { file = codes "a.org"; path = only (codes "A") ∷ only (codes "B") ∷ []; to_file = codes "b.org"; to_path = only (codes "T") ∷ []; place = First })))
 unfolding refile_of file_of path_of step_of place_of
 refiles a b = rw (a, b) refl
 

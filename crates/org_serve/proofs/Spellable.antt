@@ -17,7 +17,9 @@ use Rattle.org_capture.specs.declared.target.Target.{Target}
 use Rattle.org_capture.specs.declared.target.Target.TheVariants.{Top, Head, Path, Date}
 use Rattle.org_stamp.specs.Calendar.{Moment, at_minute, civil_day}
 use Rattle.org_commands.specs.declared.command.Command.{Command}
-use Rattle.org_commands.specs.declared.command.Command.TheVariants.{ClockOut, Show, Settle}
+use Rattle.org_commands.specs.declared.command.Command.TheVariants.{Change, Ask, Settle}
+use Rattle.org_commands.specs.declared.command.Change.TheVariants.{ClockOut}
+use Rattle.org_commands.specs.declared.command.Question.TheVariants.{Show}
 use Rattle.org_serve.specs.Grammar.{IsWritten, unescaped, file_of, digits_of, number_of, mark_from, step_at, step_of, steps_in, path_of, begins_with, target_of, place_of, leads_with_zero, position_of, date_of, time_of, is_day, moment_at, moment_of, show_of, capture_of, refile_of, todo_of, edit_of, archive_of, clock_in_of, clock_out_of, clocked_of, command_of, command_of_fields}
 use Rattle.org_serve.specs.Spelling.{IsFile, AreSteps, IsPath, IsMoment, IsPosition, IsTarget, IsSpellable}
 use Rattle.org_splice.proofs.Ends.{both}
@@ -206,11 +208,11 @@ Read o command = o ≡ Some command → IsSpellable command
 
 show_is : (file : List ℕ) (c : Command) → Read (show_of file) c
 unfolding show_of
-show_is file c e = let f = map_some Show (file_of file) c e in subst IsSpellable f.2 (file_is file f.0 f.1)
+show_is file c e = let f = map_some (λ f. Ask (Show f)) (file_of file) c e in subst IsSpellable f.2 (file_is file f.0 f.1)
 
 clock_out_is : (moment : List ℕ) (c : Command) → Read (clock_out_of moment) c
 unfolding clock_out_of
-clock_out_is moment c e = let m = map_some ClockOut (moment_of moment) c e in subst IsSpellable m.2 (moment_is moment m.0 m.1)
+clock_out_is moment c e = let m = map_some (λ m. Change (ClockOut m)) (moment_of moment) c e in subst IsSpellable m.2 (moment_is moment m.0 m.1)
 
 clocked_is : (file path : List ℕ) (c : Command) → Read (clocked_of file path) c
 unfolding clocked_of

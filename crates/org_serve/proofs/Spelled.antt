@@ -18,9 +18,13 @@ use Rattle.org_capture.specs.declared.target.Target.TheVariants.{Top, Head, Path
 use Rattle.org_stamp.specs.Calendar.{CivilDay, Moment, IsDay}
 use Rattle.org_stamp.specs.Stamp.{two_digits, clock_text, date_text}
 use Rattle.org_commands.specs.declared.command.Command.{Command}
-use Rattle.org_commands.specs.declared.command.Command.TheVariants.{Capture, Refile, Todo, ClockIn, ClockOut, Edit, Time, Archive, Show, Settle}
+use Rattle.org_commands.specs.declared.command.Command.TheVariants as command
+use Rattle.org_commands.specs.declared.command.Change.{Change}
+use Rattle.org_commands.specs.declared.command.Change.TheVariants.{Capture, Refile, Todo, ClockIn, ClockOut, Edit, Archive}
+use Rattle.org_commands.specs.declared.command.Question.{Question}
+use Rattle.org_commands.specs.declared.command.Question.TheVariants.{Time, Show}
 use Rattle.org_serve.specs.Grammar.{IsWritten, escaped, file_of, number_field, step_field, path_of, path_field, target_of, place_of, leads_with_zero, position_of, pair_of, date_of, time_of, moment_at, moment_of, show_of, capture_of, refile_of, todo_of, edit_of, archive_of, clock_in_of, clock_out_of, clocked_of, command_of, command_of_fields}
-use Rattle.org_serve.specs.Spelling.{place_field, moment_field, target_field, line_of, IsFile, AreSteps, IsPath, IsMoment, IsPosition, IsTarget, IsSpellable}
+use Rattle.org_serve.specs.Spelling.{place_field, moment_field, target_field, fields_of_change, fields_of_question, line_of, IsFile, AreSteps, IsPath, IsMoment, IsPosition, IsTarget, IsSpellableChange, IsSpellableQuestion, IsSpellable}
 use Rattle.org_serve.proofs.Escapes.{unescaped-escaped}
 use Rattle.org_serve.proofs.Paths.{path-written}
 use Rattle.org_serve.proofs.Steps.{all_digits_are, numerals, step-written}
@@ -172,36 +176,43 @@ split_joined field (next ∷ fields) all =
 fields_read : (word : List ℕ) (fields : List (List ℕ)) → list_all (λ b. nat_le 10 b) word ≡ true → AllByRecursion HasNoTab fields → command_of (join_with_byte 9 (word ∷ fields)) ≡ command_of_fields (word ∷ fields)
 fields_read word fields plain all = ap command_of_fields (split_joined word fields (word_no_tab word plain, all))
 
-pub command_read : (command : Command) → IsSpellable command → command_of (line_of command) ≡ Some command
-unfolding show_of capture_of refile_of todo_of edit_of archive_of clock_in_of clock_out_of clocked_of
-command_read (Show file) is = fields_read (codes "show") (escaped file ∷ []) refl (no_tab-escaped file, tt) ∙ rw (file_read file is) refl
-command_read (Capture c) is =
+change_read : (change : Change) → IsSpellableChange change → command_of (join_with_byte 9 (fields_of_change change)) ≡ Some (command.Change change)
+unfolding capture_of refile_of todo_of edit_of archive_of clock_in_of clock_out_of
+change_read (Capture c) is =
     fields_read (codes "capture") (escaped c.file ∷ target_field c.target ∷ place_field c.place ∷ moment_field c.moment ∷ escaped c.template ∷ escaped c.initial ∷ []) refl
     (no_tab-escaped c.file, (no_tab-target c.target is.1, (no_tab-place c.place, (no_tab-moment c.moment, (no_tab-escaped c.template, (no_tab-escaped c.initial, tt))))))
     ∙ rw (file_read c.file is.0, target_read c.target is.1, place_read c.place, moment_read c.moment is.2, unescaped-escaped c.template, unescaped-escaped c.initial) refl
-command_read (Refile c) is =
+change_read (Refile c) is =
     fields_read (codes "refile") (escaped c.file ∷ path_field c.path ∷ escaped c.to_file ∷ path_field c.to_path ∷ place_field c.place ∷ []) refl
     (no_tab-escaped c.file, (no_tab-path c.path is.1.steps, (no_tab-escaped c.to_file, (no_tab-path c.to_path is.3.steps, (no_tab-place c.place, tt)))))
     ∙ rw (file_read c.file is.0, path_read c.path is.1, file_read c.to_file is.2, path_read c.to_path is.3, place_read c.place) refl
-command_read (Todo c) is =
+change_read (Todo c) is =
     fields_read (codes "todo") (escaped c.file ∷ path_field c.path ∷ escaped c.state ∷ moment_field c.moment ∷ []) refl
     (no_tab-escaped c.file, (no_tab-path c.path is.1.steps, (no_tab-escaped c.state, (no_tab-moment c.moment, tt))))
     ∙ rw (file_read c.file is.0, path_read c.path is.1, unescaped-escaped c.state, moment_read c.moment is.2) refl
-command_read (Edit c) is =
+change_read (Archive c) is =
+    fields_read (codes "archive") (escaped c.file ∷ path_field c.path ∷ moment_field c.moment ∷ []) refl (no_tab-escaped c.file, (no_tab-path c.path is.1.steps, (no_tab-moment c.moment, tt)))
+    ∙ rw (file_read c.file is.0, path_read c.path is.1, moment_read c.moment is.2) refl
+change_read (ClockIn c) is =
+    fields_read (codes "clock-in") (escaped c.file ∷ path_field c.path ∷ moment_field c.moment ∷ []) refl (no_tab-escaped c.file, (no_tab-path c.path is.1.steps, (no_tab-moment c.moment, tt)))
+    ∙ rw (file_read c.file is.0, path_read c.path is.1, moment_read c.moment is.2) refl
+change_read (ClockOut m) is = fields_read (codes "clock-out") (moment_field m ∷ []) refl (no_tab-moment m, tt) ∙ rw (moment_read m is) refl
+change_read (Edit c) is =
     let high = is.1 in
     fields_read (codes "edit") (escaped c.file ∷ decimal c.at ∷ escaped c.old ∷ escaped c.new ∷ []) refl
     (no_tab-escaped c.file, (no_tab-decimal c.at (omega (arith, high)), (no_tab-escaped c.old, (no_tab-escaped c.new, tt))))
     ∙ rw (file_read c.file is.0, position_read c.at is.1, unescaped-escaped c.old, unescaped-escaped c.new) refl
-command_read (Archive c) is =
-    fields_read (codes "archive") (escaped c.file ∷ path_field c.path ∷ moment_field c.moment ∷ []) refl (no_tab-escaped c.file, (no_tab-path c.path is.1.steps, (no_tab-moment c.moment, tt)))
-    ∙ rw (file_read c.file is.0, path_read c.path is.1, moment_read c.moment is.2) refl
-command_read (ClockIn c) is =
-    fields_read (codes "clock-in") (escaped c.file ∷ path_field c.path ∷ moment_field c.moment ∷ []) refl (no_tab-escaped c.file, (no_tab-path c.path is.1.steps, (no_tab-moment c.moment, tt)))
-    ∙ rw (file_read c.file is.0, path_read c.path is.1, moment_read c.moment is.2) refl
-command_read (ClockOut m) is = fields_read (codes "clock-out") (moment_field m ∷ []) refl (no_tab-moment m, tt) ∙ rw (moment_read m is) refl
-command_read (Time file path) is =
+
+question_read : (question : Question) → IsSpellableQuestion question → command_of (join_with_byte 9 (fields_of_question question)) ≡ Some (command.Ask question)
+unfolding show_of clocked_of
+question_read (Time file path) is =
     fields_read (codes "time") (escaped file ∷ path_field path ∷ []) refl (no_tab-escaped file, (no_tab-path path is.1.steps, tt)) ∙ rw (file_read file is.0, path_read path is.1) refl
-command_read Settle is = fields_read (codes "settle") [] refl tt
+question_read (Show file) is = fields_read (codes "show") (escaped file ∷ []) refl (no_tab-escaped file, tt) ∙ rw (file_read file is) refl
+
+pub command_read : (command : Command) → IsSpellable command → command_of (line_of command) ≡ Some command
+command_read (command.Change change) is = change_read change is
+command_read (command.Ask question) is = question_read question is
+command_read command.Settle is = fields_read (codes "settle") [] refl tt
 
 -- no line spells two
 pub one_command : (a b : Command) → IsSpellable a → IsSpellable b → line_of a ≡ line_of b → a ≡ b

@@ -14,7 +14,9 @@ use Rattle.org_capture.specs.declared.target.Target.{Target}
 use Rattle.org_capture.specs.declared.target.Target.TheVariants.{Top, Head, Path, Date}
 use Rattle.org_stamp.specs.Calendar.{Moment, at_minute, civil_day}
 use Rattle.org_commands.specs.declared.command.Command.{Command}
-use Rattle.org_commands.specs.declared.command.Command.TheVariants.{Capture, Refile, Todo, ClockIn, ClockOut, Edit, Time, Archive, Show, Settle}
+use Rattle.org_commands.specs.declared.command.Command.TheVariants.{Change, Ask, Settle}
+use Rattle.org_commands.specs.declared.command.Change.TheVariants.{Capture, Refile, Todo, ClockIn, ClockOut, Edit, Archive}
+use Rattle.org_commands.specs.declared.command.Question.TheVariants.{Time, Show}
 use Rattle.org_fault.specs.declared.fault.Fault.{Fault}
 use Rattle.org_serve.specs.declared.fault.BadLine.{BadLine}
 use Rattle.org_fault.specs.declared.fault.Fault.TheVariants.{Refused, OutOfMemory}
@@ -205,14 +207,15 @@ moment_of field =
 
 -- `show` FILE
 unfoldable pub show_of : List ℕ → Option Command
-show_of file = option_map Show (file_of file)
+show_of file = option_map (λ f. Ask (Show f)) (file_of file)
 
 -- `capture` FILE TARGET PLACE MOMENT TEMPLATE INITIAL
 unfoldable pub capture_of : List ℕ → List ℕ → List ℕ → List ℕ → List ℕ → List ℕ → Option Command
 capture_of file target place moment template initial =
     option_and_then (λ f. option_and_then (λ t. option_and_then (λ p.
     option_and_then (λ m. option_and_then (λ e. option_map (λ i.
-    Capture (record { file = f; target = t; place = p; moment = m; template = e; initial = i }))
+    Change (Capture
+    (record { file = f; target = t; place = p; moment = m; template = e; initial = i })))
     (unescaped initial)) (unescaped template)) (moment_of moment))
     (place_of place)) (target_of target)) (file_of file)
 
@@ -221,7 +224,7 @@ unfoldable pub refile_of : List ℕ → List ℕ → List ℕ → List ℕ → L
 refile_of file path to_file to_path place =
     option_and_then (λ f. option_and_then (λ p.
     option_and_then (λ g. option_and_then (λ q. option_map (λ l.
-    Refile (record { file = f; path = p; to_file = g; to_path = q; place = l }))
+    Change (Refile (record { file = f; path = p; to_file = g; to_path = q; place = l })))
     (place_of place)) (path_of to_path)) (file_of to_file))
     (path_of path)) (file_of file)
 
@@ -229,38 +232,38 @@ refile_of file path to_file to_path place =
 unfoldable pub todo_of : List ℕ → List ℕ → List ℕ → List ℕ → Option Command
 todo_of file path state moment =
     option_and_then (λ f. option_and_then (λ p. option_and_then (λ s. option_map (λ m.
-    Todo (record { file = f; path = p; state = s; moment = m }))
+    Change (Todo (record { file = f; path = p; state = s; moment = m })))
     (moment_of moment)) (unescaped state)) (path_of path)) (file_of file)
 
 -- `edit` FILE AT OLD NEW
 unfoldable pub edit_of : List ℕ → List ℕ → List ℕ → List ℕ → Option Command
 edit_of file at old new =
     option_and_then (λ f. option_and_then (λ a. option_and_then (λ o. option_map (λ n.
-    Edit (record { file = f; at = a; old = o; new = n }))
+    Change (Edit (record { file = f; at = a; old = o; new = n })))
     (unescaped new)) (unescaped old)) (position_of at)) (file_of file)
 
 -- `archive` FILE PATH MOMENT
 unfoldable pub archive_of : List ℕ → List ℕ → List ℕ → Option Command
 archive_of file path moment =
     option_and_then (λ f. option_and_then (λ p. option_map (λ m.
-    Archive (record { file = f; path = p; moment = m }))
+    Change (Archive (record { file = f; path = p; moment = m })))
     (moment_of moment)) (path_of path)) (file_of file)
 
 -- `clock-in` FILE PATH MOMENT
 unfoldable pub clock_in_of : List ℕ → List ℕ → List ℕ → Option Command
 clock_in_of file path moment =
     option_and_then (λ f. option_and_then (λ p. option_map (λ m.
-    ClockIn (record { file = f; path = p; moment = m }))
+    Change (ClockIn (record { file = f; path = p; moment = m })))
     (moment_of moment)) (path_of path)) (file_of file)
 
 -- `clock-out` MOMENT
 unfoldable pub clock_out_of : List ℕ → Option Command
-clock_out_of moment = option_map ClockOut (moment_of moment)
+clock_out_of moment = option_map (λ m. Change (ClockOut m)) (moment_of moment)
 
 -- `time` FILE PATH
 unfoldable pub clocked_of : List ℕ → List ℕ → Option Command
 clocked_of file path =
-    option_and_then (λ f. option_map (λ p. Time f p) (path_of path)) (file_of file)
+    option_and_then (λ f. option_map (λ p. Ask (Time f p)) (path_of path)) (file_of file)
 
 -- a line of these fields; any other word or number of fields is no command
 abbrev pub command_of_fields : List (List ℕ) → Option Command

@@ -2,7 +2,8 @@
 use Rattle.std.specs.Prelude.{◌≡◌, ◌⊎◌, ℕ, ◌≤◌, List, ◌∷◌, ◌++◌, slice_get, IsSomeAnd, Some}
 use Rattle.org_journal.specs.Recovered.{Image}
 use Rattle.org_commands.specs.declared.command.Command.{Command}
-use Rattle.org_commands.specs.declared.command.Command.TheVariants.{Show, Settle}
+use Rattle.org_commands.specs.declared.command.Command.TheVariants.{Ask, Settle}
+use Rattle.org_commands.specs.declared.command.Question.{Question}
 use Rattle.org_commands.specs.Session.{Session, Holds}
 use Rattle.org_store.specs.Calls.{Machine}
 use Rattle.org_store.specs.History.{Trace}
@@ -62,9 +63,9 @@ pub record HoldsSettled {D : Type 0} (m : Machine (Trace D)) (first : Session) (
   pub accepted : count ≤ later.store.session.accepted
   pub holds : IsSomeAnd (slice_get later.texts count) (λ texts. Holds first others texts image)
 
--- Where the line is a command, it is a refile, a show or a settling: it moves what is there, and
--- makes nothing new.
+-- Where the line is a command, it is a refile, a question or a settling: it moves what is there,
+-- and makes nothing new.
 abbrev pub OnlyRefiles : List ℕ → Type 0
 OnlyRefiles line =
     (command : Command) → command_of line ≡ Some command
-    → IsRefile command ⊎ ((file : List ℕ) × (command ≡ Show file)) ⊎ (command ≡ Settle)
+    → IsRefile command ⊎ ((question : Question) × (command ≡ Ask question)) ⊎ (command ≡ Settle)

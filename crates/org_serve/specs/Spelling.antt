@@ -11,7 +11,11 @@ use Rattle.org_capture.specs.declared.target.Target.TheVariants.{Top, Head, Path
 use Rattle.org_stamp.specs.Calendar.{Moment, IsDay}
 use Rattle.org_stamp.specs.Stamp.{IsMinute, clock_text, date_text}
 use Rattle.org_commands.specs.declared.command.Command.{Command}
-use Rattle.org_commands.specs.declared.command.Command.TheVariants.{Capture, Refile, Todo, ClockIn, ClockOut, Edit, Time, Archive, Show, Settle}
+use Rattle.org_commands.specs.declared.command.Command.TheVariants as command
+use Rattle.org_commands.specs.declared.command.Change.{Change}
+use Rattle.org_commands.specs.declared.command.Change.TheVariants.{Capture, Refile, Todo, ClockIn, ClockOut, Edit, Archive}
+use Rattle.org_commands.specs.declared.command.Question.{Question}
+use Rattle.org_commands.specs.declared.command.Question.TheVariants.{Time, Show}
 use Rattle.org_serve.specs.Grammar.{IsWritten, escaped, path_field, step_field}
 
 -- `first` or `last`
@@ -31,26 +35,34 @@ target_field (Path path) = codes "path:" ++ path_field path
 target_field (Date []) = codes "date"
 target_field (Date (step ∷ path)) = codes "date:" ++ path_field (step ∷ path)
 
--- the word and the other fields
-abbrev pub fields_of : Command → List (List ℕ)
-fields_of (Show file) = codes "show" ∷ escaped file ∷ []
-fields_of (Capture c) =
+-- the word and the other fields of a change
+abbrev pub fields_of_change : Change → List (List ℕ)
+fields_of_change (Capture c) =
     codes "capture" ∷ escaped c.file ∷ target_field c.target ∷ place_field c.place
     ∷ moment_field c.moment ∷ escaped c.template ∷ escaped c.initial ∷ []
-fields_of (Refile c) =
+fields_of_change (Refile c) =
     codes "refile" ∷ escaped c.file ∷ path_field c.path ∷ escaped c.to_file
     ∷ path_field c.to_path ∷ place_field c.place ∷ []
-fields_of (Todo c) =
+fields_of_change (Todo c) =
     codes "todo" ∷ escaped c.file ∷ path_field c.path ∷ escaped c.state ∷ moment_field c.moment ∷ []
-fields_of (Edit c) =
-    codes "edit" ∷ escaped c.file ∷ decimal c.at ∷ escaped c.old ∷ escaped c.new ∷ []
-fields_of (Archive c) =
+fields_of_change (Archive c) =
     codes "archive" ∷ escaped c.file ∷ path_field c.path ∷ moment_field c.moment ∷ []
-fields_of (ClockIn c) =
+fields_of_change (ClockIn c) =
     codes "clock-in" ∷ escaped c.file ∷ path_field c.path ∷ moment_field c.moment ∷ []
-fields_of (ClockOut m) = codes "clock-out" ∷ moment_field m ∷ []
-fields_of (Time file path) = codes "time" ∷ escaped file ∷ path_field path ∷ []
-fields_of Settle = codes "settle" ∷ []
+fields_of_change (ClockOut m) = codes "clock-out" ∷ moment_field m ∷ []
+fields_of_change (Edit c) =
+    codes "edit" ∷ escaped c.file ∷ decimal c.at ∷ escaped c.old ∷ escaped c.new ∷ []
+
+-- .. and of a question
+abbrev pub fields_of_question : Question → List (List ℕ)
+fields_of_question (Time file path) = codes "time" ∷ escaped file ∷ path_field path ∷ []
+fields_of_question (Show file) = codes "show" ∷ escaped file ∷ []
+
+-- .. and of any command
+abbrev pub fields_of : Command → List (List ℕ)
+fields_of (command.Change change) = fields_of_change change
+fields_of (command.Ask question) = fields_of_question question
+fields_of command.Settle = codes "settle" ∷ []
 
 -- the fields with tabs between
 abbrev pub line_of : Command → List ℕ
@@ -87,15 +99,23 @@ IsTarget (Head step) = IsWritten step.number
 IsTarget (Path path) = IsPath path
 IsTarget (Date path) = AreSteps path
 
--- each part of the command can be spelled; any bytes can be a state, a template or a text
+-- each part of the change can be spelled; any bytes can be a state, a template or a text
+abbrev pub IsSpellableChange : Change → Type 0
+IsSpellableChange (Capture c) = IsFile c.file × IsTarget c.target × IsMoment c.moment
+IsSpellableChange (Refile c) = IsFile c.file × IsPath c.path × IsFile c.to_file × IsPath c.to_path
+IsSpellableChange (Todo c) = IsFile c.file × IsPath c.path × IsMoment c.moment
+IsSpellableChange (Archive c) = IsFile c.file × IsPath c.path × IsMoment c.moment
+IsSpellableChange (ClockIn c) = IsFile c.file × IsPath c.path × IsMoment c.moment
+IsSpellableChange (ClockOut m) = IsMoment m
+IsSpellableChange (Edit c) = IsFile c.file × IsPosition c.at
+
+-- .. of the question
+abbrev pub IsSpellableQuestion : Question → Type 0
+IsSpellableQuestion (Time file path) = IsFile file × IsPath path
+IsSpellableQuestion (Show file) = IsFile file
+
+-- .. of the command
 abbrev pub IsSpellable : Command → Type 0
-IsSpellable (Show file) = IsFile file
-IsSpellable (Capture c) = IsFile c.file × IsTarget c.target × IsMoment c.moment
-IsSpellable (Refile c) = IsFile c.file × IsPath c.path × IsFile c.to_file × IsPath c.to_path
-IsSpellable (Todo c) = IsFile c.file × IsPath c.path × IsMoment c.moment
-IsSpellable (Edit c) = IsFile c.file × IsPosition c.at
-IsSpellable (Archive c) = IsFile c.file × IsPath c.path × IsMoment c.moment
-IsSpellable (ClockIn c) = IsFile c.file × IsPath c.path × IsMoment c.moment
-IsSpellable (ClockOut m) = IsMoment m
-IsSpellable (Time file path) = IsFile file × IsPath path
-IsSpellable Settle = ⊤
+IsSpellable (command.Change change) = IsSpellableChange change
+IsSpellable (command.Ask question) = IsSpellableQuestion question
+IsSpellable command.Settle = ⊤

@@ -189,8 +189,8 @@ pub fn only_own_files_are_written<D: Disk>()
 /// Each node in one place, in what a crash leaves while lines are served
 /// (`crashes_leave_a_prefix`): each node is there as often, over all files of the store, as after
 /// one prefix of the accepted commands, which has all that were acknowledged when serving began.
-/// Where no line that is run is a command but a refile, a show or a settling, that is as often as
-/// when serving began. Other commands make nodes, and an edit may lose some.
+/// Where no line that is run is a command but a refile, a question or a settling, that is as often
+/// as when serving began. Other commands make nodes, and an edit may lose some.
 pub fn one_place<D: Disk>()
     ensures any_moment { (given : List (List ℕ)) (first last : Trace D) (end : ServeEnd)
         (io : Exchange) (others image : Image) (least : ℕ)

@@ -12,7 +12,7 @@ use memchr::memchr;
 use org_disk::FileName;
 use org_fault::Fault;
 use org_outline::Path;
-use org_store::{Archive, Capture, ClockIn, Command, Edit, Refile, Todo};
+use org_store::{Archive, Capture, Change, ClockIn, Command, Edit, Question, Refile, Todo};
 use std::alloc::Global;
 
 /// The most fields of a command, which a capture has.
@@ -29,7 +29,7 @@ const MOST_FIELDS: usize = 7;
 ///
 /// ```
 /// let edit = read_command(alloc, b"edit\ta.org\t2\tA\tC")?;
-/// assert!(rt; matches!(&edit, Command::Edit(Edit { at: 2, .. })));
+/// assert!(rt; matches!(&edit, Command::Change(Change::Edit(Edit { at: 2, .. }))));
 /// assert!(rt; read_command(alloc, b"edit\ta.org").is_err());
 /// ```
 pub fn read_command(alloc: Global, line: &[u8]) -> Result<Command<'_>, Fault<BadLine>>
@@ -103,7 +103,7 @@ fn show<'a>(alloc: Global, name: &[u8]) -> Result<Command<'a>, Fault<BadLine>>
     ensures { Parses result (show_of name.now) }
 {
     let file = file(alloc, name)?;
-    Ok(Command::Show { file })
+    Ok(Command::Ask(Question::Show { file }))
 }
 
 #[tactic(auto, unfolding(crate::specs::Grammar::capture_of))]
@@ -124,14 +124,14 @@ fn capture<'a>(
     let target = target(alloc, to)?;
     let template = text(alloc, template)?;
     let initial = text(alloc, initial)?;
-    Ok(Command::Capture(Capture {
+    Ok(Command::Change(Change::Capture(Capture {
         file,
         target,
         place,
         moment,
         template,
         initial,
-    }))
+    })))
 }
 
 #[tactic(auto, unfolding(crate::specs::Grammar::refile_of))]
@@ -148,13 +148,13 @@ fn refile<'a>(
     let place = place(at).ok_or(Fault::Refused(BadLine))?;
     let (file, path) = node(alloc, name, titles)?;
     let (to_file, to_path) = node(alloc, to_name, to_titles)?;
-    Ok(Command::Refile(Refile {
+    Ok(Command::Change(Change::Refile(Refile {
         file,
         path,
         to_file,
         to_path,
         place,
-    }))
+    })))
 }
 
 #[tactic(auto, unfolding(crate::specs::Grammar::todo_of))]
@@ -170,12 +170,12 @@ fn todo<'a>(
     let moment = moment(when).ok_or(Fault::Refused(BadLine))?;
     let (file, path) = node(alloc, name, titles)?;
     let state = text(alloc, state)?;
-    Ok(Command::Todo(Todo {
+    Ok(Command::Change(Change::Todo(Todo {
         file,
         path,
         state,
         moment,
-    }))
+    })))
 }
 
 #[tactic(auto, unfolding(crate::specs::Grammar::edit_of))]
@@ -192,7 +192,7 @@ fn edit<'a>(
     let file = file(alloc, name)?;
     let old = text(alloc, old)?;
     let new = text(alloc, new)?;
-    Ok(Command::Edit(Edit { file, at, old, new }))
+    Ok(Command::Change(Change::Edit(Edit { file, at, old, new })))
 }
 
 #[tactic(auto, unfolding(crate::specs::Grammar::archive_of))]
@@ -206,7 +206,7 @@ fn archive<'a>(
 {
     let moment = moment(when).ok_or(Fault::Refused(BadLine))?;
     let (file, path) = node(alloc, name, titles)?;
-    Ok(Command::Archive(Archive { file, path, moment }))
+    Ok(Command::Change(Change::Archive(Archive { file, path, moment })))
 }
 
 #[tactic(auto, unfolding(crate::specs::Grammar::clock_in_of))]
@@ -220,7 +220,7 @@ fn clock_in<'a>(
 {
     let moment = moment(when).ok_or(Fault::Refused(BadLine))?;
     let (file, path) = node(alloc, name, titles)?;
-    Ok(Command::ClockIn(ClockIn { file, path, moment }))
+    Ok(Command::Change(Change::ClockIn(ClockIn { file, path, moment })))
 }
 
 #[tactic(auto, unfolding(crate::specs::Grammar::clock_out_of))]
@@ -228,7 +228,7 @@ fn clock_out<'a>(when: &[u8]) -> Result<Command<'a>, Fault<BadLine>>
     ensures { Parses result (clock_out_of when.now) }
 {
     let moment = moment(when).ok_or(Fault::Refused(BadLine))?;
-    Ok(Command::ClockOut { moment })
+    Ok(Command::Change(Change::ClockOut { moment }))
 }
 
 #[tactic(auto, unfolding(crate::specs::Grammar::clocked_of))]
@@ -236,5 +236,5 @@ fn time<'a>(alloc: Global, name: &[u8], titles: &[u8]) -> Result<Command<'a>, Fa
     ensures { Parses result (clocked_of name.now titles.now) }
 {
     let (file, path) = node(alloc, name, titles)?;
-    Ok(Command::Time { file, path })
+    Ok(Command::Ask(Question::Time { file, path }))
 }

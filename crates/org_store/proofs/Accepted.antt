@@ -25,7 +25,11 @@ use Rattle.org_state.specs.declared.run.Running.{Running}
 use Rattle.org_state.specs.Clock.{clocked_at, running_in}
 use Rattle.org_state.specs.Todo.{todo as in_state}
 use Rattle.org_commands.specs.declared.command.Command.{Command}
-use Rattle.org_commands.specs.declared.command.Command.TheVariants.{Capture, Refile, Todo, ClockIn, ClockOut, Archive, Edit, Time, Show, Settle}
+use Rattle.org_commands.specs.declared.command.Command.TheVariants as command
+use Rattle.org_commands.specs.declared.command.Change.{Change}
+use Rattle.org_commands.specs.declared.command.Change.TheVariants.{Capture, Refile, Todo, ClockIn, ClockOut, Archive, Edit}
+use Rattle.org_commands.specs.declared.command.Question.{Question}
+use Rattle.org_commands.specs.declared.command.Question.TheVariants.{Time, Show}
 use Rattle.org_fault.specs.declared.refusal.Refusal.{Refusal}
 use Rattle.org_fault.specs.declared.refusal.Refusal.TheVariants.{TooLarge}
 use Rattle.org_commands.specs.Capture.{new_entry}
@@ -35,7 +39,7 @@ use Rattle.org_commands.specs.Files.{has_large}
 use Rattle.org_commands.specs.InOrder.{AreNames, is_name, text_at, with_all}
 use Rattle.org_commands.specs.Refile.{text_within, texts_across}
 use Rattle.org_commands.specs.Session.{Session}
-use Rattle.org_commands.specs.Outcome.{Accepts, AsksToSettle, Outcome, Refuses, Shows, Reports, written, changed, with_document, with_entry, capture, refile, with_moved, with_minutes, with_replaced, with_state, time, todo, edit, with_clock_moved, clock_in_beside, clock_in, clock_out, archive_to, archive_at, archive, show, outcome}
+use Rattle.org_commands.specs.Outcome.{Accepts, AsksToSettle, Outcome, Refuses, Shows, Reports, written, changed, with_document, with_entry, capture, refile, with_moved, with_minutes, with_replaced, with_state, time, todo, edit, with_clock_moved, clock_in_beside, clock_in, clock_out, archive_to, archive_at, archive, show, outcome, outcome_of_change, outcome_of_question}
 
 -- texts of which none is past the limit
 abbrev pub AreWithin : List (List ℕ × List ℕ) → Type 0
@@ -52,13 +56,18 @@ within (change ∷ changes) none = elim (cases_Bool (nat_lt limit (length change
   | inr f ↦ (grind (arith, nat_tests, f), within changes (rw f at none))
 ]
 
--- it is no outcome of a command that is accepted
-abbrev IsUnaccepted : Outcome → Type 0
-IsUnaccepted outcome = (touched files : List (List ℕ)) → outcome ≡ Accepts touched files → ⊥
-
--- it gives files of the store new texts, unless it is refused, or changes nothing
+-- it gives files of the store new texts, or changes nothing, or is refused
 abbrev pub IsChanging : Session → Outcome → Type 0
-IsChanging s outcome = ((changes : List (List ℕ × List ℕ)) × AreNames s.names (map (λ change. change.0) changes) × (outcome ≡ changed s changes)) ⊎ IsUnaccepted outcome
+IsChanging s outcome =
+    ((changes : List (List ℕ × List ℕ)) × AreNames s.names (map (λ change. change.0) changes) × (outcome ≡ changed s changes)) ⊎ ((why : Refusal) × (outcome ≡ Refuses why))
+
+-- it answers something, or is refused
+abbrev pub IsAnswering : Outcome → Type 0
+IsAnswering (Shows text) = Unit {0}
+IsAnswering (Reports minutes) = Unit {0}
+IsAnswering (Refuses why) = Unit {0}
+IsAnswering (Accepts touched files) = ⊥
+IsAnswering AsksToSettle = ⊥
 
 -- the file of a name that has a text
 text_named : (names texts : List (List ℕ)) (name text : List ℕ) → text_at names texts name ≡ Some text → is_name names name ≡ true
@@ -87,31 +96,31 @@ changes_across : (s : Session) (file to_file : List ℕ) (new : Moved) → is_na
 changes_across s file to_file new own to_own = inl (texts_across file to_file new, (own, (to_own, tt)), refl)
 
 document_changes : (s : Session) (name : List ℕ) (made : Result Document Refusal) → is_name s.names name ≡ true → IsChanging s (with_document s name made)
-document_changes s name (Err why) own = inr (λ touched files accepts. absurd (cc))
+document_changes s name (Err why) own = inr (_, refl)
 document_changes s name (Ok new) own = changes_one s name (print new) own
 
 entry_changes : (s : Session) (name : List ℕ) (target : Target) (place : Place) (moment : Moment) (entry : Result Node Refusal) (text : List ℕ) → is_name s.names name ≡ true
     → IsChanging s (with_entry s name target place moment entry text)
-entry_changes s name target place moment (Err why) text own = inr (λ touched files accepts. absurd (cc))
+entry_changes s name target place moment (Err why) text own = inr (_, refl)
 entry_changes s name target place moment (Ok entry) text own = document_changes s name (captured s.states target place moment entry (tree text)) own
 
 capture_changes : (s : Session) (name : List ℕ) (target : Target) (place : Place) (moment : Moment) (template initial : List ℕ) (old : Option (List ℕ)) → text_at s.names s.files name ≡ old
     → IsChanging s (capture s name target place moment template initial old)
-capture_changes s name target place moment template initial None is = inr (λ touched files accepts. absurd (cc))
+capture_changes s name target place moment template initial None is = inr (_, refl)
 capture_changes s name target place moment template initial (Some text) is = entry_changes s name target place moment (new_entry moment template initial) text (text_named s.names s.files name text is)
 
 within_changes : (s : Session) (name : List ℕ) (said : Result Document Refusal) → is_name s.names name ≡ true → IsChanging s (with_moved s (text_within name) said)
-within_changes s name (Err why) own = inr (λ touched files accepts. absurd (cc))
+within_changes s name (Err why) own = inr (_, refl)
 within_changes s name (Ok new) own = changes_one s name (print new) own
 
 across_changes : (s : Session) (name to_file : List ℕ) (said : Result Moved Refusal) → is_name s.names name ≡ true → is_name s.names to_file ≡ true → IsChanging s (with_moved s (texts_across name to_file) said)
-across_changes s name to_file (Err why) own to_own = inr (λ touched files accepts. absurd (cc))
+across_changes s name to_file (Err why) own to_own = inr (_, refl)
 across_changes s name to_file (Ok new) own to_own = changes_across s name to_file new own to_own
 
 refile_changes : (s : Session) (name : List ℕ) (path : List Step) (to_file : List ℕ) (to : List Step) (place : Place) (old into : Option (List ℕ)) → text_at s.names s.files name ≡ old → text_at s.names s.files to_file ≡ into
     → IsChanging s (refile s name path to_file to place old into)
-refile_changes s name path to_file to place None into is to_is = inr (λ touched files accepts. absurd (cc))
-refile_changes s name path to_file to place (Some text) None is to_is = inr (λ touched files accepts. absurd (cc))
+refile_changes s name path to_file to place None into is to_is = inr (_, refl)
+refile_changes s name path to_file to place (Some text) None is to_is = inr (_, refl)
 refile_changes s name path to_file to place (Some text) (Some target) is to_is =
     let own = text_named s.names s.files name text is in
     elim (cases_Bool (bytes_eq name to_file)) [
@@ -120,32 +129,32 @@ refile_changes s name path to_file to place (Some text) (Some target) is to_is =
     ]
 
 state_changes : (s : Session) (name : List ℕ) (said : Result (Option Document) Refusal) → is_name s.names name ≡ true → IsChanging s (with_state s name said)
-state_changes s name (Err why) own = inr (λ touched files accepts. absurd (cc))
+state_changes s name (Err why) own = inr (_, refl)
 state_changes s name (Ok None) own = inl ([], tt, refl)
 state_changes s name (Ok (Some new)) own = changes_one s name (print new) own
 
 todo_changes : (s : Session) (name : List ℕ) (path : List Step) (state : List ℕ) (moment : Moment) (old : Option (List ℕ)) → text_at s.names s.files name ≡ old → IsChanging s (todo s name path state moment old)
-todo_changes s name path state moment None is = inr (λ touched files accepts. absurd (cc))
+todo_changes s name path state moment None is = inr (_, refl)
 todo_changes s name path state moment (Some text) is = state_changes s name (in_state s.states path state moment (tree text)) (text_named s.names s.files name text is)
 
 archive_to_changes : (s : Session) (name : List ℕ) (path : List Step) (moment : Moment) (text : List ℕ) (to : Destination) (into : Option (List ℕ)) → is_name s.names name ≡ true → text_at s.names s.files to.file ≡ into
     → IsChanging s (archive_to s name path moment text to into)
-archive_to_changes s name path moment text to None own is = inr (λ touched files accepts. absurd (cc))
+archive_to_changes s name path moment text to None own is = inr (_, refl)
 archive_to_changes s name path moment text to (Some target) own is = elim (cases_Bool (bytes_eq name to.file)) [
   | inl t ↦ rw t (within_changes s name (archive_within s.states name path moment to (tree text)) own)
   | inr f ↦ rw f (across_changes s name to.file (archive_across s.states name path moment (tree text) s.states to (tree target)) own (text_named s.names s.files to.file target is))
 ]
 
 archive_at_changes : (s : Session) (name : List ℕ) (path : List Step) (moment : Moment) (text : List ℕ) (to : Result Destination Refusal) → is_name s.names name ≡ true → IsChanging s (archive_at s name path moment text to)
-archive_at_changes s name path moment text (Err why) own = inr (λ touched files accepts. absurd (cc))
+archive_at_changes s name path moment text (Err why) own = inr (_, refl)
 archive_at_changes s name path moment text (Ok to) own = archive_to_changes s name path moment text to (text_at s.names s.files to.file) own refl
 
 archive_changes : (s : Session) (name : List ℕ) (path : List Step) (moment : Moment) (old : Option (List ℕ)) → text_at s.names s.files name ≡ old → IsChanging s (archive s name path moment old)
-archive_changes s name path moment None is = inr (λ touched files accepts. absurd (cc))
+archive_changes s name path moment None is = inr (_, refl)
 archive_changes s name path moment (Some text) is = archive_at_changes s name path moment text (location s.states name path text) (text_named s.names s.files name text is)
 
 clock_moved_changes : (s : Session) (other name : List ℕ) (said : Result Moved Refusal) → is_name s.names other ≡ true → is_name s.names name ≡ true → IsChanging s (with_clock_moved s other name said)
-clock_moved_changes s other name (Err why) other_own own = inr (λ touched files accepts. absurd (cc))
+clock_moved_changes s other name (Err why) other_own own = inr (_, refl)
 clock_moved_changes s other name (Ok new) other_own own = changes_across s other name new other_own own
 
 clock_in_beside_changes : (s : Session) (name : List ℕ) (moment : Moment) (d : Document) (found : Result ℕ PathFault) (clock : Option (List ℕ × Running)) → is_name s.names name ≡ true → running_over s.names s.files ≡ clock
@@ -157,45 +166,56 @@ clock_in_beside_changes s name moment d found (Some clock) own is = elim (cases_
 ]
 
 clock_in_changes : (s : Session) (name : List ℕ) (path : List Step) (moment : Moment) (old : Option (List ℕ)) → text_at s.names s.files name ≡ old → IsChanging s (clock_in s name path moment old)
-clock_in_changes s name path moment None is = inr (λ touched files accepts. absurd (cc))
+clock_in_changes s name path moment None is = inr (_, refl)
 clock_in_changes s name path moment (Some text) is =
     clock_in_beside_changes s name moment (tree text) (find_path s.states (tree text) path) (running_over s.names s.files) (text_named s.names s.files name text is) refl
 
 clock_out_changes : (s : Session) (moment : Moment) (clock : Option (List ℕ × Running)) → running_over s.names s.files ≡ clock → IsChanging s (clock_out s moment clock)
-clock_out_changes s moment None is = inr (λ touched files accepts. absurd (cc))
+clock_out_changes s moment None is = inr (_, refl)
 clock_out_changes s moment (Some clock) is = state_changes s clock.0 (clocked_out moment clock.1 (tree (unwrap_or (text_at s.names s.files clock.0) []))) (clock_named s.names s.files clock is)
 
 replaced_changes : (s : Session) (name : List ℕ) (new : Option (List ℕ)) → is_name s.names name ≡ true → IsChanging s (with_replaced s name new)
-replaced_changes s name None own = inr (λ touched files accepts. absurd (cc))
+replaced_changes s name None own = inr (_, refl)
 replaced_changes s name (Some new) own = changes_one s name new own
 
 edit_changes : (s : Session) (name : List ℕ) (at : ℕ) (gone put : List ℕ) (old : Option (List ℕ)) → text_at s.names s.files name ≡ old → IsChanging s (edit s name at gone put old)
-edit_changes s name at gone put None is = inr (λ touched files accepts. absurd (cc))
+edit_changes s name at gone put None is = inr (_, refl)
 edit_changes s name at gone put (Some text) is = replaced_changes s name (replaced text at gone put) (text_named s.names s.files name text is)
 
-shows_none : (old : Option (List ℕ)) → IsUnaccepted (show old)
-shows_none None touched files accepts = absurd (cc)
-shows_none (Some text) touched files accepts = absurd (cc)
+show_answers : (old : Option (List ℕ)) → IsAnswering (show old)
+show_answers None = tt
+show_answers (Some text) = tt
 
-minutes_none : (said : Result ℕ PathFault) → IsUnaccepted (with_minutes said)
-minutes_none (Ok minutes) touched files accepts = absurd (cc)
-minutes_none (Err why) touched files accepts = absurd (cc)
+minutes_answer : (said : Result ℕ PathFault) → IsAnswering (with_minutes said)
+minutes_answer (Ok minutes) = tt
+minutes_answer (Err why) = tt
 
-time_none : (s : Session) (path : List Step) (old : Option (List ℕ)) → IsUnaccepted (time s path old)
-time_none s path None touched files accepts = absurd (cc)
-time_none s path (Some text) touched files accepts = minutes_none (clocked_at s.states path (tree text)) touched files accepts
+time_answers : (s : Session) (path : List Step) (old : Option (List ℕ)) → IsAnswering (time s path old)
+time_answers s path None = tt
+time_answers s path (Some text) = minutes_answer (clocked_at s.states path (tree text))
 
-pub command_changes : (s : Session) (command : Command) → IsChanging s (outcome s command)
-command_changes s (Capture c) = capture_changes s c.file c.target c.place c.moment c.template c.initial (text_at s.names s.files c.file) refl
-command_changes s (Refile c) = refile_changes s c.file c.path c.to_file c.to_path c.place (text_at s.names s.files c.file) (text_at s.names s.files c.to_file) refl refl
-command_changes s (Todo c) = todo_changes s c.file c.path c.state c.moment (text_at s.names s.files c.file) refl
-command_changes s (Archive c) = archive_changes s c.file c.path c.moment (text_at s.names s.files c.file) refl
-command_changes s (ClockIn c) = clock_in_changes s c.file c.path c.moment (text_at s.names s.files c.file) refl
-command_changes s (ClockOut moment) = clock_out_changes s moment (running_over s.names s.files) refl
-command_changes s (Edit c) = edit_changes s c.file c.at c.old c.new (text_at s.names s.files c.file) refl
-command_changes s (Time file path) = inr (time_none s path (text_at s.names s.files file))
-command_changes s (Show file) = inr (shows_none (text_at s.names s.files file))
-command_changes s Settle = inr (λ touched files accepts. absurd (cc))
+pub change_changes : (s : Session) (change : Change) → IsChanging s (outcome_of_change s change)
+change_changes s (Capture c) = capture_changes s c.file c.target c.place c.moment c.template c.initial (text_at s.names s.files c.file) refl
+change_changes s (Refile c) = refile_changes s c.file c.path c.to_file c.to_path c.place (text_at s.names s.files c.file) (text_at s.names s.files c.to_file) refl refl
+change_changes s (Todo c) = todo_changes s c.file c.path c.state c.moment (text_at s.names s.files c.file) refl
+change_changes s (Archive c) = archive_changes s c.file c.path c.moment (text_at s.names s.files c.file) refl
+change_changes s (ClockIn c) = clock_in_changes s c.file c.path c.moment (text_at s.names s.files c.file) refl
+change_changes s (ClockOut moment) = clock_out_changes s moment (running_over s.names s.files) refl
+change_changes s (Edit c) = edit_changes s c.file c.at c.old c.new (text_at s.names s.files c.file) refl
+
+pub question_answers : (s : Session) (question : Question) → IsAnswering (outcome_of_question s question)
+question_answers s (Time file path) = time_answers s path (text_at s.names s.files file)
+question_answers s (Show file) = show_answers (text_at s.names s.files file)
+
+-- a command that is accepted gives files of the store new texts
+accepted_changes : (s : Session) (command : Command) {touched : List (List ℕ)} (files : List (List ℕ)) → outcome s command ≡ Accepts touched files
+    → (changes : List (List ℕ × List ℕ)) × AreNames s.names (map (λ change. change.0) changes) × (changed s changes ≡ Accepts touched files)
+accepted_changes s (command.Change change) files accepts = elim (change_changes s change) [
+  | inl makes ↦ (makes.0, makes.1, sym makes.2 ∙ accepts)
+  | inr refused ↦ absurd (subst IsAnswering (sym refused.1 ∙ accepts) tt)
+]
+accepted_changes s (command.Ask question) files accepts = absurd (subst IsAnswering accepts (question_answers s question))
+accepted_changes s command.Settle files accepts = absurd (cc)
 
 -- changes that are accepted
 changed_accepts : (s : Session) (changes : List (List ℕ × List ℕ)) (touched files : List (List ℕ)) → changed s changes ≡ Accepts touched files
@@ -209,10 +229,10 @@ changed_accepts s changes touched files = go (has_large changes) (s.accepted == 
     go false false accepts = (refl, cc, cc)
 
 pub accepted_puts : (s : Session) (command : Command) {touched : List (List ℕ)} (files : List (List ℕ)) → outcome s command ≡ Accepts touched files → Puts s files
-accepted_puts s command {touched} files accepts = elim (command_changes s command) [
-  | inl makes ↦ let so = changed_accepts s makes.0 touched files (sym makes.2 ∙ accepts) in (makes.0, within makes.0 so.0, so.2)
-  | inr none ↦ absurd (none touched files accepts)
-]
+accepted_puts s command {touched} files accepts =
+    let makes = accepted_changes s command files accepts in
+    let so = changed_accepts s makes.0 touched files makes.2 in
+    (makes.0, within makes.0 so.0, so.2)
 
 -- the files that a command is to give new texts are files of the store
 pub written_named : (s : Session) (command : Command) → AreNames s.names (written (outcome s command))
@@ -223,7 +243,7 @@ written_named s command = go (outcome s command) refl
     go (Shows text) is = tt
     go (Reports minutes) is = tt
     go AsksToSettle is = tt
-    go (Accepts touched files) is = elim (command_changes s command) [
-      | inl makes ↦ let so = changed_accepts s makes.0 touched files (sym makes.2 ∙ is) in subst (AreNames s.names) (sym so.1) makes.1
-      | inr none ↦ absurd (none touched files is)
-    ]
+    go (Accepts touched files) is =
+        let makes = accepted_changes s command files is in
+        let so = changed_accepts s makes.0 touched files makes.2 in
+        subst (AreNames s.names) (sym so.1) makes.1

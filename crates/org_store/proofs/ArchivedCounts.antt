@@ -20,7 +20,8 @@ use Rattle.org_move.proofs.Archives.{across_keeps, across_stays_valid, within_ke
 use Rattle.org_move.proofs.Moving.{found_of}
 use Rattle.org_move.proofs.Values.{name_line, place_line}
 use Rattle.org_commands.specs.declared.command.Archive.{Archive as Archiving}
-use Rattle.org_commands.specs.declared.command.Command.TheVariants.{Archive}
+use Rattle.org_commands.specs.declared.command.Command.TheVariants.{Change}
+use Rattle.org_commands.specs.declared.command.Change.TheVariants.{Archive}
 use Rattle.org_commands.specs.InOrder.{text_at, with_text}
 use Rattle.org_store.specs.OnePlace.{ArchivesOne}
 use Rattle.org_commands.specs.Outcome.{Accepts, archive, archive_at, archive_to, outcome, with_moved}
@@ -115,6 +116,6 @@ module _ (s : Session) (apart : IsDistinct bytes_eq s.names) (each : length s.fi
   in_archives None files at accepts = absurd (cc)
   in_archives (Some text) files at accepts = at_archives text (location s.states file path text) files at refl accepts
 
-pub archive_keeps : (s : Session) → IsDistinct bytes_eq s.names → length s.files ≡ length s.names → (it : Archiving) → IsDiskName it.file → {touched : List (List ℕ)} (files : List (List ℕ)) → outcome s (Archive it) ≡ Accepts touched files
+pub archive_keeps : (s : Session) → IsDistinct bytes_eq s.names → length s.files ≡ length s.names → (it : Archiving) → IsDiskName it.file → {touched : List (List ℕ)} (files : List (List ℕ)) → outcome s (Change (Archive it)) ≡ Accepts touched files
     → ArchivesOne s it.file it.path it.moment files
 archive_keeps s apart each it named files accepts = in_archives s apart each it.file named it.path it.moment (text_at s.names s.files it.file) files refl accepts

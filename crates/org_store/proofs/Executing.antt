@@ -17,14 +17,9 @@ use Rattle.org_commands.specs.declared.command.Reply.{Reply}
 use Rattle.org_commands.specs.declared.command.Reply.TheVariants.{Done, Safe, Text, Time}
 use Rattle.org_commands.specs.declared.command.RunFault.{RunFault}
 use Rattle.org_commands.specs.declared.command.RunFault.TheVariants.{Refused, OutOfMemory, Device, Broken}
-use Rattle.org_commands.specs.declared.kind.Change.{Change}
-use Rattle.org_commands.specs.declared.kind.Change.TheVariants as change
-use Rattle.org_commands.specs.declared.kind.Question.{Question}
-use Rattle.org_commands.specs.declared.kind.Question.TheVariants as question
 use Rattle.org_commands.specs.declared.tally.Tally.{Tally}
 use Rattle.org_commands.specs.Files.{OpenFiles, PutsPlan, new_texts}
 use Rattle.org_commands.specs.InOrder.{texts_of}
-use Rattle.org_commands.specs.Kinds.{asking, changing}
 use Rattle.org_commands.specs.Outcome.{Outcome, Accepts, AsksToSettle, Refuses, changed, outcome, written}
 use Rattle.org_commands.specs.Questions.{IsUncounted}
 use Rattle.org_commands.specs.Reading.{OnlyReads}
@@ -236,20 +231,6 @@ module _ {D : Type 0} (g : Ghosts D) (states : Keywords) (old : OpenFiles D) (ta
       }
 
 -- ---- commands, as `Store::run` says it
-
--- no change and no question is the settling
-pub no_settling_changes : (asked : Change) → changing asked ≡ Settle → ⊥
-no_settling_changes (change.Capture c) is = absurd (cc)
-no_settling_changes (change.Refile c) is = absurd (cc)
-no_settling_changes (change.Todo c) is = absurd (cc)
-no_settling_changes (change.Archive c) is = absurd (cc)
-no_settling_changes (change.ClockIn c) is = absurd (cc)
-no_settling_changes (change.ClockOut moment) is = absurd (cc)
-no_settling_changes (change.Edit c) is = absurd (cc)
-
-pub no_settling_asks : (asked : Question) → asking asked ≡ Settle → ⊥
-no_settling_asks (question.Time file path) is = absurd (cc)
-no_settling_asks (question.Show file) is = absurd (cc)
 
 module _ {D : Type 0} (g : Ghosts D) (old new : StoreView D) (command : Command) (answer : Result Reply RunFault) (unbroken : old.session.broken ≡ false) (apart : command ≡ Settle → ⊥)
     (executes : Executes g old (outcome old.session command) answer new) where

@@ -19,7 +19,8 @@ use Rattle.org_move.specs.Counts.{count_over, made_count, one_of}
 use Rattle.org_move.specs.Location.{Destination}
 use Rattle.org_commands.specs.declared.command.Archive.{Archive as Archiving}
 use Rattle.org_commands.specs.declared.command.Command.{Command}
-use Rattle.org_commands.specs.declared.command.Command.TheVariants.{Archive}
+use Rattle.org_commands.specs.declared.command.Command.TheVariants.{Change}
+use Rattle.org_commands.specs.declared.command.Change.TheVariants.{Archive}
 use Rattle.org_store.specs.Calls.{Call, MakesAll, traces}
 use Rattle.org_store.specs.History.{Trace, Adds, Lists}
 use Rattle.org_store.specs.OnePlace.{ArchivesOne, HaveNodesButFew, IsArchiving, IsRefile, MayMove, NewSection}
@@ -146,7 +147,7 @@ module _ {D : Type 0} (g : Ghosts D) (first last : Trace D) (calls : List Call)
 -- what an archiving adds to the list
 pub archive_moves : {D : Type 0} (first last : Trace D) → Lists first.store.session first.texts → IsDistinct bytes_eq first.store.session.names → (it : Archiving)
     → IsDiskName it.file → length first.store.session.files ≡ length first.store.session.names → first.store.session.broken ≡ false
-    → Adds (outcome first.store.session (Archive it)) first.store.session.accepted last.store.session.accepted first.texts last.texts
+    → Adds (outcome first.store.session (Change (Archive it))) first.store.session.accepted last.store.session.accepted first.texts last.texts
     → (k : ℕ) (texts : List (List ℕ)) → first.store.session.accepted ≤ k → slice_get last.texts k ≡ Some texts → (texts ≡ first.store.session.files) ⊎ ArchivesOne first.store.session it.file it.path it.moment texts
 archive_moves first last lists apart it named each sound added k texts low at = ⊎_elim
     (λ none. inl (as_first (subst (λ (l : Texts). slice_get l k ≡ Some texts) none.1 at)))

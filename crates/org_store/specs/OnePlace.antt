@@ -14,7 +14,8 @@ use Rattle.org_move.specs.Location.{Destination, location}
 use Rattle.org_commands.specs.declared.command.Archive.{Archive as Archiving}
 use Rattle.org_commands.specs.declared.command.Refile.{Refile as Refiling}
 use Rattle.org_commands.specs.declared.command.Command.{Command}
-use Rattle.org_commands.specs.declared.command.Command.TheVariants.{Archive, Refile}
+use Rattle.org_commands.specs.declared.command.Command.TheVariants.{Change}
+use Rattle.org_commands.specs.declared.command.Change.TheVariants.{Archive, Refile}
 use Rattle.org_commands.specs.declared.command.Reply.{Reply}
 use Rattle.org_commands.specs.declared.command.Reply.TheVariants.{Done}
 use Rattle.org_commands.specs.declared.command.RunFault.{RunFault}
@@ -52,7 +53,7 @@ pub record IsSessionOf (given : List (List ℕ)) (s : Session) : Type 0 where
   pub files : AreSmall s.names s.files
 
 abbrev pub IsRefile : Command → Type 0
-IsRefile command = (it : Refiling) × (command ≡ Refile it)
+IsRefile command = (it : Refiling) × (command ≡ Change (Refile it))
 
 -- A command that got this answer is accepted, or, where the disk failed, may be.
 abbrev pub MayBeAccepted : Result Reply RunFault → Type 0
@@ -98,7 +99,7 @@ pub record ArchivesOne (s : Session) (file : List ℕ) (path : List Step) (now :
 
 -- an archiving from a file with a name that a store's files have
 abbrev pub IsArchiving : Command → Type 0
-IsArchiving command = (it : Archiving) × IsDiskName it.file × (command ≡ Archive it)
+IsArchiving command = (it : Archiving) × IsDiskName it.file × (command ≡ Change (Archive it))
 
 -- A call that changes files as a refile or an archiving alone, where it may be accepted.
 abbrev pub MayMove : Call → Type 0

@@ -5,8 +5,7 @@
 ghost use Rattle.std.specs.Prelude.{◌≡◌, ◌≢◌, ◌⊎◌, ℕ, List, false};
 ghost use Rattle.org_outline.specs.States.{Keywords};
 ghost use Rattle.org_commands.specs.Files.{AreReadyForCommand, AreSmallToWrite, texts_now};
-ghost use Rattle.org_commands.specs.Kinds.{changing};
-ghost use Rattle.org_commands.specs.Outcome.{counted, outcome};
+ghost use Rattle.org_commands.specs.Outcome.{counted, outcome_of_change};
 ghost use Rattle.org_commands.specs.Session.{view_over};
 ghost use Rattle.org_store.specs.Dirty.{Dirties};
 ghost use Rattle.org_store.specs.Executing.{Executes, KeepsHeld, SettlesPending, kept};
@@ -92,7 +91,7 @@ pub(crate) fn change<D: Disk>(
 ) -> Result<Reply, RunFault>
     requires between { AreReadyForCommand files.old }
     ensures executes { let old = view_over D.files states.now files.old tally.old in
-        Executes D.Disk old (outcome old.session (changing asked.now)) result
+        Executes D.Disk old (outcome_of_change old.session asked.now) result
         (view_over D.files states.now files.new tally.new) }
     ensures unedited { files.new.held.now ≡ files.new.held.before }
 {

@@ -19,7 +19,8 @@ ghost use Rattle.org_move.specs.Counts.{count_over};
 ghost use Rattle.org_commands.specs.declared.command.Archive.{Archive as Archiving};
 ghost use Rattle.org_commands.specs.declared.command.Refile.{Refile as Refiling};
 ghost use Rattle.org_commands.specs.declared.command.Command.{Command};
-ghost use Rattle.org_commands.specs.declared.command.Command.TheVariants.{Archive, Refile, Settle};
+ghost use Rattle.org_commands.specs.declared.command.Command.TheVariants.{Change, Settle};
+ghost use Rattle.org_commands.specs.declared.command.Change.TheVariants.{Archive, Refile};
 ghost use Rattle.org_commands.specs.declared.command.Reply.{Reply};
 ghost use Rattle.org_commands.specs.declared.command.Reply.TheVariants.{Done};
 ghost use Rattle.org_commands.specs.declared.command.RunFault.{RunFault};
@@ -249,7 +250,7 @@ pub fn one_place<D: Disk>()
         (answer : Result Reply RunFault)
         → IsSessionOf given first.store.session → IsFalse first.store.session.broken
         → Lists first.store.session first.texts → IsDiskName it.file
-        → Traces D.Disk first (Ran (Archive it) answer) last
+        → Traces D.Disk first (Ran (Change (Archive it)) answer) last
         → (k : ℕ) (texts : List (List ℕ)) → first.store.session.accepted ≤ k
         → slice_get last.texts k ≡ Some texts → (texts ≡ first.store.session.files)
         ⊎ ArchivesOne first.store.session it.file it.path it.moment texts }
@@ -287,7 +288,7 @@ pub fn texts_stay_small()
 pub fn refiles_keep_counts()
     ensures { (s : Session) (it : Refiling)
         (files : List (List ℕ)) → IsDistinct bytes_eq s.names → length s.files ≡ length s.names
-        → IsAccepted (outcome s (Refile it)) files
+        → IsAccepted (outcome s (Change (Refile it))) files
         → (rest : List ℕ) (section : List (List ℕ))
         → count_over rest section files ≡ count_over rest section s.files }
 {}
@@ -299,7 +300,7 @@ pub fn refiles_keep_counts()
 pub fn archives_keep_counts()
     ensures { (s : Session) (it : Archiving)
         (files : List (List ℕ)) → IsDistinct bytes_eq s.names → length s.files ≡ length s.names
-        → IsDiskName it.file → IsAccepted (outcome s (Archive it)) files
+        → IsDiskName it.file → IsAccepted (outcome s (Change (Archive it))) files
         → ArchivesOne s it.file it.path it.moment files }
 {}
 

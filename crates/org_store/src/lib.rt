@@ -10,7 +10,8 @@ pub mod laws;
 mod store;
 
 pub use org_commands::{
-    Archive, Capture, ClockIn, Command, Edit, Group, Refile, Refusal, Reply, RunFault, TextOf, Todo,
+    Archive, Capture, Change, ClockIn, Command, Edit, Group, Question, Refile, Refusal, Reply,
+    RunFault, TextOf, Todo,
 };
 pub use org_fileset::{OpenFault, OpenRefused};
 pub use store::Store;

@@ -15,7 +15,7 @@ ghost use Rattle.org_store.specs.Runs.{SaysBroken, StaysWhereNeedless, Runs, Set
 ghost use Rattle.org_store.specs.Counts.{Counts, SettledCounts};
 
 use crate::changing::{change, commit};
-use org_commands::{Command, Files, Group, Kind, Reply, RunFault, Tally, answer};
+use org_commands::{Command, Files, Group, Reply, RunFault, Tally, answer};
 use org_disk::{Disk, FileName};
 use org_fileset::OpenRefused;
 use org_outline::States;
@@ -219,7 +219,7 @@ impl<D: Disk> Store<D> {
     /// let line = b"todo\ta.org\tA\tDONE\t2026-07-01 10:00";
     /// let todo = read_command(alloc, line).expect(&rt, "a command");
     /// assert!(rt; matches!(store.run(&todo), Ok(Reply::Done(1))));
-    /// let clock_out = Command::ClockOut { moment: now };
+    /// let clock_out = Command::Change(Change::ClockOut { moment: now });
     /// assert!(rt; store.run(&clock_out).is_err());
     /// assert_eq!(rt; store.accepted(), 1);
     /// ```
@@ -234,10 +234,12 @@ impl<D: Disk> Store<D> {
         if self.files.is_broken() {
             return Err(RunFault::Broken);
         }
-        match command.kind() {
-            Kind::Change(asked) => change(&mut self.files, &self.states, &mut self.tally, &asked),
-            Kind::Question(asked) => answer(&mut self.files, &self.states, &asked),
-            Kind::Settle => {
+        match command {
+            Command::Change(asked) => {
+                change(&mut self.files, &self.states, &mut self.tally, asked)
+            }
+            Command::Ask(question) => answer(&mut self.files, &self.states, question),
+            Command::Settle => {
                 self.settle()?;
                 Ok(Reply::Safe(self.tally.acknowledged))
             }

@@ -10,13 +10,13 @@ ghost use Rattle.org_commands.specs.Files.{AreReadyForCommand, AreReady, IsPlanF
 ghost use Rattle.org_commands.specs.Headings.{HasHeading};
 ghost use Rattle.org_commands.specs.InOrder.{is_name, text_at};
 ghost use Rattle.org_commands.specs.Keeping.{Plans};
-ghost use Rattle.org_commands.specs.Outcome.{archive_to as outcome_to, outcome};
-ghost use Rattle.org_commands.specs.Planning.{PlansAs};
+ghost use Rattle.org_commands.specs.Outcome.{archive_to};
+ghost use Rattle.org_commands.specs.Planning.{PlansFor};
 ghost use Rattle.org_commands.specs.Reading.{OnlyReads};
 ghost use Rattle.org_commands.specs.Refile.{MakesDocument, MakesDocuments};
 ghost use Rattle.org_commands.specs.Session.{BetweenSessions};
 
-use crate::command::{Archive, Command, RunFault};
+use crate::command::{Archive, Change, RunFault};
 use crate::commands::outline::{heading_at, outline_of};
 use crate::commands::plans::{plan_of_two, plan_of_two_edits};
 use crate::files::Files;
@@ -117,7 +117,7 @@ fn plan_archive_to<'a, D: Disk>(
     ensures plans { BetweenSessions D.Disk states.now files.old files.new
         (λ old new. (text : List ℕ) → text_at old.names old.files command.now.file ≡ Some text
         → find_path states.now (tree text) command.now.path ≡ Ok node
-        → Plans old (outcome_to old command.now.file command.now.path command.now.moment text
+        → Plans old (archive_to old command.now.file command.now.path command.now.moment text
         to.now (text_at old.names old.files to.now.file)) result files.new.held new) }
     ensures disk { OnlyReads D.Disk files.old files.new result }
 {
@@ -144,8 +144,7 @@ pub(crate) fn plan_archive<'a, D: Disk>(
     command: &'a Archive,
 ) -> Result<Plan<'a>, RunFault>
     requires between { AreReadyForCommand files.old }
-    ensures { PlansAs D.Disk states.now files.old
-        (λ s. outcome s (Command.Archive command.now)) result files.new }
+    ensures { PlansFor D.Disk states.now files.old (Change.Archive command.now) result files.new }
 {
     files.check_name(&command.file)?;
     files.ready(&command.file)?;

@@ -9,12 +9,12 @@ ghost use Rattle.org_commands.specs.Capture.{MakesEntry, new_entry};
 ghost use Rattle.org_commands.specs.Files.{AreReadyForCommand, IsPlanFor};
 ghost use Rattle.org_commands.specs.InOrder.{is_name, text_at};
 ghost use Rattle.org_commands.specs.Keeping.{Plans};
-ghost use Rattle.org_commands.specs.Outcome.{outcome, with_entry};
-ghost use Rattle.org_commands.specs.Planning.{PlansAs};
+ghost use Rattle.org_commands.specs.Outcome.{with_entry};
+ghost use Rattle.org_commands.specs.Planning.{PlansFor};
 ghost use Rattle.org_commands.specs.Reading.{OnlyReads};
 ghost use Rattle.org_commands.specs.Session.{BetweenSessions};
 
-use crate::command::{Capture, Command, RunFault};
+use crate::command::{Capture, Change, RunFault};
 use crate::commands::outline::outline_of;
 use crate::commands::plans::plan_of_one;
 use crate::files::Files;
@@ -93,8 +93,7 @@ pub(crate) fn plan_capture<'a, D: Disk>(
     command: &'a Capture<'_>,
 ) -> Result<Plan<'a>, RunFault>
     requires between { AreReadyForCommand files.old }
-    ensures { PlansAs D.Disk states.now files.old
-        (λ s. outcome s (Command.Capture command.now)) result files.new }
+    ensures { PlansFor D.Disk states.now files.old (Change.Capture command.now) result files.new }
 {
     files.check_name(&command.file)?;
     let entry = new_entry(files.alloc(), command)?;

@@ -12,13 +12,13 @@ ghost use Rattle.org_commands.specs.Files.{AreReadyForCommand};
 ghost use Rattle.org_commands.specs.Headings.{HasHeading};
 ghost use Rattle.org_commands.specs.InOrder.{is_name, text_at};
 ghost use Rattle.org_commands.specs.Keeping.{LooksUp};
-ghost use Rattle.org_commands.specs.Outcome.{outcome, with_clock_moved, with_state};
-ghost use Rattle.org_commands.specs.Planning.{PlansOrStaysAs};
+ghost use Rattle.org_commands.specs.Outcome.{with_clock_moved, with_state};
+ghost use Rattle.org_commands.specs.Planning.{PlansOrStaysAs, PlansOrStaysFor};
 ghost use Rattle.org_commands.specs.Reading.{OnlyReads};
 ghost use Rattle.org_commands.specs.Session.{BetweenSessions};
 ghost use Rattle.org_commands.specs.Todo.{PlansState};
 
-use crate::command::{ClockIn, Command, RunFault};
+use crate::command::{Change, ClockIn, RunFault};
 use crate::commands::outline::{heading_at, outline_of};
 use crate::commands::plans::{plan_of, plan_of_one, plan_of_two};
 use crate::commands::refile::both_ready;
@@ -233,8 +233,8 @@ pub(crate) fn plan_clock_in<'a, D: Disk>(
     command: &'a ClockIn,
 ) -> Result<Option<Plan<'a>>, RunFault>
     requires between { AreReadyForCommand files.old }
-    ensures { PlansOrStaysAs D.Disk states.now files.old
-        (λ s. outcome s (Command.ClockIn command.now)) result files.new }
+    ensures { PlansOrStaysFor D.Disk states.now files.old (Change.ClockIn command.now) result
+        files.new }
 {
     files.check_name(&command.file)?;
     let node = look_up_in(files, states, command)?;
@@ -274,8 +274,8 @@ pub(crate) fn plan_clock_out<'a, D: Disk>(
     moment: Moment,
 ) -> Result<Option<Plan<'a>>, RunFault>
     requires between { AreReadyForCommand files.old }
-    ensures { PlansOrStaysAs D.Disk states.now files.old
-        (λ s. outcome s (Command.ClockOut moment)) result files.new }
+    ensures { PlansOrStaysFor D.Disk states.now files.old (Change.ClockOut moment) result
+        files.new }
 {
     let Some(clock) = running_clock(files, states)? else {
         return Err(RunFault::Refused(Refusal::NoClock));

@@ -8,10 +8,9 @@ ghost use Rattle.org_splice.specs.Replaced.{has_at};
 ghost use Rattle.org_outline.specs.States.{Keywords};
 ghost use Rattle.org_commands.specs.Edit.{Replaces};
 ghost use Rattle.org_commands.specs.Files.{AreReadyForCommand};
-ghost use Rattle.org_commands.specs.Outcome.{outcome};
-ghost use Rattle.org_commands.specs.Planning.{PlansAs};
+ghost use Rattle.org_commands.specs.Planning.{PlansFor};
 
-use crate::command::{Command, Edit, RunFault};
+use crate::command::{Change, Edit, RunFault};
 use crate::commands::plans::plan_of_one;
 use crate::files::Files;
 use org_disk::Disk;
@@ -75,8 +74,8 @@ pub(crate) fn plan_edit<'a, D: Disk>(
     command: &'a Edit<'_>,
 ) -> Result<Plan<'a>, RunFault>
     requires between { AreReadyForCommand files.old }
-    ensures { (states : Keywords) → PlansAs D.Disk states files.old
-        (λ s. outcome s (Command.Edit command.now)) result files.new }
+    ensures { (states : Keywords) → PlansFor D.Disk states files.old (Change.Edit command.now) result
+        files.new }
 {
     files.check_name(&command.file)?;
     files.load(&command.file)?;

@@ -5,12 +5,11 @@ ghost use Rattle.org_move.specs.Answers.{IsMadeAs};
 ghost use Rattle.org_move.specs.Refile.{refile_across, refile_within};
 ghost use Rattle.org_commands.specs.Files.{AreReadyForCommand, MakesReady};
 ghost use Rattle.org_commands.specs.InOrder.{is_name};
-ghost use Rattle.org_commands.specs.Outcome.{outcome};
-ghost use Rattle.org_commands.specs.Planning.{PlansAs};
+ghost use Rattle.org_commands.specs.Planning.{PlansFor};
 ghost use Rattle.org_commands.specs.Reading.{ReadsFiles};
 ghost use Rattle.org_commands.specs.Refile.{MakesDocument, MakesDocuments};
 
-use crate::command::{Command, Refile, RunFault};
+use crate::command::{Change, Refile, RunFault};
 use crate::commands::outline::outline_of;
 use crate::commands::plans::{plan_of_two, plan_of_two_edits};
 use crate::files::Files;
@@ -101,8 +100,7 @@ pub(crate) fn plan_refile<'a, D: Disk>(
     command: &'a Refile,
 ) -> Result<Plan<'a>, RunFault>
     requires between { AreReadyForCommand files.old }
-    ensures { PlansAs D.Disk states.now files.old
-        (λ s. outcome s (Command.Refile command.now)) result files.new }
+    ensures { PlansFor D.Disk states.now files.old (Change.Refile command.now) result files.new }
 {
     files.check_name(&command.file)?;
     files.check_name(&command.to_file)?;

@@ -3,7 +3,7 @@ ghost use Rattle.org_outline.specs.States.{Keywords};
 ghost use Rattle.org_commands.specs.Files.{AreReadyForCommand};
 ghost use Rattle.org_commands.specs.Questions.{AnswersQuestion};
 
-use crate::command::{Command, Reply, RunFault};
+use crate::command::{Question, Reply, RunFault};
 use crate::files::Files;
 use org_disk::{Disk, FileName};
 use org_splice::Bytes;
@@ -14,7 +14,7 @@ use org_splice::Bytes;
 pub(crate) fn show<D: Disk>(files: &mut Files<D>, file: &FileName) -> Result<Reply, RunFault>
     requires between { AreReadyForCommand files.old }
     ensures { (states : Keywords) → AnswersQuestion D.Disk states files.old
-        (Command.Show file.now) result files.new }
+        (Question.Show file.now) result files.new }
 {
     files.check_name(file)?;
     files.load(file)?;

@@ -3,13 +3,13 @@ ghost use Rattle.std.specs.Prelude.{◌≡◌, true};
 ghost use Rattle.std.specs.Result.{result_map_both};
 ghost use Rattle.org_commands.specs.Files.{AreReadyForCommand};
 ghost use Rattle.org_commands.specs.InOrder.{is_name};
-ghost use Rattle.org_commands.specs.Outcome.{outcome};
+ghost use Rattle.org_commands.specs.Outcome.{outcome_of_question};
 ghost use Rattle.org_commands.specs.Questions.{AnswersQuestion};
 ghost use Rattle.org_commands.specs.Reading.{OnlyReads};
 ghost use Rattle.org_commands.specs.Session.{BetweenSessions};
 ghost use Rattle.org_commands.specs.Step.{Steps};
 
-use crate::command::{Command, Reply, RunFault};
+use crate::command::{Question, Reply, RunFault};
 use crate::commands::outline::outline_of;
 use crate::files::Files;
 use org_disk::{Disk, FileName};
@@ -27,7 +27,7 @@ fn clocked_in_file<D: Disk>(
     requires name { is_name files.old.names file.now ≡ true }
     requires between { AreReadyForCommand files.old }
     ensures does { BetweenSessions D.Disk states.now files.old files.new
-        (λ old new. Steps old (outcome old (Command.Time file.now path.now))
+        (λ old new. Steps old (outcome_of_question old (Question.Time file.now path.now))
         (result_map_both Reply.Time (λ fault. fault) result) new) }
     ensures disk { OnlyReads D.Disk files.old files.new result }
 {
@@ -47,7 +47,7 @@ pub(crate) fn time<D: Disk>(
     path: &Path,
 ) -> Result<Reply, RunFault>
     requires between { AreReadyForCommand files.old }
-    ensures { AnswersQuestion D.Disk states.now files.old (Command.Time file.now path.now) result
+    ensures { AnswersQuestion D.Disk states.now files.old (Question.Time file.now path.now) result
         files.new }
 {
     files.check_name(file)?;

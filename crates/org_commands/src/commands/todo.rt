@@ -3,11 +3,10 @@ ghost use Rattle.std.specs.Prelude.{◌≡◌, true};
 ghost use Rattle.org_outline.specs.Tree.{tree};
 ghost use Rattle.org_state.specs.Todo.{todo};
 ghost use Rattle.org_commands.specs.Files.{AreReadyForCommand};
-ghost use Rattle.org_commands.specs.Outcome.{outcome};
-ghost use Rattle.org_commands.specs.Planning.{PlansOrStaysAs};
+ghost use Rattle.org_commands.specs.Planning.{PlansOrStaysFor};
 ghost use Rattle.org_commands.specs.Todo.{PlansState};
 
-use crate::command::{Command, RunFault, Todo};
+use crate::command::{Change, RunFault, Todo};
 use crate::commands::outline::outline_of;
 use crate::commands::plans::plan_of;
 use crate::files::Files;
@@ -49,8 +48,8 @@ pub(crate) fn plan_todo<'a, D: Disk>(
     command: &'a Todo<'_>,
 ) -> Result<Option<Plan<'a>>, RunFault>
     requires between { AreReadyForCommand files.old }
-    ensures { PlansOrStaysAs D.Disk states.now files.old
-        (λ s. outcome s (Command.Todo command.now)) result files.new }
+    ensures { PlansOrStaysFor D.Disk states.now files.old (Change.Todo command.now) result
+        files.new }
 {
     files.check_name(&command.file)?;
     files.ready(&command.file)?;

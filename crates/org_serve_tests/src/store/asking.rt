@@ -6,7 +6,7 @@ use org_fixtures::file_name;
 use org_outline::{Path, Place, Step};
 use org_splice::Bytes;
 use org_stamp::Moment;
-use org_store::{Capture, Command, Refile, Reply, RunFault, Store, TextOf, Todo};
+use org_store::{Capture, Change, Command, Question, Refile, Reply, RunFault, Store, TextOf, Todo};
 use org_test_disks::MemoryDisk;
 use std::process::Abort;
 
@@ -66,33 +66,33 @@ fn capture<'a>(
     target: Target,
     template: &'a str,
 ) -> Command<'a> {
-    Command::Capture(Capture {
+    Command::Change(Change::Capture(Capture {
         file: file(rt, name),
         target,
         place: Place::Last,
         moment: now(rt),
         template: TextOf::given(template.as_bytes()),
         initial: TextOf::given(b""),
-    })
+    }))
 }
 
 fn refile<'a>(rt: &(impl Abort + AllocGlobal), from: &str, to_file: &str, to: &str) -> Command<'a> {
-    Command::Refile(Refile {
+    Command::Change(Change::Refile(Refile {
         file: file(rt, "a.org"),
         path: path(rt, from),
         to_file: file(rt, to_file),
         to_path: path(rt, to),
         place: Place::Last,
-    })
+    }))
 }
 
 fn todo<'a>(rt: &(impl Abort + AllocGlobal), title: &str) -> Command<'a> {
-    Command::Todo(Todo {
+    Command::Change(Change::Todo(Todo {
         file: file(rt, "a.org"),
         path: path(rt, title),
         state: TextOf::given(b"DONE"),
         moment: now(rt),
-    })
+    }))
 }
 
 fn command<'a>(rt: &(impl Abort + AllocGlobal), ask: &'a Ask) -> Command<'a> {
@@ -103,9 +103,9 @@ fn command<'a>(rt: &(impl Abort + AllocGlobal), ask: &'a Ask) -> Command<'a> {
         }
         Ask::Refile(from, to_file, to) => refile(rt, from, to_file, to),
         Ask::Todo(title) => todo(rt, title),
-        Ask::Show(name) => Command::Show {
+        Ask::Show(name) => Command::Ask(Question::Show {
             file: file(rt, name),
-        },
+        }),
         Ask::Settle => Command::Settle,
     }
 }

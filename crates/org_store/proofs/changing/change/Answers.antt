@@ -7,8 +7,7 @@ use Rattle.org_commands.specs.declared.command.RunFault.TheVariants.{Device}
 use Rattle.org_commands.specs.Files.{files_of, new_texts, texts_now}
 use Rattle.org_commands.specs.InOrder.{texts_of}
 use Rattle.org_commands.specs.Keeping.{PlansOrStays}
-use Rattle.org_commands.specs.Kinds.{changing}
-use Rattle.org_commands.specs.Outcome.{Outcome, changed, counted, outcome}
+use Rattle.org_commands.specs.Outcome.{Outcome, changed, counted, outcome_of_change}
 use Rattle.org_commands.specs.Session.{StoreView, view_over}
 use Rattle.org_commands.specs.Step.{Steps}
 use Rattle.org_commands.proofs.Faults.{whole_behind}
@@ -33,7 +32,7 @@ returns-in_err-put-in-Ok-Some-clause-executes g c =
     let put = c.in_err-put-in-Ok-Some.ensures in
     let old = view_over d.files states files tally in
     let now = view_over d.files states mid tally in
-    let asked = outcome old.session (changing c.args.asked.now) in
+    let asked = outcome_of_change old.session c.args.asked.now in
     let later = changed now.session (new_texts plan mid.held.now) in
     let fault = c.in_err-put-in-Ok-Some.field-0.0 in
     let new = view_over d.files states c.put.new.self tally in
@@ -56,7 +55,7 @@ returns-in_ok-put-in-Ok-Some-clause-executes g c =
     let put = c.in_ok-put-in-Ok-Some.ensures in
     let old = view_over d.files states files tally in
     let now = view_over d.files states mid tally in
-    let asked = outcome old.session (changing c.args.asked.now) in
+    let asked = outcome_of_change old.session c.args.asked.now in
     let later = changed now.session (new_texts plan mid.held.now) in
     let fits = c.plan.ensures.plan in
     let is_plan = c.in-Ok-Some.ensures.plan plan c.in-Ok-Some.field-0-is in
@@ -81,7 +80,7 @@ returns-in-Ok-None-clause-executes g c =
     let undone = c.undo.ensures in
     let old = view_over d.files states files tally in
     let now = view_over d.files states mid tally in
-    let asked = outcome old.session (changing c.args.asked.now) in
+    let asked = outcome_of_change old.session c.args.asked.now in
     let new = view_over d.files states c.count-in-Ok-None.new.files c.count-in-Ok-None.new.tally in
     let same : view_over d.files states after tally ≡ now = view_same d.files states mid after tally undone.memory undone.before in
     let back : texts_now d after ≡ now.session.files =
@@ -104,7 +103,7 @@ returns-in-Err-clause-executes g c =
     let mid = c.plan.new.files in
     let undone = c.undo-in-Err.ensures in
     let old = (view_over d.files states files tally).session in
-    let asked = outcome old (changing c.args.asked.now) in
+    let asked = outcome_of_change old c.args.asked.now in
     executes_read d states files tally (λ honest image left. g.met.D.Disk.only_now files.disk image honest left) c.requires.between.unbroken c.undo-in-Err.new.self asked (Err c.in-Err.fault) tt
     (only_reads_undone undone.memory undone.before (only_reads_fault refl c.in-Err.ensures.disk))
     (λ honest. subst (λ (v : StoreView g.row.D.Denot). Steps old asked (Err c.in-Err.fault) v.session) (sym (view_same d.files states mid c.undo-in-Err.new.self tally undone.memory undone.before))

@@ -1,11 +1,11 @@
 use Rattle.std.proofs.Common.{◌≡◌, ◌∙◌, true, Some, Err, List, ℕ, refl, sym, ap, subst, rules}
 use Rattle.org_journal.specs.Recovered.{contents}
 use Rattle.org_texts.specs.Texts.{TextSet, held_over, text_of}
-use Rattle.org_commands.specs.declared.command.Command.TheVariants as command
+use Rattle.org_commands.specs.declared.command.Question.TheVariants as asked
 use Rattle.org_commands.specs.declared.command.Reply.{Reply}
 use Rattle.org_commands.specs.declared.command.RunFault.TheVariants.{OutOfMemory}
 use Rattle.org_commands.specs.InOrder.{is_name, text_at}
-use Rattle.org_commands.specs.Outcome.{outcome, show}
+use Rattle.org_commands.specs.Outcome.{outcome_of_question, show}
 use Rattle.org_commands.specs.Session.{Session, view_over}
 use Rattle.org_commands.proofs.InOrder.{none_at}
 use Rattle.org_commands.proofs.Plans.{text_held}
@@ -20,24 +20,24 @@ returns-in_err-check_name g c states =
     let d = g.D.Disk in
     let own = c.args.files.now in
     let none = none_at (held_over own.held.before (contents (d.files own.disk))) own.names c.args.file.now c.in_err-check_name.ensures.1 in
-    question_refused d states own (command.Show c.args.file.now) c.requires.between c.from_residual.result c.from_residual.ensures.1 c.in_err-check_name.ensures.0 (λ tally. ap show none)
+    question_refused d states own (asked.Show c.args.file.now) c.requires.between c.from_residual.result c.from_residual.ensures.1 c.in_err-check_name.ensures.0 (λ tally. ap show none)
 
 pub returns-in_err-load : goal.returns-in_err-load
 returns-in_err-load g c states =
     let d = g.D.Disk in
     let own = c.args.files.now in
     let load = c.in_err-load.ensures in
-    let question = command.Show c.args.file.now in
+    let question = asked.Show c.args.file.now in
     let fault = c.in_err-load.field-0.0 in
     question_failed d states own question c.load.new.self fault c.from_residual-in_err-load.result (handed_on c.from_residual-in_err-load.result _ c.from_residual-in_err-load.ensures.1)
     (λ tally honest. let old = (view_over d.files states own tally).session in
-    does_read (Unit {0}) old (view_over d.files states c.load.new.self tally).session (outcome old question) fault c.requires.between.unbroken (load.files.reads states tally honest))
+    does_read (Unit {0}) old (view_over d.files states c.load.new.self tally).session (outcome_of_question old question) fault c.requires.between.unbroken (load.files.reads states tally honest))
     (load.unedited c.requires.between.unedited) load.files.disk
 
 pub returns-in_err-to_vec-in-Some : goal.returns-in_err-to_vec-in-Some
 returns-in_err-to_vec-in-Some g c states =
     let load = c.in_ok-load.ensures in
-    question_failed g.D.Disk states c.args.files.now (command.Show c.args.file.now) {A = Reply} c.load.new.self OutOfMemory c.from_residual-in_err-to_vec-in-Some.result
+    question_failed g.D.Disk states c.args.files.now (asked.Show c.args.file.now) {A = Reply} c.load.new.self OutOfMemory c.from_residual-in_err-to_vec-in-Some.result
     (handed_on c.from_residual-in_err-to_vec-in-Some.result _ c.from_residual-in_err-to_vec-in-Some.ensures.1)
     (λ tally honest. (c.requires.between.unbroken, load.files.reads states tally honest)) (load.unedited c.requires.between.unedited)
     (only_reads_own (Err OutOfMemory) OutOfMemory refl (λ no. cc, λ no. cc) load.files.disk)

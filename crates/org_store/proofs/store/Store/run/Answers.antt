@@ -3,17 +3,16 @@ use Rattle.org_journal.specs.Recovered.{contents}
 use Rattle.org_commands.specs.declared.command.RunFault.{RunFault}
 use Rattle.org_commands.specs.declared.command.RunFault.TheVariants.{Broken}
 use Rattle.org_commands.specs.declared.command.Command.{Command}
-use Rattle.org_commands.specs.declared.command.Command.TheVariants.{Settle}
+use Rattle.org_commands.specs.declared.command.Command.TheVariants.{Change, Ask, Settle}
 use Rattle.org_commands.specs.declared.command.Reply.{Reply}
 use Rattle.org_commands.specs.declared.command.Reply.TheVariants.{Safe}
 use Rattle.org_commands.specs.InOrder.{texts_of}
-use Rattle.org_commands.specs.Kinds.{asking, changing, command_of}
 use Rattle.org_commands.specs.Outcome.{outcome}
 use Rattle.org_commands.specs.Step.{Step}
 use Rattle.org_store.specs.Left.{IsLeft, IsLeftAlone}
 use Rattle.org_store.specs.Runs.{RunsOver}
 use Rattle.org_store.proofs.Calls.{reply_of, settling_runs}
-use Rattle.org_store.proofs.Executing.{executes_read, no_settling_asks, no_settling_changes, ran, runs_idle}
+use Rattle.org_store.proofs.Executing.{executes_read, ran, runs_idle}
 use Rattle.org_store.proofs.Leaving.{leaves_unwritten}
 use Rattle.org_store.proofs.Settled.{executes_sound}
 use Rattle.org_store.proofs.store.Store.run.Goals as goal
@@ -42,7 +41,7 @@ returns-in_err-settle-in-Settle-clause-did g c = λ honest.
     let new = c.settle.new.self in
     let why = c.in_err-settle-in-Settle.field-0.0 in
     let given : c.from_residual.result ≡ Err why = search rules in
-    subst (λ (command : Command). RunsOver d old command c.from_residual.result new) (ap command_of (sym c.in-Settle.is) ∙ c.kind.ensures)
+    subst (λ (command : Command). RunsOver d old command c.from_residual.result new) (sym c.in-Settle.is)
     (subst (λ (answer : Result Reply RunFault). RunsOver d old Settle answer new)
     (ap (reply_of old.session.accepted) c.in_err-settle-in-Settle.was ∙ sym given) (settling_runs d old new c.settle.result (c.settle.ensures.did honest)))
 
@@ -54,14 +53,14 @@ returns-in_ok-settle-in-Settle-clause-did g c = λ honest.
     let all : old.session.accepted ≡ c.self-in-Settle.inside.tally.acknowledged = search rules in
     let answered : reply_of old.session.accepted c.settle.result ≡ Ok (Safe c.self-in-Settle.inside.tally.acknowledged) =
     ap (reply_of old.session.accepted) c.in_ok-settle-in-Settle.was ∙ ap (λ (n : ℕ). Ok (Safe n)) all in
-    subst (λ (command : Command). RunsOver d old command (Ok (Safe c.self-in-Settle.inside.tally.acknowledged)) new) (ap command_of (sym c.in-Settle.is) ∙ c.kind.ensures)
+    subst (λ (command : Command). RunsOver d old command (Ok (Safe c.self-in-Settle.inside.tally.acknowledged)) new) (sym c.in-Settle.is)
     (subst (λ (answer : Result Reply RunFault). RunsOver d old Settle answer new) answered (settling_runs d old new c.settle.result (c.settle.ensures.did honest)))
 
 pub returns-in-Change-clause-did : goal.returns-in-Change-clause-did
 returns-in-Change-clause-did g c =
     let unbroken : c.self.inside.files.broken ≡ false = search rules in
-    let is : changing c.in-Change.asked ≡ c.args.command.now = ap command_of (sym c.in-Change.is) ∙ c.kind.ensures in
-    rw (← c.self.view_is, ← is) (ran g.D.Disk _ _ _ _ unbroken (no_settling_changes c.in-Change.asked) c.change.ensures.executes)
+    let is : Change c.in-Change.asked ≡ c.args.command.now = sym c.in-Change.is in
+    rw (← c.self.view_is, ← is) (ran g.D.Disk _ _ (Change c.in-Change.asked) _ unbroken (λ is. absurd (cc)) c.change.ensures.executes)
 
 pub returns-in-Change-clause-counts : goal.returns-in-Change-clause-counts
 returns-in-Change-clause-counts g c =
@@ -70,8 +69,8 @@ returns-in-Change-clause-counts g c =
 pub returns-in-Change-clause-idle : goal.returns-in-Change-clause-idle
 returns-in-Change-clause-idle g c =
     let unbroken : c.self.inside.files.broken ≡ false = search rules in
-    let is : changing c.in-Change.asked ≡ c.args.command.now = ap command_of (sym c.in-Change.is) ∙ c.kind.ensures in
-    rw (← c.self.view_is, ← is) (runs_idle g.D.Disk _ _ _ _ unbroken (no_settling_changes c.in-Change.asked) c.change.ensures.executes)
+    let is : Change c.in-Change.asked ≡ c.args.command.now = sym c.in-Change.is in
+    rw (← c.self.view_is, ← is) (runs_idle g.D.Disk _ _ (Change c.in-Change.asked) _ unbroken (λ is. absurd (cc)) c.change.ensures.executes)
 
 pub returns-in-Change-clause-broken : goal.returns-in-Change-clause-broken
 returns-in-Change-clause-broken g c =
@@ -81,37 +80,37 @@ pub returns-in-Change-clause-accounts : goal.returns-in-Change-clause-accounts
 returns-in-Change-clause-accounts g c =
     rw (← c.self.view_is) c.change.ensures.executes.accounts
 
-pub returns-in-Question-clause-did : goal.returns-in-Question-clause-did
-returns-in-Question-clause-did g c =
+pub returns-in-Ask-clause-did : goal.returns-in-Ask-clause-did
+returns-in-Ask-clause-did g c =
     let unbroken : c.self.inside.files.broken ≡ false = search rules in
-    let is : asking c.in-Question.asked ≡ c.args.command.now = ap command_of (sym c.in-Question.is) ∙ c.kind.ensures in
-    rw (← c.self.view_is, ← is) (ran g.D.Disk _ _ _ _ unbroken (no_settling_asks c.in-Question.asked) (executes_read g.D.Disk c.self.inside.states c.self.inside.files c.self.inside.tally (λ honest image left. g.met.D.Disk.only_now c.self.inside.files.disk image honest left) unbroken c.answer.new.files _ c.answer.result c.answer.ensures.uncounted c.answer.ensures.disk (c.answer.ensures.steps c.self.inside.tally)))
+    let is : Ask c.in-Ask.question ≡ c.args.command.now = sym c.in-Ask.is in
+    rw (← c.self.view_is, ← is) (ran g.D.Disk _ _ (Ask c.in-Ask.question) _ unbroken (λ is. absurd (cc)) (executes_read g.D.Disk c.self.inside.states c.self.inside.files c.self.inside.tally (λ honest image left. g.met.D.Disk.only_now c.self.inside.files.disk image honest left) unbroken c.answer.new.files _ c.answer.result c.answer.ensures.uncounted c.answer.ensures.disk (c.answer.ensures.steps c.self.inside.tally)))
 
-pub returns-in-Question-clause-counts : goal.returns-in-Question-clause-counts
-returns-in-Question-clause-counts g c =
+pub returns-in-Ask-clause-counts : goal.returns-in-Ask-clause-counts
+returns-in-Ask-clause-counts g c =
     let unbroken : c.self.inside.files.broken ≡ false = search rules in
     rw (← c.self.view_is) (executes_read g.D.Disk c.self.inside.states c.self.inside.files c.self.inside.tally (λ honest image left. g.met.D.Disk.only_now c.self.inside.files.disk image honest left) unbroken c.answer.new.files _ c.answer.result c.answer.ensures.uncounted c.answer.ensures.disk (c.answer.ensures.steps c.self.inside.tally)).counts
 
-pub returns-in-Question-clause-idle : goal.returns-in-Question-clause-idle
-returns-in-Question-clause-idle g c =
+pub returns-in-Ask-clause-idle : goal.returns-in-Ask-clause-idle
+returns-in-Ask-clause-idle g c =
     let unbroken : c.self.inside.files.broken ≡ false = search rules in
-    let is : asking c.in-Question.asked ≡ c.args.command.now = ap command_of (sym c.in-Question.is) ∙ c.kind.ensures in
-    rw (← c.self.view_is, ← is) (runs_idle g.D.Disk _ _ _ _ unbroken (no_settling_asks c.in-Question.asked) (executes_read g.D.Disk c.self.inside.states c.self.inside.files c.self.inside.tally (λ honest image left. g.met.D.Disk.only_now c.self.inside.files.disk image honest left) unbroken c.answer.new.files _ c.answer.result c.answer.ensures.uncounted c.answer.ensures.disk (c.answer.ensures.steps c.self.inside.tally)))
+    let is : Ask c.in-Ask.question ≡ c.args.command.now = sym c.in-Ask.is in
+    rw (← c.self.view_is, ← is) (runs_idle g.D.Disk _ _ (Ask c.in-Ask.question) _ unbroken (λ is. absurd (cc)) (executes_read g.D.Disk c.self.inside.states c.self.inside.files c.self.inside.tally (λ honest image left. g.met.D.Disk.only_now c.self.inside.files.disk image honest left) unbroken c.answer.new.files _ c.answer.result c.answer.ensures.uncounted c.answer.ensures.disk (c.answer.ensures.steps c.self.inside.tally)))
 
-pub returns-in-Question-clause-broken : goal.returns-in-Question-clause-broken
-returns-in-Question-clause-broken g c =
+pub returns-in-Ask-clause-broken : goal.returns-in-Ask-clause-broken
+returns-in-Ask-clause-broken g c =
     let unbroken : c.self.inside.files.broken ≡ false = search rules in
     rw (← c.self.view_is) (executes_read g.D.Disk c.self.inside.states c.self.inside.files c.self.inside.tally (λ honest image left. g.met.D.Disk.only_now c.self.inside.files.disk image honest left) unbroken c.answer.new.files _ c.answer.result c.answer.ensures.uncounted c.answer.ensures.disk (c.answer.ensures.steps c.self.inside.tally)).broken
 
-pub returns-in-Question-clause-accounts : goal.returns-in-Question-clause-accounts
-returns-in-Question-clause-accounts g c =
+pub returns-in-Ask-clause-accounts : goal.returns-in-Ask-clause-accounts
+returns-in-Ask-clause-accounts g c =
     let unbroken : c.self.inside.files.broken ≡ false = search rules in
     rw (← c.self.view_is) (executes_read g.D.Disk c.self.inside.states c.self.inside.files c.self.inside.tally (λ honest image left. g.met.D.Disk.only_now c.self.inside.files.disk image honest left) unbroken c.answer.new.files _ c.answer.result c.answer.ensures.uncounted c.answer.ensures.disk (c.answer.ensures.steps c.self.inside.tally)).accounts
 
 pub invariant_of-self : goal.invariant_of-self
 invariant_of-self g c = (c.change.ensures.unedited, executes_sound g.D.Disk _ _ _ c.change.result c.self.inside.tally.ordered c.change.ensures.executes c.self.invariant.1)
 
-pub invariant_of-self-in-Question : goal.invariant_of-self-in-Question
-invariant_of-self-in-Question g c =
+pub invariant_of-self-in-Ask : goal.invariant_of-self-in-Ask
+invariant_of-self-in-Ask g c =
     let unbroken : c.self.inside.files.broken ≡ false = search rules in
     (c.answer.ensures.unedited, executes_sound g.D.Disk _ _ _ c.answer.result c.self.inside.tally.ordered (executes_read g.D.Disk c.self.inside.states c.self.inside.files c.self.inside.tally (λ honest image left. g.met.D.Disk.only_now c.self.inside.files.disk image honest left) unbroken c.answer.new.files _ c.answer.result c.answer.ensures.uncounted c.answer.ensures.disk (c.answer.ensures.steps c.self.inside.tally)) c.self.invariant.1)
