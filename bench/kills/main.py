@@ -109,7 +109,10 @@ class Demo:
 
 
 def find_program() -> str:
-    """The program that ./run takes: a proved one, else an unproved one, which is built where there is none."""
+    """In a checkout the program that ./run takes: a proved one, else an unproved one, which is built where there is
+    none. Else the one that was installed with this file, which lies in PREFIX/share/orgstore/kills."""
+    if not os.path.exists(TOP + "/packaging/build.sh"):
+        return os.path.join(os.path.dirname(TOP), "bin", "orgstore")
     words = ["bash", "-c", '. "$top/packaging/build.sh" && have any && printf %s "$program"']
     process = subprocess.Popen(words, env={**os.environ, "top": TOP}, stdout=subprocess.PIPE, text=True)
     try:
@@ -134,7 +137,7 @@ def read_arguments() -> argparse.Namespace:
                         help="which commands and moments are chosen")
     parser.add_argument("--no-emacs", action="store_true", help="leaves Emacs out")
     parser.add_argument("--precious", action="store_true", help="sets file-precious-flag in Emacs")
-    parser.add_argument("--program", metavar="PATH", help="the program to kill, else the one that ./run takes")
+    parser.add_argument("--program", metavar="PATH", help="the program to kill, else that of ./run, or of ./install")
     parser.add_argument("--table", metavar="FILE", help="writes the results there too, with tabs between columns")
     return parser.parse_args()
 

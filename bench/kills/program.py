@@ -14,7 +14,9 @@ from typing import Dict, List, Optional, Sequence, Tuple
 from kills.counts import Count, Screen
 from kills.notes import Move, Verdict, after, archive, journal_is_open, judge, make_notes, plan, read_files, refile
 
-TOP = os.path.dirname(os.path.dirname(os.path.dirname(os.path.realpath(__file__))))
+HERE = os.path.dirname(os.path.realpath(__file__))
+# The library that kills the program: beside this file where it is installed, else among the tests of the checkout.
+SOURCES = (HERE + "/kills.c", os.path.join(os.path.dirname(os.path.dirname(HERE)), "tests", "preload", "kills.c"))
 
 
 class Trouble(Exception):
@@ -261,7 +263,7 @@ def build_library(room: Room) -> Optional[str]:
     """The library that kills before a call, where a C compiler is there."""
     compiler = shutil.which("cc")
     library = os.path.join(room.library, "kills.so")
-    words = ["-shared", "-fPIC", "-O1", "-o", library, os.path.join(TOP, "tests", "preload", "kills.c"), "-ldl"]
+    words = ["-shared", "-fPIC", "-O1", "-o", library, next(filter(os.path.exists, SOURCES)), "-ldl"]
     # A compiler that is killed leaves files in its TMPDIR.
     environment = {**os.environ, "TMPDIR": room.library}
     if compiler and subprocess.run([compiler, *words], env=environment, capture_output=True).returncode == 0:
