@@ -7,14 +7,14 @@
 ;; emacs -Q --batch -l bench-org.el -f bench-org-run LINES WARM_UP
 ;;
 ;; Does the command lines of the file LINES in the current folder by the functions
-;; of tests/org/conformity.el, each with its save, which Emacs syncs as it does for
+;; of tests/program/org/conformity.el, each with its save, which Emacs syncs as it does for
 ;; a user.  What it takes to find a heading by its path isn't part of it, for a user
 ;; is there already; nor is redisplay, for Emacs runs in batch.  Prints the seconds
 ;; of each line behind the first WARM_UP, one a line.
 
 ;;; Code:
 
-(load (expand-file-name "../tests/org/conformity.el" (file-name-directory load-file-name)) nil t)
+(load (expand-file-name "../tests/program/org/conformity.el" (file-name-directory load-file-name)) nil t)
 
 (defvar org-todo-keywords)
 (declare-function conformity-line "conformity")

@@ -20,6 +20,8 @@ USED = {"binutils": "readelf", "e2fsprogs": "mkfs.ext4", "emacs-nox": "emacs", "
         "gnupg": "gpg", "libc6-dev": "/usr/include/stdio.h", "man-db": "man", "mandoc": "mandoc", "mount": "mount",
         "mypy": "mypy", "procps": "ps", "python3-build": "pyproject-build", "python3-flake8": "flake8",
         "shellcheck": "shellcheck", "strace": "strace", "xz-utils": "xz", "zsh": "zsh"}
+# Where the scripts lie.
+FOLDERS = ("program", "clients", "repository")
 # What every script stands on.
 SHARED = ("tests/common.", "tests/needs.")
 
@@ -120,7 +122,7 @@ def changed_crates(files: List[str]) -> Tuple[List[str], bool]:
 def changed_scripts(files: List[str], is_program_changed: bool) -> Iterator[str]:
     """The scripts that read one of these files, or the program where that is another."""
     for name, script in scripts().items():
-        reads = ["tests/" + name, *SHARED, *(it for it in script.reads if it not in (".", "program"))]
+        reads = [*("tests/%s/%s" % (folder, name) for folder in FOLDERS), *SHARED, *(it for it in script.reads if it not in (".", "program"))]
         is_read = any(file == it or file.startswith(it if it in SHARED else it + "/") for file in files for it in reads)
         if is_read or ("program" in script.reads and is_program_changed) or ("." in script.reads and files):
             yield name

@@ -6,5 +6,5 @@ emacs     Org's own commands (kills.el), killed before each call
 counts    what was counted, and the tables of it
 main      the words of ./demo, and all parts one after another
 
-tests/demo judges the judge; tests/full_disk takes its notes and its judge too.
+tests/program/demo judges the judge; tests/program/full_disk takes its notes and its judge too.
 """

@@ -15,7 +15,7 @@
 ;; `ost-alone' defines a test that is run with the mode alone.  Time and IDs stand
 ;; still in all of them.
 ;;
-;; The runner, tests/emacs, sets what the tests take from the environment:
+;; The runner, tests/clients/emacs, sets what the tests take from the environment:
 ;; ORGSTORE_PROGRAM, the program; ORGSTORE_STOPS, the preload library of
 ;; tests/stops.c.  Each run of the program writes a line into a log.  The file
 ;; `plan' says that the next run is to be ended at one of its calls: see `ost-plan'.

@@ -10,8 +10,8 @@ from orgstore import Archive, Heading, NotFound, NotUnique, Refused, States, Sto
 
 from .support import M, FolderTest, closed
 
-# Of each row a heading's line, its keyword, priority, title and tags; tests/rows/headings.txt says more.
-ROWS = os.path.join(os.path.dirname(os.path.abspath(__file__)), "../../../tests/rows/headings.txt")
+# Of each row a heading's line, its keyword, priority, title and tags; tests/program/rows/headings.txt says more.
+ROWS = os.path.join(os.path.dirname(os.path.abspath(__file__)), "../../../tests/program/rows/headings.txt")
 
 
 def parts() -> Iterator[Tuple[bytes, Tuple[str, str, str, Tuple[str, ...]]]]:

@@ -1,6 +1,6 @@
 //! What an outline says of its headings: where they, their subtrees and their sections lie, which
 //! of them paths name, and their parts. Where subtrees go in below them, and which of them titles
-//! name, commands show (tests/commands).
+//! name, commands show (tests/program/commands).
 ghost use Rattle.std.specs.Prelude.{◌≡◌, ◌<◌};
 ghost use Rattle.org_splice.specs.Lines.{terminated};
 ghost use Rattle.org_outline.specs.Tree.{node_count, tree};

@@ -1,0 +1,1 @@
+"""The rows of tests/program/commands, by command."""

@@ -1,1 +1,0 @@
-"""The rows of tests/commands, by command."""
