@@ -121,7 +121,9 @@ class Interrupts(FolderTest):
         self.assertEqual(python.returncode, -signal.SIGINT)
         self.assertTrue(errors.endswith(b"KeyboardInterrupt\n"), errors)
         accepted, safe, closed = said.split()
-        self.assertEqual((accepted, closed), (safe, b"True"))
+        self.assertEqual(accepted, safe)
+        # (an interrupt before the first command is sent has nothing to close)
+        self.assertTrue(closed == b"True" or accepted == b"0", said)
         return int(safe)
 
     def test_interrupts(self) -> None:
