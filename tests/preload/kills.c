@@ -29,6 +29,8 @@ static void count_file(int file) {
 
 static void count_path(int folder, const char *path) {
     char link[64], whole[2 * PATH_MAX] = "";
+    int end = 0;
+    if (sscanf(path, "/proc/self/fd/%d/%n", &folder, &end) == 1 && end > 0) path += end;
     if (path[0] != '/') {
         snprintf(link, sizeof link, folder == AT_FDCWD ? "/proc/self/cwd" : "/proc/self/fd/%d", folder);
         if (readlink(link, whole, PATH_MAX - 1) < 0) return;

@@ -12,6 +12,7 @@ use indexmap::IndexSet;
 use org_disk::{Disk, DiskFault, FileName};
 use org_folder::{CallsDisk, FolderDisk, HostSystem, Locks, Start, System, Unknown};
 use std::fs::{Files, Permissions};
+use std::os::fd::AsRawFd;
 use std::os::unix::fs::{FileExt, PermissionsExt, symlink};
 use std::process::Abort;
 use std::{fs, io};
@@ -79,7 +80,7 @@ fn locked<R: Files + AllocGlobal + Clone + Drop, S: Start>(
     folder: &str,
 ) -> HostSystem<R, S>
 where
-    R::File: FileExt + Locks,
+    R::File: FileExt + Locks + AsRawFd,
     ensures calls { result.log.events ≡ Locked folder.now ∷ [] }
     ensures held { IsHeld result.log.events }
 {
@@ -96,7 +97,7 @@ fn disk<R: Files + AllocGlobal + Clone + Drop, S: Start>(
     files: R,
 ) -> FolderDisk<R, S>
 where
-    R::File: FileExt + Locks,
+    R::File: FileExt + Locks + AsRawFd,
     ensures { result.folder.system.log.events ≡ Locked folder.now ∷ [] }
 {
     let system = locked(rt, files, folder);

@@ -6,3 +6,4 @@ mod Entries
 pub mod Looked
 mod Entered
 mod Listed
+mod Accounting

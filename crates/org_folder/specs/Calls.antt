@@ -221,24 +221,6 @@ is_filled (Write name from bytes ok ∷ earlier) = is_filled earlier
 is_filled (Cut name n ok ∷ earlier) = is_filled earlier
 is_filled (Sync name ok ∷ earlier) = is_filled earlier
 
--- the path of the folder that was locked last, or no path
-abbrev pub path_in : List Event → List ℕ
-path_in [] = []
-path_in (Filled path ∷ earlier) = path_in earlier
-path_in (Locked path ∷ earlier) = path
-path_in (Entry name ∷ earlier) = path_in earlier
-path_in (Listed ∷ earlier) = path_in earlier
-path_in (There name device number plain ∷ earlier) = path_in earlier
-path_in (Unseen name ∷ earlier) = path_in earlier
-path_in (Made name ok ∷ earlier) = path_in earlier
-path_in (Entered name ok ∷ earlier) = path_in earlier
-path_in (Absent name ∷ earlier) = path_in earlier
-path_in (Length name n ∷ earlier) = path_in earlier
-path_in (Read name from bytes ∷ earlier) = path_in earlier
-path_in (Write name from bytes ok ∷ earlier) = path_in earlier
-path_in (Cut name n ok ∷ earlier) = path_in earlier
-path_in (Sync name ok ∷ earlier) = path_in earlier
-
 -- Whether the folder was locked, as far as the system locks it. No call lets the lock go, and none
 -- locks another folder then.
 abbrev pub is_held : List Event → Bool

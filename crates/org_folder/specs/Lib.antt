@@ -7,4 +7,5 @@ pub mod Listing
 pub mod Locks
 pub mod Note
 pub mod OrgFiles
+pub mod Raw
 pub mod Right

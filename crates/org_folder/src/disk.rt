@@ -7,8 +7,9 @@ ghost use Rattle.org_disk.specs.Disk.{IsCounted};
 ghost use Rattle.org_folder.specs.Calls.{IsHeld, LeftSince};
 ghost use Rattle.org_folder.specs.Right.{file_of, HasBeenRight, HaveNoFiles};
 
+use crate::calls::HostCalls;
 use crate::folder::Folder;
-use crate::system::{HostSystem, System};
+use crate::system::{CallsSystem, System};
 use indexmap::IndexSet;
 use org_disk::{Disk, DiskFault, FileName, Standing};
 use std::alloc::Global;
@@ -43,6 +44,9 @@ pub struct CallsDisk<S: System> {
 /// The record stands in proofs alone and takes no memory. `S` says what the files held at first,
 /// which no code can read.
 pub type FolderDisk<R, S> = CallsDisk<HostSystem<R, S>>;
+
+/// The calls on a folder of the operating system.
+pub type HostSystem<R, S> = CallsSystem<HostCalls<R>, S>;
 
 impl<S: System + Drop> CallsDisk<S>
 where

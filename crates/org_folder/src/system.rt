@@ -7,6 +7,7 @@ ghost use Rattle.org_folder.specs.Calls.{Event, HasAbsent, HasEntered, IsWithin,
 ghost use Rattle.org_folder.specs.Calls.Event.{Absent, Cut, Entered, Filled, Length, Listed, Locked, Made, Read, Sync, There, Unseen, Write};
 
 use crate::aliases::Node;
+use crate::calls::Handle;
 use crate::list::ListFault;
 use crate::lock;
 use org_disk::{DiskFault, FileName, Standing};
@@ -16,17 +17,17 @@ use std::alloc::AllocError;
 use std::cell::Cell;
 
 mod access;
-mod again;
-mod host;
+mod calls_system;
+mod reach;
 mod seen;
 mod standing;
 
-pub use host::{HostSystem, Locks};
+pub use calls_system::CallsSystem;
 
 // A file of the system, as it was found or made.
 #[derive(Drop)]
 struct Reached<F> {
-    file: F,
+    handle: Handle<F>,
     is_writable: bool,
     // no link led to it, and it wasn't made
     is_own: bool,
@@ -38,7 +39,7 @@ struct Reached<F> {
 #[derive(Drop)]
 pub struct Opened<F> {
     name: FileName,
-    file: F,
+    handle: Handle<F>,
     // it was opened for writing too
     is_writable: bool,
     // it was found in the folder itself: no link led to it, and it wasn't made
@@ -47,17 +48,20 @@ pub struct Opened<F> {
     is_entered: bool,
     // what the system last said of it
     seen: Cell<Seen>,
+    // the system opened it under this name
+    ghost reached: { string_bytes handle.path ≡ name },
 }
 
 impl<F: Drop> Opened<F> {
     fn new(name: &FileName, file: Reached<F>) -> Result<Opened<F>, DiskFault>
+        requires { string_bytes file.handle.path ≡ name.now }
         ensures name { IfOk result (λ opened. opened.name ≡ name.now) }
         ensures entry { IfOk result (λ opened. IsFalse opened.is_entered) }
     {
         match name.clone() {
             Ok(name) => Ok(Opened {
                 name,
-                file: file.file,
+                handle: file.handle,
                 is_writable: file.is_writable,
                 is_own: file.is_own,
                 is_entered: false,

@@ -99,7 +99,13 @@ class Reader:
 
     def entry(self, path: bytes) -> Optional[str]:
         """The name of an entry of the folder, "" for the folder itself, None for what lies elsewhere."""
-        full = os.path.normpath(os.path.join(os.path.dirname(self.folder), os.fsdecode(path)))
+        text = os.fsdecode(path)
+        lasting = re.match(r"/proc/self/fd/(\d+)/", text)
+        if lasting:
+            if self.opened.get(int(lasting.group(1))) != "":
+                return None
+            text = os.path.join(self.folder, text[lasting.end():])
+        full = os.path.normpath(os.path.join(os.path.dirname(self.folder), text))
         if full == self.folder:
             return ""
         return os.path.basename(full) if os.path.dirname(full) == self.folder else None

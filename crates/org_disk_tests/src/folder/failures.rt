@@ -8,6 +8,7 @@ use std::cell::Cell;
 use std::fs::{File, FileTimes, Files, Metadata, OpenFile, OpenOptions, Permissions, TryLockError};
 use std::io;
 use std::io::{Error, ErrorKind, Read, Seek, SeekFrom, Write};
+use std::os::fd::{AsRawFd, RawFd};
 use std::os::unix::fs::FileExt;
 use std::path::PathBuf;
 use std::process::Abort;
@@ -130,6 +131,12 @@ impl Locks for FailingFile {
     }
 }
 
+impl AsRawFd for FailingFile {
+    fn as_raw_fd(&self) -> RawFd {
+        self.file.as_raw_fd()
+    }
+}
+
 impl FileExt for FailingFile {
     fn read_at(&self, buf: &mut [u8], offset: u64) -> io::Result<usize> {
         count(&self.fails_in)?;
@@ -181,12 +188,12 @@ const ENTRY_FAILS: &[Step] = &[
     Step::Call("a.org", Call::Each, Err(DiskFault), 2),
 ];
 
-// The file system, of which the call with this number fails, counted behind the one that opens the
-// folder to lock it.
+// The file system, of which the call with this number fails, counted after the two that open the
+// folder to lock it and ask which one it is.
 fn failing_system(rt: &impl Abort, host: &HostRuntime, fails_in: u64) -> Failing {
     Failing {
         rt: host.clone().expect(rt, "memory"),
-        fails_in: Rc::new(host.alloc(), Cell::new(fails_in.saturating_add(1))).expect(rt, "memory"),
+        fails_in: Rc::new(host.alloc(), Cell::new(fails_in.saturating_add(2))).expect(rt, "memory"),
     }
 }
 

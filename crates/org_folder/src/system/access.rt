@@ -3,11 +3,13 @@
 //! The journal's record has the text of any file of the folder, and an archive file what an Org
 //! file had: neither is for more people than these are. Where the system refuses a change of
 //! permissions, as it does of another user's file, they stay; that is no fault.
-use std::fs::{Metadata, OpenFile, Permissions};
-use std::os::unix::fs::{MetadataExt, PermissionsExt};
+use crate::calls::Status;
 
 /// The permissions of a file that is its owner's alone.
 pub(super) const OWNER: u32 = 0o600;
+
+/// The permissions of a file that the user's own setting limits.
+pub(super) const ANYONE: u32 = 0o666;
 
 const OWNER_AND_GROUP: u32 = 0o660;
 
@@ -29,37 +31,41 @@ pub(super) struct Access {
 impl Access {
     // To the journal of this folder: its owner's alone, or its group's too where that may write the
     // folder.
-    pub(super) fn to_journal(folder: &Metadata) -> Access {
-        let is_shared = folder.mode() & GROUP_WRITES != 0;
+    pub(super) fn to_journal(folder: &Status) -> Access {
+        let is_shared = folder.mode & GROUP_WRITES != 0;
         Access {
             mode: if is_shared { OWNER_AND_GROUP } else { OWNER },
-            group: folder.gid(),
+            group: folder.group,
         }
     }
 
     // To the archive file of this Org file: the same as to that.
-    pub(super) fn to_archive(org_file: &Metadata) -> Access {
+    pub(super) fn to_archive(org_file: &Status) -> Access {
         Access {
-            mode: org_file.mode() & ALL | OWNER,
-            group: org_file.gid(),
+            mode: org_file.mode & ALL | OWNER,
+            group: org_file.group,
         }
     }
 
-    // Gives it to a file that was made as its owner's alone. One that isn't so was made by another
-    // program meanwhile, and stays.
-    pub(super) fn give<F: OpenFile>(&self, file: &F, made: &Metadata) {
-        let mode = self.mode_for(made.gid());
-        if made.mode() & ALL == OWNER && mode != OWNER {
-            let _ = file.set_permissions(Permissions::from_mode(mode));
+    // The permissions to give to a file that was made as its owner's alone, if others. One that
+    // isn't so was made by another program meanwhile, and keeps its own.
+    pub(super) fn given(&self, made: &Status) -> Option<u32> {
+        let mode = self.mode_for(made.group);
+        if made.mode & ALL == OWNER && mode != OWNER {
+            Some(mode)
+        } else {
+            None
         }
     }
 
-    // Takes from the group and from all others what goes beyond it.
-    pub(super) fn limit<F: OpenFile>(&self, file: &F, found: &Metadata) {
-        let beyond = found.mode() & (GROUP | OTHERS) & !self.mode_for(found.gid());
+    // The permissions of this file without what goes beyond these for the group and for all others,
+    // if it has any of that.
+    pub(super) fn limited(&self, found: &Status) -> Option<u32> {
+        let beyond = found.mode & (GROUP | OTHERS) & !self.mode_for(found.group);
         if beyond != 0 {
-            let mode = found.mode() & 0o7777 & !beyond;
-            let _ = file.set_permissions(Permissions::from_mode(mode));
+            Some(found.mode & 0o7777 & !beyond)
+        } else {
+            None
         }
     }
 
@@ -75,6 +81,6 @@ impl Access {
 }
 
 // Whether more than its owner may use a file.
-pub(super) fn is_shared(found: &Metadata) -> bool {
-    found.mode() & (GROUP | OTHERS) != 0
+pub(super) fn is_shared(found: &Status) -> bool {
+    found.mode & (GROUP | OTHERS) != 0
 }

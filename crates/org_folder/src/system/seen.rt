@@ -1,6 +1,5 @@
 //! What the system said of a file, by which a change that another program makes is noticed.
-use std::fs::Metadata;
-use std::os::unix::fs::MetadataExt;
+use crate::calls::{Status, Time};
 
 /// Which file it was, and how it was left as far as that was asked.
 #[derive(Clone, Copy)]
@@ -14,24 +13,22 @@ pub(super) struct Seen {
 #[derive(Clone, Copy)]
 struct Left {
     length: u64,
-    seconds: i64,
-    nanoseconds: i64,
+    modified: Time,
 }
 
 impl Seen {
-    pub(super) fn of(metadata: &Metadata) -> Seen {
+    pub(super) fn of(status: &Status) -> Seen {
         Seen {
-            device: metadata.dev(),
-            number: metadata.ino(),
+            device: status.device,
+            number: status.number,
             left: Some(Left {
-                length: metadata.len(),
-                seconds: metadata.mtime(),
-                nanoseconds: metadata.mtime_nsec(),
+                length: status.length,
+                modified: status.modified,
             }),
         }
     }
 
-    // The same file after a write of our own, behind which the system wasn't asked again.
+    // The same file after a write of our own, after which the system wasn't asked again.
     pub(super) fn written(&self) -> Seen {
         Seen {
             device: self.device,
@@ -44,9 +41,7 @@ impl Seen {
     pub(super) fn is_still(&self, now: &Seen) -> bool {
         let is_left = match (&self.left, &now.left) {
             (Some(left), Some(now)) => {
-                left.length == now.length
-                    && left.seconds == now.seconds
-                    && left.nanoseconds == now.nanoseconds
+                left.length == now.length && left.modified.is(&now.modified)
             }
             _ => true,
         };
@@ -60,32 +55,26 @@ impl Seen {
 pub(super) struct Change {
     device: u64,
     number: u64,
-    seconds: i64,
-    nanoseconds: i64,
+    changed: Time,
 }
 
 impl Change {
-    pub(super) fn of(metadata: &Metadata) -> Change {
+    pub(super) fn of(status: &Status) -> Change {
         Change {
-            device: metadata.dev(),
-            number: metadata.ino(),
-            seconds: metadata.ctime(),
-            nanoseconds: metadata.ctime_nsec(),
+            device: status.device,
+            number: status.number,
+            changed: status.changed,
         }
     }
 
     // Whether this is the last change still.
     pub(super) fn is_still(&self, now: &Change) -> bool {
-        self.device == now.device
-            && self.number == now.number
-            && self.seconds == now.seconds
-            && self.nanoseconds == now.nanoseconds
+        self.device == now.device && self.number == now.number && self.changed.is(&now.changed)
     }
 
     // Whether this came after the other one: then whatever changes the other one's file from here
     // on gets another time, however seldom the system's clock goes on.
     pub(super) fn is_later_than(&self, other: &Change) -> bool {
-        self.seconds > other.seconds
-            || self.seconds == other.seconds && self.nanoseconds > other.nanoseconds
+        self.changed.is_later_than(&other.changed)
     }
 }

@@ -5,38 +5,19 @@
 //! was one that changed since the system started, where the journal didn't. The times are those of
 //! the last change of status, which no program can set, and of birth, where the system tells it:
 //! what another program puts in a file's place may have an older time of the one kind.
-use super::again::again;
-use org_disk::Standing;
-use std::fs;
-use std::fs::{Files, Metadata};
-use std::os::unix::fs::MetadataExt;
-use std::time::UNIX_EPOCH;
+ghost use Rattle.org_folder.specs.Raw.{OnlyAsks};
+
+use super::reach::there;
+use crate::calls::{Calls, Status, Time};
+use crate::list::is_org_file;
+use org_disk::{FileName, Standing};
+use std::io;
+use std::io::{Error, ErrorKind};
+use std::path::Path;
 
 // How much later than its journal a file may have been written by the store that crashed, in
 // seconds: as long as the writes of a record may take.
 const LATEST: i64 = 60;
-
-// Seconds since 1970, and nanoseconds.
-#[derive(Clone, Copy)]
-struct Time {
-    seconds: i64,
-    nanoseconds: i64,
-}
-
-impl Time {
-    fn is_later_than(&self, other: &Time) -> bool {
-        self.seconds > other.seconds
-            || self.seconds == other.seconds && self.nanoseconds > other.nanoseconds
-    }
-
-    // So many seconds later.
-    fn after(&self, seconds: i64) -> Time {
-        Time {
-            seconds: self.seconds.saturating_add(seconds),
-            nanoseconds: self.nanoseconds,
-        }
-    }
-}
 
 /// When the status of a file changed last, and when it was born.
 #[derive(Clone, Copy)]
@@ -46,13 +27,10 @@ pub(super) struct Times {
 }
 
 impl Times {
-    pub(super) fn of(metadata: &Metadata) -> Times {
+    pub(super) fn of(status: &Status) -> Times {
         Times {
-            changed: Time {
-                seconds: metadata.ctime(),
-                nanoseconds: metadata.ctime_nsec(),
-            },
-            born: birth_of(metadata),
+            changed: status.changed,
+            born: status.born,
         }
     }
 
@@ -65,46 +43,100 @@ impl Times {
     }
 }
 
-// When a file was born, where the system tells it. No file is older than 1970.
-fn birth_of(metadata: &Metadata) -> Option<Time> {
-    let born = metadata.created().ok()?;
-    let since = born.duration_since(UNIX_EPOCH).ok()?;
-    Some(Time {
-        seconds: i64::try_from(since.as_secs()).ok()?,
-        nanoseconds: i64::from(since.subsec_nanos()),
-    })
+// So many seconds later.
+fn after(time: &Time, seconds: i64) -> Time {
+    Time {
+        seconds: time.seconds.saturating_add(seconds),
+        nanoseconds: time.nanoseconds,
+    }
 }
 
-/// How a file with these times stands beside its journal. `files` is asked when the system started,
-/// where that makes a difference.
-pub(super) fn of_file<R: Files + AllocGlobal>(
-    files: &R,
-    file: &Times,
-    journal: &Times,
-) -> Standing {
+// How the file of a name stands beside a journal with these times. A file that isn't there stands
+// as it was left: it was still to be made.
+pub(super) fn stands<C: Calls>(
+    calls: &mut C,
+    name: &FileName,
+    journal: Option<Times>,
+) -> io::Result<Standing>
+    ensures { OnlyAsks (C.made calls.old) (C.made calls.new) }
+{
+    let Some(entry) = there(calls.link_stat(name.as_str()))? else {
+        return Ok(Standing::Left);
+    };
+    if !entry.is_symlink() {
+        return beside_journal(calls, &entry, journal);
+    }
+    match linked(calls, name.as_str())? {
+        Some(file) => beside_journal(calls, &file, journal),
+        None => Ok(Standing::Outside),
+    }
+}
+
+fn beside_journal<C: Calls>(
+    calls: &mut C,
+    file: &Status,
+    journal: Option<Times>,
+) -> io::Result<Standing>
+    ensures { OnlyAsks (C.made calls.old) (C.made calls.new) }
+{
+    let Some(journal) = journal else {
+        return Err(Error::from(ErrorKind::NotFound));
+    };
+    Ok(of_file(calls, &Times::of(file), &journal))
+}
+
+// The file that a link leads to, where it is one of the folder's Org files. A link that leads
+// nowhere may lead anywhere.
+fn linked<C: Calls>(calls: &mut C, link: &str) -> io::Result<Option<Status>>
+    ensures { OnlyAsks (C.made calls.old) (C.made calls.new) }
+{
+    let Some(end) = there(calls.real_path(link))? else {
+        return Ok(None);
+    };
+    let folder = calls.real_path("")?;
+    if !is_org_file_in(folder.as_path(), end.as_path()) {
+        return Ok(None);
+    }
+    let file = calls.stat(end.as_path().to_string_lossy())?;
+    Ok(if file.is_file() { Some(file) } else { None })
+}
+
+// Whether a path is that of an Org file of this folder, by its name.
+fn is_org_file_in(folder: Path<'_>, path: Path<'_>) -> bool {
+    match (path.parent(), path.file_name()) {
+        (Some(parent), Some(name)) => parent == folder && is_org_file(name),
+        _ => false,
+    }
+}
+
+// How a file with these times stands beside its journal. The system is asked when it started where
+// that makes a difference.
+fn of_file<C: Calls>(calls: &mut C, file: &Times, journal: &Times) -> Standing
+    ensures { OnlyAsks (C.made calls.old) (C.made calls.new) }
+{
     let last = file.last();
-    if last.is_later_than(&journal.last().after(LATEST)) {
+    if last.is_later_than(&after(&journal.last(), LATEST)) {
         return Standing::Changed;
     }
-    if last.is_later_than(&journal.changed) && is_between(&journal.changed, boot(files), &last) {
-        return Standing::Changed;
+    if !last.is_later_than(&journal.changed) {
+        return Standing::Left;
     }
-    Standing::Left
-}
-
-// Whether the system started after the one time and before the other. Where it doesn't say when,
-// it didn't.
-fn is_between(before: &Time, boot: Option<i64>, after: &Time) -> bool {
-    match boot {
-        Some(boot) => before.seconds < boot && boot < after.seconds,
-        None => false,
+    match boot(calls) {
+        Some(boot) if journal.changed.seconds < boot && boot < last.seconds => Standing::Changed,
+        _ => Standing::Left,
     }
 }
 
 // When the system started, in seconds since 1970, as proc(5) says it in /proc/stat.
-fn boot<R: Files + AllocGlobal>(files: &R) -> Option<i64> {
-    let text = again(|| fs::read_to_string(files, "/proc/stat")).ok()?;
-    for line in text.as_str().lines() {
+fn boot<C: Calls>(calls: &mut C) -> Option<i64>
+    ensures { OnlyAsks (C.made calls.old) (C.made calls.new) }
+{
+    let text = calls.text("/proc/stat").ok()?;
+    started(text.as_str())
+}
+
+fn started(text: &str) -> Option<i64> {
+    for line in text.lines() {
         if let Some(seconds) = line.strip_prefix("btime ") {
             return seconds.trim().parse().ok();
         }

@@ -1,7 +1,7 @@
 use Rattle.std.proofs.Common.{◌≡◌, ⊎_elim, ℕ, List, [], sym, subst}
 use Rattle.org_disk.specs.Disk.{stable}
 use Rattle.org_folder.specs.Calls.{HasAbsent}
-use Rattle.org_folder.specs.Right.{HasBeenRight, file_of}
+use Rattle.org_folder.specs.Right.{file_of}
 use Rattle.org_folder.proofs.folder.Folder.keep_absent.Goals as goal
 
 pub invariant_of-self : goal.invariant_of-self

@@ -12,19 +12,11 @@ const MOST_REPEATS: u32 = 1_000_000;
 pub(super) fn again<T: Drop, F: Fn() -> io::Result<T>>(call: F) -> io::Result<T>
     requires { F.IsAlwaysCallable call }
 {
-    let mut answer = call();
     for _ in 0..MOST_REPEATS {
-        if !is_interrupted(&answer) {
-            return answer;
+        match call() {
+            Err(error) if error.kind() == ErrorKind::Interrupted => {}
+            answer => return answer,
         }
-        answer = call();
     }
-    answer
-}
-
-fn is_interrupted<T>(answer: &io::Result<T>) -> bool {
-    match answer {
-        Ok(_) => false,
-        Err(error) => error.kind() == ErrorKind::Interrupted,
-    }
+    call()
 }

@@ -1,6 +1,0 @@
-use Rattle.std.specs.Prelude.{◌≡◌, map, string_bytes, take}
-use Rattle.org_folder.specs.Calls.{with_entries}
-use Rattle.org_folder.proofs.system.host.HostSystem.note_entries.Given as goal
-
-abbrev pub invariant-loop-name : goal.invariant-loop-name
-invariant-loop-name g l = l.self.log.events ≡ with_entries (map string_bytes (take l.name-index l.names)) l.fn.self.log.events
