@@ -24,6 +24,8 @@ pub enum Standing {
     Changed,
     /// Its name leads out of the disk.
     Outside,
+    /// It is to be written over, however it stands.
+    Adopted,
 }
 
 /// A disk that holds files by name; an absent file and an empty one are the same.

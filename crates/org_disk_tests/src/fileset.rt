@@ -5,7 +5,7 @@ mod openings;
 
 use crate::disk::{are_texts, must};
 use org_fileset::{FileSet, OpenFault, OpenRefused};
-use org_fixtures::{NEW, disk_with as disk_of, file_name, org_names};
+use org_fixtures::{NEWEST, disk_with as disk_of, file_name, org_names};
 use org_test_disks::MemoryDisk;
 use std::alloc::Global;
 use std::process::Abort;
@@ -33,8 +33,8 @@ pub fn disk_with(
 }
 
 // The worked journal with this gate.
-fn with_gate(gate: u8) -> [u8; 75] {
-    let mut journal = NEW;
+fn with_gate(gate: u8) -> [u8; 85] {
+    let mut journal = NEWEST;
     journal[0] = gate;
     journal
 }

@@ -18,6 +18,17 @@ const TWO: [u8; 77] = [
     0, 0, 0, 0, 0, 0, 0, 6, 0, 0, 0, 0, 0, 0, 0, 1, 0x44, // D at 6
 ];
 
+// The same in version 3, of a file that was `* A`, `* B`: two bytes stand before the first patch, and
+// a newline after the last one.
+const THREE: [u8; 90] = [
+    0x01, 0x4f, 0x52, 0x47, 0x4a, 0x03, 0, 0, 0, 0, 0, 0, 0, 0, 0, 0x4a, // gate, header
+    0, 0, 0, 1, 0, 9, 0x69, 0x6e, 0x62, 0x6f, 0x78, 0x2e, 0x6f, 0x72, 0x67, // inbox.org
+    0, 0, 0, 0, 0, 0, 0, 8, 0, 0, 0, 0, 0, 0, 0, 8, // final length, old length
+    2, 0x2a, 0x20, 1, 0x0a, 0, 0, 0, 2, // contexts, number of patches
+    0, 0, 0, 0, 0, 0, 0, 2, 0, 0, 0, 0, 0, 0, 0, 1, 0x43, // C at 2
+    0, 0, 0, 0, 0, 0, 0, 6, 0, 0, 0, 0, 0, 0, 0, 1, 0x44, // D at 6
+];
+
 // Others in place of bytes, at most to their end.
 fn put(bytes: &mut [u8], at: usize, others: &[u8]) {
     for (i, other) in others.iter().enumerate() {

@@ -1,13 +1,13 @@
 -- What a set's commit needs of its changes, from what is asked of them.
-use Rattle.std.proofs.Common.{◌≡◌, ◌≢◌, inl, inr, ◌≤◌, ℕ, zero, suc, List, [], ◌∷◌, length, drop, map, true, false, Some, refl, ◌∙◌, subst, arith}
+use Rattle.std.proofs.Common.{◌≡◌, ◌≢◌, inl, inr, ◌≤◌, ◌<◌, ◌-◌, ◌^◌, ℕ, zero, suc, Bool, List, [], ◌∷◌, length, take, drop, map, true, false, Option, Some, None, refl, sym, ◌∙◌, subst, arith}
 use Rattle.org_disk.specs.declared.disk.Disk.{Ghosts}
 use Rattle.std.specs.List.{All, AllByRecursion, Contains, IsDistinct}
 use Rattle.std.specs.Map.{keys_of}
 use Rattle.std.specs.Set.{is_member}
 use Rattle.std.specs.Str.{bytes_eq}
-use Rattle.std.specs.Prelude.{Result, OnOk, IsErrAnd}
+use Rattle.std.specs.Prelude.{◌==◌, if◌then◌else◌, slice_range, IsSomeAnd, Result, OnOk, IsErrAnd}
 use Rattle.std.proofs.lemmas.Cmp.{nat_list_eq_equiv}
-use Rattle.std.proofs.lemmas.List.{length-map}
+use Rattle.std.proofs.lemmas.List.{length-map, length-take}
 use Rattle.std.proofs.lemmas.List.Elements.{All-from_recursion, recursion_from_All}
 use Rattle.std.proofs.lemmas.Map.Entries.{length-keys_of}
 use Rattle.std.proofs.lemmas.Map.Made.{length-le_from_is_member, is_member-Decides}
@@ -18,14 +18,17 @@ use Rattle.org_disk.proofs.Accounting.{accounts_none}
 use Rattle.org_disk.proofs.Moments.{passes_none, passes_as, leaves_only}
 use Rattle.org_disk.specs.Names.{journal_name}
 use Rattle.org_disk.specs.declared.disk.DiskFault.{DiskFault}
-use Rattle.org_splice.specs.Texts.{EditedText, IsEditOf}
+use Rattle.org_splice.specs.Texts.{EditedText, IsEditOf, pairs_of}
+use Rattle.org_journal.specs.declared.record.Before.{Before}
 use Rattle.org_journal.specs.declared.record.Entry.{Entry}
 use Rattle.org_splice.specs.declared.patch.Patch.{Patch}
-use Rattle.org_journal.specs.declared.record.Version.TheVariants.{Two}
-use Rattle.org_journal.specs.Record.{IsEntry, IsWellFormed, greatest_length, most_entries}
+use Rattle.org_journal.specs.declared.record.Version.TheVariants.{Two, Three}
+use Rattle.org_journal.specs.Record.{IsBefore, IsEntry, IsWellFormed, greatest_length, most_context, most_entries}
 use Rattle.org_journal.specs.Recovered.{Image, contents, replayed}
 use Rattle.org_journal.specs.Reading.{journal_at}
-use Rattle.org_fileset.specs.Entries.{AreEntriesOf, HasRecordOf, changed}
+use Rattle.org_splice.specs.Patches.{last_end}
+use Rattle.org_journal.specs.Left.{first_from}
+use Rattle.org_fileset.specs.Entries.{AreEntriesOf, HasRecordOf, before_of, changed}
 use Rattle.org_fileset.specs.Replay.{IsBeforeOrAfter, IsCommitted, CommitsEntriesOver, CommitsOver}
 use Rattle.org_fileset.specs.Set.{CommitsSet, Opened}
 use Rattle.org_fileset.specs.Writes.{IsOther, IsUnwritten}
@@ -81,7 +84,29 @@ same_length (change ∷ changes) (entry ∷ entries) are = let rest = same_lengt
 same_length [] (entry ∷ entries) are = absurd are
 same_length (change ∷ changes) [] are = absurd are
 
-each_entry : (changes : List Change) (entries : List Entry) → AreEntriesOf changes entries → AllByRecursion IsCommittable changes → AllByRecursion (IsEntry Two) entries
+few_taken : (n : ℕ) (text : List ℕ) → length (take n text) ≤ n
+few_taken n text = omega (arith, length-take n text)
+
+leading_few : (from : ℕ) (text : List ℕ) → length (slice_range text (from - most_context) from) ≤ most_context
+leading_few from text = omega (arith, few_taken (from - (from - most_context)) (drop (from - most_context) text))
+
+trailing_few : (b : Bool) (text : List ℕ) → length (if b then take most_context text else []) ≤ most_context
+trailing_few true text = few_taken most_context text
+trailing_few false text = omega arith
+
+-- what a commit writes down of a file as it was
+before_formed : (patches : List (ℕ × List ℕ)) (text : List ℕ) (before : Before) → (before.length < 2 ^ 64) × (before ≡ before_of before.length patches text) → IsBefore before
+before_formed patches text before is = record {
+  sized = is.0;
+  leading = subst (λ (b : Before). length b.leading ≤ most_context) (sym is.1) (leading_few (first_from patches) text);
+  trailing = subst (λ (b : Before). length b.trailing ≤ most_context) (sym is.1) (trailing_few (before.length == length text) (drop (last_end 0 patches) text));
+}
+
+some_formed : (patches : List (ℕ × List ℕ)) (text : List ℕ) (before : Option Before) → IsSomeAnd before (λ b. (b.length < 2 ^ 64) × (b ≡ before_of b.length patches text)) → IsSomeAnd before IsBefore
+some_formed patches text None is = absurd is
+some_formed patches text (Some before) is = before_formed patches text before is
+
+each_entry : (changes : List Change) (entries : List Entry) → AreEntriesOf changes entries → AllByRecursion IsCommittable changes → AllByRecursion (IsEntry Three) entries
 each_entry [] [] are can = tt
 each_entry (change ∷ changes) (entry ∷ entries) are can =
     let pair : Patch → ℕ × List ℕ = λ p. (p.from, p.bytes) in
@@ -92,6 +117,7 @@ each_entry (change ∷ changes) (entry ∷ entries) are can =
         few = omega (arith, long, are.0.patches.few);
         patches = are.0.patches;
         small = omega (arith, are.0.length_is, can.0.1);
+        before = some_formed (pairs_of entry.patches) change.1.bytes entry.before are.0.before;
       },
       each_entry changes entries are.1 can.1,
     )
@@ -100,7 +126,7 @@ each_entry (change ∷ changes) [] are can = absurd are
 
 pub changes_formed : (names : List (List ℕ)) (changes : List Change) (entries : List Entry) → AreEntriesOf changes entries → IsDistinct bytes_eq (keys_of changes) → (changes ≡ [] → ⊥)
     → AllByRecursion (λ name. name ≢ journal_name) names → length names ≤ most_entries → All (λ (change : Change). Contains names change.0) changes
-    → All (λ (change : Change). length change.1.bytes ≤ greatest_length Two) changes → IsWellFormed Two entries
+    → All (λ (change : Change). length change.1.bytes ≤ greatest_length Two) changes → IsWellFormed Three entries
 changes_formed names changes entries are distinct some each few named small =
     let can = committable names changes each named small in
     let long = same_length changes entries are in

@@ -15,6 +15,9 @@ pub mod Recovers
 mod OpenGate
 pub mod Commits
 mod Changes
+mod Noted
+mod Contexts
+mod Allowed
 mod Recorded
 pub mod Recovering
 mod Reopening

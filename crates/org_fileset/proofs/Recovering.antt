@@ -16,8 +16,9 @@ use Rattle.org_journal.specs.declared.finding.Found.TheVariants.{Open, Closed}
 use Rattle.org_journal.specs.Finding.{Finds}
 use Rattle.org_journal.specs.Gate.{front_size, is_open, HasClosedGate, LeavesClosed}
 use Rattle.org_journal.specs.Reading.{journal_at}
-use Rattle.org_journal.specs.declared.record.Version.TheVariants.{Two}
-use Rattle.org_journal.specs.Record.{is_named, IsEntry, IsWellFormed}
+use Rattle.org_journal.specs.declared.record.Version.{Version}
+use Rattle.org_journal.specs.declared.record.Version.TheVariants.{One, Two, Three}
+use Rattle.org_journal.specs.Record.{greatest_length, is_named, IsEntry, IsRecord}
 use Rattle.org_journal.specs.Recovered.{Image, SameFiles, RecoversTo, IsOpenOverRecord, IsRecoverable, OthersStable, recovered, all_fit, replayed, contents}
 use Rattle.org_fileset.specs.Opening.{IsFit}
 use Rattle.org_fileset.specs.Recovery.{EachRecovers, RecoversAsBefore, is_closed, closed_journal, marked}
@@ -246,12 +247,18 @@ closed_before files own shut stable image left = record {
 }
 
 -- what a record that was found is
-each_applicable : (entries : List Entry) → AllByRecursion (IsEntry Two) entries → AllByRecursion IsApplicable entries
-each_applicable [] each = tt
-each_applicable (entry ∷ entries) each = (record { name = each.0.name; patches = each.0.patches; small = each.0.small }, each_applicable entries each.1)
+small_enough : (version : Version) (n : ℕ) → n ≤ greatest_length version → n ≤ greatest_length Two
+small_enough One n small = omega (arith, small)
+small_enough Two n small = small
+small_enough Three n small = small
 
-pub formed_applicable : (entries : List Entry) → IsWellFormed Two entries → AreApplicable entries
-formed_applicable entries formed = record { each = each_applicable entries formed.each; apart = formed.apart }
+each_applicable : (version : Version) (entries : List Entry) → AllByRecursion (IsEntry version) entries → AllByRecursion IsApplicable entries
+each_applicable version [] each = tt
+each_applicable version (entry ∷ entries) each =
+    (record { name = each.0.name; patches = each.0.patches; small = small_enough version entry.length each.0.small }, each_applicable version entries each.1)
+
+pub formed_applicable : (entries : List Entry) → IsRecord entries → AreApplicable entries
+formed_applicable entries formed = record { each = each_applicable formed.0 entries formed.1.each; apart = formed.1.apart }
 
 -- all at rest where the gate is closed
 pub closed_rest : (files : List ℕ → FileState) → HasClosedGate (files journal_name) → IsStable (files journal_name) → OthersStable files → IsAtRest files

@@ -16,7 +16,7 @@ use Rattle.org_journal.specs.declared.fault.FindFault.{FindFault}
 use Rattle.org_journal.specs.declared.fault.FindFault.TheVariants.{BadJournal}
 use Rattle.org_journal.specs.declared.finding.Found.{Found}
 use Rattle.org_journal.specs.declared.finding.Found.TheVariants.{Open, Closed}
-use Rattle.org_journal.specs.Finding.{EndsAt, Finds, IsWritable}
+use Rattle.org_journal.specs.Finding.{EndsAt, Finds, IsWhole}
 use Rattle.org_journal.specs.Gate.{front_size, is_open, HasClosedGate, HasSameRecord, LeavesClosed, LeavesRecord, Puts}
 use Rattle.org_journal.specs.Reading.{journal_at}
 use Rattle.org_journal.specs.Recovered.{Image, SameFiles, IsRecoverable, recovered, all_fit, contents, replayed}
@@ -77,9 +77,9 @@ open_over files found entries end stable is finds =
     (record { stable = stable; opened = over_record.0; found = over_record.1 }, over_record.2)
 
 -- .. and can be applied to its files, which it fits
-pub open_applicable : (files : List ℕ → FileState) (found : Found) (entries : List Entry) (end : ℕ) → found ≡ Open entries end → IsWritable found → IsFit found (contents files)
+pub open_applicable : (files : List ℕ → FileState) (found : Found) (entries : List Entry) (end : ℕ) → found ≡ Open entries end → IsWhole found → IsFit found (contents files)
     → AreApplicableTo entries files
-open_applicable files found entries end is writable fit = record { applicable = formed_applicable entries (subst IsWritable is writable).0; fits = subst (λ (x : Found). IsFit x (contents files)) is fit }
+open_applicable files found entries end is whole fit = record { applicable = formed_applicable entries (subst IsWhole is whole).0; fits = subst (λ (x : Found). IsFit x (contents files)) is fit }
 
 module _ {D : Type 0} (g : Ghosts D) where
   -- a sync of the journal, whatever it answers

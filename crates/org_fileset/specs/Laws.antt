@@ -6,8 +6,7 @@ use Rattle.org_disk.specs.Names.{journal_name}
 use Rattle.org_disk.specs.declared.disk.DiskFault.{DiskFault}
 use Rattle.org_splice.specs.Texts.{EditedText}
 use Rattle.org_journal.specs.declared.record.Entry.{Entry}
-use Rattle.org_journal.specs.declared.record.Version.TheVariants.{Two}
-use Rattle.org_journal.specs.Record.{IsWellFormed}
+use Rattle.org_journal.specs.Record.{IsRecord}
 use Rattle.org_journal.specs.Recovered.{Image, SameFiles, RecoversTo, IsOpenOverRecord, IsRecoverable, contents}
 use Rattle.org_fileset.specs.Entries.{changed}
 use Rattle.org_fileset.specs.Recovery.{EachRecovers}
@@ -21,7 +20,7 @@ pub record IsOpenFor (entries : List Entry) (texts : Image) (files : List ℕ �
   pub over_record : IsOpenOverRecord files
   pub same_entries : over_record.entries ≡ entries
   pub same_texts : over_record.texts ≡ texts
-  pub formed : IsWellFormed Two entries
+  pub formed : IsRecord entries
 
 -- A call of this effect on the file of one name keeps that: whatever a crash leaves within the call
 -- recovers to the texts, and after the call, also where it failed, the journal stands open as

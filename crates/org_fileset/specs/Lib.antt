@@ -8,3 +8,5 @@ pub mod Writes
 pub mod Looking
 pub mod Forgetting
 pub mod Laws
+pub mod Lengths
+pub mod Left

@@ -15,6 +15,7 @@ use Rattle.org_fileset.specs.Entries.{HasRecordOf, changed}
 use Rattle.org_fileset.specs.declared.fault.SetFault.{SetFault}
 use Rattle.org_fileset.specs.declared.open.OpenRefused.{OpenRefused}
 use Rattle.org_fileset.specs.declared.fault.SetFault.TheVariants.{Broken, Device, OutOfMemory}
+use Rattle.org_fileset.specs.Lengths.{AreLengths}
 use Rattle.org_fileset.specs.Names.{limit}
 use Rattle.org_fileset.specs.Opening.{IsOpenedFor, disk_in}
 use Rattle.org_fileset.specs.Replay.{CommitsOver}
@@ -35,14 +36,16 @@ abbrev pub IsOpenedSet : {D : Type 0} → Ghosts D → List (List ℕ) → Opene
 IsOpenedSet g given set = (set.broken ≡ false)
     × IsOpenedFor given set.names (g.honest set.disk) (contents (g.files set.disk))
 
--- What always holds of one: no name is the journal's, they are no more than a record can have, and
--- where no call failed and the disk is honest the journal's gate is closed on it.
-pub record IsSound (journal : List ℕ) (names : List (List ℕ)) (broken : Bool) (honest : Type 0)
-    (files : List ℕ → FileState) : Type 0 where
+-- What always holds of one: no name is the journal's, and they are no more than a record can have.
+-- If no call failed and the disk is honest, the journal's gate is closed on it, and the lengths are
+-- those of its files.
+pub record IsSound (journal : List ℕ) (names : List (List ℕ)) (lengths : List ℕ) (broken : Bool)
+    (honest : Type 0) (files : List ℕ → FileState) : Type 0 where
   pub journal_is : journal ≡ journal_name
   pub each : AllByRecursion (λ name. name ≢ journal_name) names
   pub few : length names ≤ most_entries
   pub gate : broken ≡ false → honest → HasClosedGate (files journal_name)
+  pub lengths_are : broken ≡ false → honest → AreLengths names lengths (contents files)
 
 -- What a call of a set makes of it besides its disk: a failed call of the disk breaks it, and a
 -- broken one does nothing.

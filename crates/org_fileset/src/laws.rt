@@ -1,16 +1,18 @@
 //! The laws of applying records to files, for all values.
 //!
 //! Each is the contract of a function with nothing to do.
-ghost use Rattle.std.specs.Prelude.{◌≤◌, ◌⊎◌, List, ℕ, length, IsSomeAnd};
+ghost use Rattle.std.specs.Prelude.{◌≡◌, ◌≤◌, ◌⊎◌, List, ℕ, Some, length, slice_get, IsSomeAnd, IsTrue};
 ghost use Rattle.std.specs.List.{Contains};
 ghost use Rattle.org_disk.specs.CountsFailures.{LeavesOver};
-ghost use Rattle.org_disk.specs.Disk.{FileState, AreImages, write, cut, sync};
+ghost use Rattle.org_disk.specs.Disk.{FileState, IsImage, IsStable, AreImages, write, cut, sync};
 ghost use Rattle.org_splice.specs.Patches.{AreWellFormed, Fit, PatchedTo, IsPartlyPatched, patched};
-ghost use Rattle.org_splice.specs.Texts.{EditedText};
+ghost use Rattle.org_splice.specs.Texts.{EditedText, IsEditOf, pairs_of};
 ghost use Rattle.org_journal.specs.declared.record.Entry.{Entry};
 ghost use Rattle.org_splice.specs.declared.patch.Patch.{Patch};
 ghost use Rattle.org_journal.specs.Recovered.{Image, RecoversTo, SameFiles, recovered, contents};
-ghost use Rattle.org_fileset.specs.Entries.{changed};
+ghost use Rattle.org_journal.specs.Left.{is_left};
+ghost use Rattle.org_fileset.specs.Entries.{IsEntryOf, changed};
+ghost use Rattle.org_fileset.specs.Left.{StaysLeftBy};
 ghost use Rattle.org_fileset.specs.Recovery.{IsReopened, RecoversAsBefore};
 ghost use Rattle.org_fileset.specs.Replay.{IsAtRest, IsBeforeOrAfter, IsCommitted, RestsOn, files_on};
 ghost use Rattle.org_fileset.specs.Laws.{AllStable, AreAtRest, AreOtherFiles, IsOpenFor, IsBetween, IsFound, KeepsTexts, IsEachOldOrNew};
@@ -50,6 +52,29 @@ pub fn calls_keep_texts()
     ensures sync { (entries : List Entry) (texts : Image) (files : List ℕ → FileState)
         (entry : Entry) → IsOpenFor entries texts files → AreImages files (contents files)
         → Contains entries entry → KeepsTexts sync entry.name entries texts files }
+{}
+
+/// No file that a crash leaves of a commit is found to be changed, as far as its bytes go. The entry
+/// that a commit makes of a file says what it was; and the calls that apply the entry, a write of a
+/// patch, a cut to the final length and a sync, leave nothing of it but what the entry allows. After
+/// a call that failed, or within one, a crash leaves what it leaves before or after the call.
+pub fn crashed_files_are_left()
+    ensures begin { (change : List ℕ × EditedText) (entry : Entry) (file : FileState)
+        → IsEntryOf change entry → IsStable file → IsEditOf file.content change.1
+        → IsSomeAnd entry.before (λ before. before.length ≡ length file.content)
+        → StaysLeftBy entry file }
+    ensures write { (entry : Entry) (file : FileState) (k from : ℕ) (bytes : List ℕ)
+        → AreWellFormed (pairs_of entry.patches) entry.length
+        → slice_get (pairs_of entry.patches) k ≡ Some (from, bytes)
+        → from ≤ length file.content → StaysLeftBy entry file
+        → StaysLeftBy entry (write from bytes file) }
+    ensures cut { (entry : Entry) (file : FileState)
+        → AreWellFormed (pairs_of entry.patches) entry.length → StaysLeftBy entry file
+        → StaysLeftBy entry (cut entry.length file) }
+    ensures sync { (entry : Entry) (file : FileState) → IsImage file file.content
+        → StaysLeftBy entry file → StaysLeftBy entry (sync file) }
+    ensures left { (entry : Entry) (file : FileState) (text : List ℕ) → StaysLeftBy entry file
+        → IsImage file text → IsTrue (is_left entry text) }
 {}
 
 /// At every moment of a commit each file by itself is old or new, in what an image recovers to.

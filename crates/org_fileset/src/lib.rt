@@ -10,6 +10,7 @@ mod commit;
 mod entries;
 mod fault;
 pub mod laws;
+mod lengths;
 mod names;
 mod open;
 mod recover;

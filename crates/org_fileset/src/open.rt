@@ -3,13 +3,14 @@
 //!
 //! The faults come in the order of `OpenFault`. Only the journal is written, and what its record
 //! names.
-ghost use Rattle.std.specs.Prelude.{◌≡◌, Err, IfOk, IfErr, IsErrOf};
+ghost use Rattle.std.specs.Prelude.{◌≡◌, ◌++◌, ◌∷◌, [], Err, IfOk, IfErr, IsErrOf, OnOk};
 ghost use Rattle.std.specs.List.{All};
 ghost use Rattle.org_disk.specs.CountsFailures.{CountsFailures, Looks};
 ghost use Rattle.org_disk.specs.Names.{journal_name, IsOrgFile};
 ghost use Rattle.org_journal.specs.Recovered.{recovered, contents};
 ghost use Rattle.org_fileset.specs.Names.{with_archives, AreSorted, AreFew};
 ghost use Rattle.org_fileset.specs.Opening.{AreAllNames, AreSetNames, HaveSizes, IsAnswer, fault_of};
+ghost use Rattle.org_fileset.specs.Lengths.{AreLengths};
 ghost use Rattle.org_fileset.specs.Recovery.{Reopens};
 ghost use Rattle.org_fileset.specs.declared.open.OpenFault.TheVariants.{OutOfMemory, Device};
 
@@ -127,13 +128,28 @@ pub fn journal_and_names(
     Ok((FileName::journal_name(alloc)?, names))
 }
 
-/// Asks for the length of each of these files.
+// Puts a length at the end.
+fn push_length(lengths: &mut Vec<u64>, length: u64) -> Result<(), AllocError>
+    ensures { OnOk result (lengths.new.items ≡ lengths.old.items ++ length ∷ []) }
+{
+    lengths.push(length)?;
+    Ok(())
+}
+
+/// Asks for the length of each of these files, and puts them after one another.
 ///
 /// # Errors
 ///
 /// - `TooLarge`: the first of the files that is past the limit.
 /// - `Device`, `OutOfMemory`.
-pub fn check_sizes<D: Disk>(disk: &mut D, names: &[FileName]) -> Result<(), OpenFault>
+pub fn check_sizes<D: Disk>(
+    disk: &mut D,
+    names: &[FileName],
+    lengths: &mut Vec<u64>,
+) -> Result<(), OpenFault>
+    requires { lengths.old.items ≡ [] }
+    ensures lengths { OnOk result (D.honest disk.new
+        → AreLengths names.now lengths.new.items (contents (D.files disk.old))) }
     ensures sizes { D.honest disk.new → HaveSizes (contents (D.files disk.old)) names.now result }
     ensures not_too_many { IsErrOf result OpenFault.TooManyFiles → ⊥ }
     ensures not_bad { IsErrOf result OpenFault.BadJournal → ⊥ }
@@ -141,14 +157,17 @@ pub fn check_sizes<D: Disk>(disk: &mut D, names: &[FileName]) -> Result<(), Open
     ensures accounts { CountsFailures D.Disk disk.old disk.new (IsErrOf result OpenFault.Device) }
 {
     for name in names {
-        if disk.length(name)? > LIMIT as u64 {
+        let length = disk.length(name)?;
+        if length > LIMIT as u64 {
             return Err(OpenFault::TooLarge(name.clone()?));
         }
+        push_length(lengths, length)?;
     }
     Ok(())
 }
 
-/// Finishes what a crash cut short, and then asks for the length of each of these files.
+/// Finishes what a crash cut short, and then asks for the length of each of these files, and puts
+/// them after one another.
 ///
 /// # Errors
 ///
@@ -158,8 +177,12 @@ pub fn make_ready<D: Disk>(
     disk: &mut D,
     journal: &FileName,
     names: &[FileName],
+    lengths: &mut Vec<u64>,
 ) -> Result<(), OpenFault>
-    requires { journal.now ≡ journal_name }
+    requires journal { journal.now ≡ journal_name }
+    requires none { lengths.old.items ≡ [] }
+    ensures lengths { OnOk result (D.honest disk.new
+        → AreLengths names.now lengths.new.items (contents (D.files disk.new))) }
     ensures reopens { Reopens D.Disk disk.old disk.new result }
     ensures answer { D.honest disk.new → IsAnswer (contents (D.files disk.old))
         (contents (D.files disk.new)) names.now result }
@@ -167,5 +190,5 @@ pub fn make_ready<D: Disk>(
     ensures accounts { CountsFailures D.Disk disk.old disk.new (IsErrOf result OpenFault.Device) }
 {
     recover(alloc, disk, journal)?;
-    check_sizes(disk, names)
+    check_sizes(disk, names, lengths)
 }

@@ -5,11 +5,12 @@ ghost use Rattle.std.specs.Prelude.{◌≡◌, ◌+◌, ◌<◌, ◌^◌, Ok, If
 ghost use Rattle.org_disk.specs.CountsFailures.{CountsFailures, Looks};
 ghost use Rattle.org_disk.specs.Disk.{IsStable};
 ghost use Rattle.org_disk.specs.Names.{journal_name};
-ghost use Rattle.org_journal.specs.Finding.{EndsAt, Finds, IsWritable};
+ghost use Rattle.org_journal.specs.Finding.{EndsAt, Finds, IsWhole};
 ghost use Rattle.org_journal.specs.Recovered.{all_fit, contents};
 ghost use Rattle.org_journal.specs.Gate.{is_open};
-ghost use Rattle.org_journal.specs.Record.{is_named, IsWellFormed};
-ghost use Rattle.org_journal.specs.declared.record.Version.TheVariants.{Two};
+ghost use Rattle.org_journal.specs.Left.{is_left};
+ghost use Rattle.org_journal.specs.Record.{is_named, IsEntry, IsRecord};
+ghost use Rattle.org_journal.specs.declared.record.Version.{Version};
 ghost use Rattle.org_fileset.specs.Opening.{IsFaultOfRecovery, IsFit, IsStrange, IsUnfit, Names};
 ghost use Rattle.org_fileset.specs.Replay.{AreApplicableTo, IsOpenOver};
 ghost use Rattle.org_fileset.specs.Forgetting.{ForgetsOver, IsTransient};
@@ -20,7 +21,7 @@ use crate::commit::replay;
 use crate::open::OpenFault;
 use org_disk::{Disk, DiskFault, FileName, Standing};
 use org_journal::{
-    Entry, FRONT, FindFault, Found, all_fit, close_gate, find, is_open, mark, prepare,
+    Entry, FRONT, FindFault, Found, all_fit, close_gate, find, is_left, is_open, mark, prepare,
 };
 use std::alloc::Global;
 
@@ -31,7 +32,7 @@ fn look<D: Disk>(alloc: Global, disk: &mut D, journal: &FileName) -> Result<Foun
         → IsLookedAt D.Disk disk.old disk.new }
     ensures found { IfOk result (λ found. D.honest disk.new
         → IsFoundIn (D.files disk.old) (D.files disk.new) found) }
-    ensures writable { IfOk result (λ found. IsWritable found) }
+    ensures whole { IfOk result (λ found. IsWhole found) }
     ensures bad { IsErrOf result FindFault.BadJournal → D.honest disk.new
         → IsFoundBad (contents (D.files disk.old)) (contents (D.files disk.new)) }
     ensures accounts { CountsFailures D.Disk disk.old disk.new (IsErrOf result FindFault.Device) }
@@ -83,7 +84,7 @@ fn finish<D: Disk>(disk: &mut D, journal: &FileName, found: &Found) -> Result<()
     requires stable { D.honest disk.old → IsStable (D.files disk.old journal_name) }
     requires found { D.honest disk.old → Finds (contents (D.files disk.old)) (Ok found.now) }
     requires fit { D.honest disk.old → IsFit found.now (contents (D.files disk.old)) }
-    requires writable { IsWritable found.now }
+    requires whole { IsWhole found.now }
     ensures reopens { Reopens D.Disk disk.old disk.new result }
     ensures accounts { CountsFailures D.Disk disk.old disk.new (IsErr result) }
 {
@@ -159,7 +160,7 @@ fn shut<D: Disk>(disk: &mut D, journal: &FileName) -> Result<(), DiskFault>
 // That each file of a record that is to be done stands as a crash may have left it, and then that
 // the record fits them.
 fn check_found<D: Disk>(disk: &mut D, found: &Found) -> Result<(), OpenFault>
-    requires { IsWritable found.now }
+    requires { IsWhole found.now }
     ensures strange { IfErr result (IsStrange (Names found.now)
         (D.honest disk.new → IsUnfit found.now (contents (D.files disk.old)))) }
     ensures fit { IfOk result (λ _. D.honest disk.new
@@ -174,7 +175,7 @@ fn check_found<D: Disk>(disk: &mut D, found: &Found) -> Result<(), OpenFault>
 }
 
 fn check_record<D: Disk>(disk: &mut D, entries: &[Entry]) -> Result<(), OpenFault>
-    requires { IsWellFormed Two entries.now }
+    requires { IsRecord entries.now }
     ensures strange { IfErr result (IsStrange (λ name. IsTrue (is_named name entries.now))
         (D.honest disk.new → IsFalse (all_fit entries.now (contents (D.files disk.old))))) }
     ensures fit { IfOk result (λ _. D.honest disk.new
@@ -190,24 +191,42 @@ fn check_record<D: Disk>(disk: &mut D, entries: &[Entry]) -> Result<(), OpenFaul
 }
 
 fn check_standing<D: Disk>(disk: &mut D, entries: &[Entry]) -> Result<(), OpenFault>
+    requires { IsRecord entries.now }
     ensures strange { IfErr result (IsStrange (λ name. IsTrue (is_named name entries.now)) ⊥) }
     ensures looks { Looks D.Disk disk.old disk.new }
     ensures accounts { CountsFailures D.Disk disk.old disk.new (IsErrOf result OpenFault.Device) }
 {
     for entry in entries {
-        check_file(disk, &entry.name)?;
+        check_file(disk, entry)?;
     }
     Ok(())
 }
 
-fn check_file<D: Disk>(disk: &mut D, name: &FileName) -> Result<(), OpenFault>
-    ensures strange { IfErr result (IsStrange (λ other. other ≡ name.now) ⊥) }
+fn check_file<D: Disk>(disk: &mut D, entry: &Entry) -> Result<(), OpenFault>
+    requires { (version : Version) × IsEntry version entry.now }
+    ensures strange { IfErr result (IsStrange (λ name. name ≡ entry.now.name) ⊥) }
     ensures looks { Looks D.Disk disk.old disk.new }
     ensures accounts { CountsFailures D.Disk disk.old disk.new (IsErrOf result OpenFault.Device) }
 {
-    match disk.standing(name)? {
-        Standing::Left => Ok(()),
-        Standing::Changed => Err(OpenFault::Changed(name.clone()?)),
-        Standing::Outside => Err(OpenFault::Outside(name.clone()?)),
+    match disk.standing(&entry.name)? {
+        Standing::Left => check_bytes(disk, entry),
+        Standing::Adopted => Ok(()),
+        Standing::Changed => Err(OpenFault::Changed(entry.name.clone()?)),
+        Standing::Outside => Err(OpenFault::Outside(entry.name.clone()?)),
     }
+}
+
+// That the bytes of an entry's file are as a crash may have left them.
+fn check_bytes<D: Disk>(disk: &mut D, entry: &Entry) -> Result<(), OpenFault>
+    requires { (version : Version) × IsEntry version entry.now }
+    ensures left { IfOk result (λ _. D.honest disk.new
+        → IsTrue (is_left entry.now (contents (D.files disk.old) entry.now.name))) }
+    ensures strange { IfErr result (IsStrange (λ name. name ≡ entry.now.name) ⊥) }
+    ensures looks { Looks D.Disk disk.old disk.new }
+    ensures accounts { CountsFailures D.Disk disk.old disk.new (IsErrOf result OpenFault.Device) }
+{
+    if is_left(disk, entry)? {
+        return Ok(());
+    }
+    Err(OpenFault::Changed(entry.name.clone()?))
 }

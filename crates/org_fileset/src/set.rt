@@ -12,6 +12,7 @@ ghost use Rattle.org_fileset.specs.Set.{CanCommit, CommitsSet, ReadsBytes, IsOpe
 use crate::commit::commit_entries;
 use crate::entries::entries_of;
 use crate::fault::SetFault;
+use crate::lengths::{note_length, note_lengths};
 use crate::open::{OpenFault, OpenRefused, journal_and_names, make_ready};
 use org_disk::{Disk, FileName};
 use org_journal::{GREATEST_LENGTH, Record};
@@ -28,6 +29,8 @@ pub struct FileSet<D: Disk> {
     disk: D,
     journal: FileName,
     names: Vec<FileName>,
+    // how long the file of each name is
+    lengths: Vec<u64>,
     broken: bool,
 }
 
@@ -38,8 +41,8 @@ impl<D: Disk> Model for FileSet<D> {
 
     ghost view = { λ s. record { disk = s.disk; names = s.names.items; broken = s.broken } };
 
-    ghost invariant = { λ s. IsSound s.journal s.names.items s.broken (D.honest s.disk)
-        (D.files s.disk) };
+    ghost invariant = { λ s. IsSound s.journal s.names.items s.lengths.items s.broken
+        (D.honest s.disk) (D.files s.disk) };
 }
 
 impl<D: Disk> FileSet<D> {
@@ -72,11 +75,13 @@ impl<D: Disk> FileSet<D> {
             Ok(made) => made,
             Err(fault) => return Err(OpenRefused { disk, fault }),
         };
-        match make_ready(alloc, &mut disk, &journal, &names) {
+        let mut lengths = Vec::new(alloc);
+        match make_ready(alloc, &mut disk, &journal, &names, &mut lengths) {
             Ok(()) => Ok(FileSet {
                 disk,
                 journal,
                 names,
+                lengths,
                 broken: false,
             }),
             Err(fault) => Err(OpenRefused { disk, fault }),
@@ -124,7 +129,10 @@ impl<D: Disk> FileSet<D> {
         }
         let alloc = *self.names.allocator();
         match read_file(alloc, &mut self.disk, name) {
-            Ok(bytes) => Ok(bytes),
+            Ok(bytes) => {
+                note_length(&self.names, &mut self.lengths, name, bytes.len() as u64);
+                Ok(bytes)
+            }
             Err(SetFault::OutOfMemory) => Err(SetFault::OutOfMemory),
             Err(_) => {
                 self.broken = true;
@@ -166,10 +174,14 @@ impl<D: Disk> FileSet<D> {
             return Ok(());
         }
         let alloc = *self.names.allocator();
-        let record = Record::new(entries_of(alloc, changes)?);
+        let entries = entries_of(alloc, changes, &self.names, &self.lengths)?;
+        let record = Record::new(entries);
         let body = record.encode(alloc)?;
         match commit_entries(&mut self.disk, &self.journal, record.as_slice(), &body) {
-            Ok(()) => Ok(()),
+            Ok(()) => {
+                note_lengths(&self.names, &mut self.lengths, record.as_slice());
+                Ok(())
+            }
             Err(_) => {
                 self.broken = true;
                 Err(SetFault::Device)

@@ -7,5 +7,5 @@ mod journals;
 mod names;
 
 pub use disks::{OUTCOMES, bytes_of, disk_with, two_files};
-pub use journals::{NEW, OLD, TEXT};
+pub use journals::{NEW, NEWEST, OLD, TEXT};
 pub use names::{file_name, numbered_names, org_names};

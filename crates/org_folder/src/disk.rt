@@ -27,7 +27,7 @@ use std::alloc::Global;
 #[derive(Drop)]
 pub struct CallsDisk<S: System> {
     folder: Folder<S>,
-    // whatever a file's standing is, it is taken for left by a crash
+    // each file of a record is to be written over, however it stands
     adopts: bool,
     failures: u64,
 }
@@ -53,8 +53,8 @@ where
     S::File: Drop,
 {
     /// The disk over these calls, of a folder that is locked. It makes none. Of names that were
-    /// found absent the first call on each doesn't look again. Where it `adopts`, it takes each file
-    /// for one that a crash left, and asks the system nothing.
+    /// found absent the first call on each doesn't look again. Where it `adopts`, each file of a
+    /// record is to be written over, and it asks the system nothing.
     pub fn over(alloc: Global, system: S, absent: IndexSet<FileName>, adopts: bool) -> CallsDisk<S>
         requires held { IsHeld (S.history system) }
         requires absent { HaveNoFiles S.System system absent.keys }
@@ -138,7 +138,7 @@ where
 
     fn standing(&mut self, name: &FileName) -> Result<Standing, DiskFault> {
         if self.adopts {
-            return Ok(Standing::Left);
+            return Ok(Standing::Adopted);
         }
         counted(self.folder.standing(name), &mut self.failures)
     }

@@ -2,7 +2,7 @@
 -- read.
 use Rattle.std.proofs.Common.{◌≡◌, ℕ, ◌+◌, ◌*◌, ◌-◌, ◌^◌, ◌<◌, ◌≤◌, Bool, true, false, cond, leb, List, [], ◌∷◌, ◌++◌, length, take, drop, get_or, slice_index, Option, Some, None, refl, sym, ap, subst, ◌∙◌, append_assoc, arith, ◌⊎◌, inl, inr, Result, Ok, Err, zero, suc}
 use Rattle.std.proofs.lemmas.Grind.{common_steps}
-use Rattle.std.specs.Prelude.{◌&&◌, ◌==◌, nat_eq, codes, is_some, IsTrue, IfOk, ◌↔◌}
+use Rattle.std.specs.Prelude.{◌&&◌, ◌==◌, nat_eq, codes, is_some, IsSomeAnd, IsTrue, IfOk, ◌↔◌}
 use Rattle.std.specs.List.{flat_map, AllByRecursion, starts_with}
 use Rattle.std.proofs.Math.Nat.{mul-le-mul_left}
 use Rattle.std.proofs.lemmas.Bool.{false≢true, leb-true, le-leb, eqb-true}
@@ -10,15 +10,19 @@ use Rattle.std.proofs.lemmas.List.{append-nil, take_at, drop_at, take_all, drop_
 use Rattle.std.proofs.lemmas.Option.{none-some, same_Some, some_pair_parts}
 use Rattle.byteorder.specs.Endian.{big_bytes}
 use Rattle.byteorder.specs.Numbers.{length-bytes_high_first}
+use Rattle.org_journal.specs.declared.record.Before.{Before}
 use Rattle.org_journal.specs.declared.record.Entry.{Entry}
 use Rattle.org_splice.specs.declared.patch.Patch.{Patch}
 use Rattle.org_journal.specs.declared.record.Version.{Version}
-use Rattle.org_journal.specs.declared.record.Version.TheVariants.{One, Two}
+use Rattle.org_journal.specs.declared.record.Version.TheVariants.{One, Two, Three}
 use Rattle.org_fault.specs.declared.fault.Fault.{Fault}
 use Rattle.org_fault.specs.declared.fault.Fault.TheVariants.{Refused, OutOfMemory}
 use Rattle.org_journal.specs.declared.fault.Malformed.{Malformed}
 use Rattle.org_journal.specs.Decoding.{DecodesAs}
-use Rattle.org_journal.specs.Record.{name_bytes, counted_bytes, patch_bytes, old_patch_bytes, entry_bytes, record_bytes, version_number, header_bytes, journal_bytes, IsEntry, IsWellFormed, BeginsWith}
+use Rattle.org_disk.specs.Names.{is_file_name}
+use Rattle.org_splice.specs.Patches.{AreWellFormed}
+use Rattle.org_splice.specs.Texts.{pairs_of}
+use Rattle.org_journal.specs.Record.{name_bytes, counted_bytes, patch_bytes, old_patch_bytes, context_bytes, before_bytes, new_entry_bytes, entry_bytes, record_bytes, version_number, header_bytes, journal_bytes, most_context, IsBefore, IsEntry, IsRecord, IsWellFormed, BeginsWith}
 use Rattle.org_journal.specs.Reading.{◌>>=◌, counted_at, record_at, version_at, header_at, journal_at}
 use Rattle.org_journal.proofs.Numbers.{IsBytes, IsBytes-drop, IsBytes-take, bind_some, passed, both_true, counted_takes, counted_again}
 use Rattle.org_journal.proofs.Patched.{AllFollow, well_formed_follow}
@@ -45,6 +49,51 @@ old_patch_length most final patch within = grind (arith, common_steps)
 name_length : (name : List ℕ) → length name ≤ 208 → length (name_bytes name) ≤ 210
 name_length name short = omega (arith, short, length-append (big_bytes 2 (length name)) name, length-bytes_high_first 2 (length name))
 
+context_length : (context : List ℕ) → length context ≤ most_context → length (context_bytes context) ≤ 33
+context_length context short = omega (arith, short, length-append (big_bytes 1 (length context)) context, length-bytes_high_first 1 (length context))
+
+none_short : (before : Option Before) → before ≡ None → length (before_bytes before) ≤ 74
+none_short None is = omega arith
+none_short (Some before) is = absurd (none-some before (sym is))
+
+some_short : (before : Option Before) → IsSomeAnd before IsBefore → length (before_bytes before) ≤ 74
+some_short None is = absurd is
+some_short (Some before) is =
+    let leading = context_length before.leading is.leading in
+    let trailing = context_length before.trailing is.trailing in
+    omega (
+      arith,
+      leading,
+      trailing,
+      length-append (big_bytes 8 before.length) (context_bytes before.leading ++ context_bytes before.trailing),
+      length-append (context_bytes before.leading) (context_bytes before.trailing),
+      length-bytes_high_first 8 before.length,
+    )
+
+-- an entry of version 2 or 3
+new_length : (entry : Entry) → IsTrue (is_file_name entry.name) → length entry.patches ≤ 1_000 → AreWellFormed (pairs_of entry.patches) entry.length → entry.length ≤ 67_108_864
+    → length (before_bytes entry.before) ≤ 74 → length (new_entry_bytes entry) ≤ 68_000_000_000
+new_length entry accepted few formed small short =
+    let each = follow_within 0 entry.length (length entry.patches == 1) entry.patches (well_formed_follow entry.length entry.patches formed) in
+    let patches = flat_map_within patch_bytes (16 + entry.length) (λ patch. length patch.bytes ≤ entry.length) (λ patch within. patch_length entry.length patch within) entry.patches each in
+    let name = name_length entry.name (name_short entry.name accepted) in
+    let all : (16 + entry.length) * length entry.patches ≤ (16 + entry.length) * 1_000 = mul-le-mul_left (16 + entry.length) few in
+    let count = big_bytes 4 (length entry.patches) ++ flat_map patch_bytes entry.patches in
+    omega (
+      arith,
+      patches,
+      all,
+      name,
+      small,
+      short,
+      length-append (name_bytes entry.name) (big_bytes 8 entry.length ++ (before_bytes entry.before ++ count)),
+      length-append (big_bytes 8 entry.length) (before_bytes entry.before ++ count),
+      length-append (before_bytes entry.before) count,
+      length-append (big_bytes 4 (length entry.patches)) (flat_map patch_bytes entry.patches),
+      length-bytes_high_first 8 entry.length,
+      length-bytes_high_first 4 (length entry.patches),
+    )
+
 entry_length : (version : Version) (entry : Entry) → IsEntry version entry → length (entry_bytes version entry) ≤ 68_000_000_000
 entry_length One entry is =
     let each = follow_within 0 entry.length (length entry.patches == 1) entry.patches (well_formed_follow entry.length entry.patches is.patches) in
@@ -52,23 +101,8 @@ entry_length One entry is =
     let name = name_length entry.name (name_short entry.name is.name) in
     let all : (24 + entry.length) * length entry.patches ≤ (24 + entry.length) * 1 = mul-le-mul_left (24 + entry.length) is.few in
     omega (arith, patches, all, name, is.small, length-append (name_bytes entry.name) (flat_map (old_patch_bytes entry.length) entry.patches))
-entry_length Two entry is =
-    let each = follow_within 0 entry.length (length entry.patches == 1) entry.patches (well_formed_follow entry.length entry.patches is.patches) in
-    let patches = flat_map_within patch_bytes (16 + entry.length) (λ patch. length patch.bytes ≤ entry.length) (λ patch within. patch_length entry.length patch within) entry.patches each in
-    let name = name_length entry.name (name_short entry.name is.name) in
-    let all : (16 + entry.length) * length entry.patches ≤ (16 + entry.length) * 1_000 = mul-le-mul_left (16 + entry.length) is.few in
-    omega (
-      arith,
-      patches,
-      all,
-      name,
-      is.small,
-      length-append (name_bytes entry.name) (big_bytes 8 entry.length ++ (big_bytes 4 (length entry.patches) ++ flat_map patch_bytes entry.patches)),
-      length-append (big_bytes 8 entry.length) (big_bytes 4 (length entry.patches) ++ flat_map patch_bytes entry.patches),
-      length-append (big_bytes 4 (length entry.patches)) (flat_map patch_bytes entry.patches),
-      length-bytes_high_first 8 entry.length,
-      length-bytes_high_first 4 (length entry.patches),
-    )
+entry_length Two entry is = new_length entry is.name is.few is.patches is.small (none_short entry.before is.before)
+entry_length Three entry is = new_length entry is.name is.few is.patches is.small (some_short entry.before is.before)
 
 pub record_length : (version : Version) (entries : List Entry) → IsWellFormed version entries → length (record_bytes version entries) < 256 ^ 8
 record_length version entries is =
@@ -78,16 +112,18 @@ record_length version entries is =
 -- ---- the header
 
 version_is : (n : ℕ) (version : Version) → version_at n ≡ Some version → n ≡ version_number version
-version_is n version e = by_test (n == 1) (n == 2) refl refl e
+version_is n version e = by_test (n == 1) (n == 2) (n == 3) refl refl refl e
   where
-    by_test : (one two : Bool) → (n == 1) ≡ one → (n == 2) ≡ two → cond one (Some One) (cond two (Some Two) None) ≡ Some version → n ≡ version_number version
-    by_test true two is_one is_two found = eqb-true _ _ is_one ∙ ap version_number (same_Some One version found)
-    by_test false true is_one is_two found = eqb-true _ _ is_two ∙ ap version_number (same_Some Two version found)
-    by_test false false is_one is_two found = absurd (none-some version found)
+    by_test : (one two three : Bool) → (n == 1) ≡ one → (n == 2) ≡ two → (n == 3) ≡ three → cond one (Some One) (cond two (Some Two) (cond three (Some Three) None)) ≡ Some version → n ≡ version_number version
+    by_test true two three is_one is_two is_three found = eqb-true _ _ is_one ∙ ap version_number (same_Some One version found)
+    by_test false true three is_one is_two is_three found = eqb-true _ _ is_two ∙ ap version_number (same_Some Two version found)
+    by_test false false true is_one is_two is_three found = eqb-true _ _ is_three ∙ ap version_number (same_Some Three version found)
+    by_test false false false is_one is_two is_three found = absurd (none-some version found)
 
 version_again : (version : Version) → version_at (version_number version) ≡ Some version
 version_again One = refl
 version_again Two = refl
+version_again Three = refl
 
 -- the first bytes of a header
 front_is : (bytes : List ℕ) → 7 ≤ length bytes → starts_with nat_eq bytes (codes "ORGJ") ≡ true → slice_index bytes 5 ≡ 0 → slice_index bytes 6 ≡ 0
@@ -184,8 +220,14 @@ begins_found bytes (Err OutOfMemory) given entries begins = inr refl
 pub appended3 : (out o1 o2 o3 a b c : List ℕ) → o1 ≡ out ++ a → o2 ≡ o1 ++ b → o3 ≡ o2 ++ c → o3 ≡ out ++ (a ++ (b ++ c))
 appended3 out o1 o2 o3 a b c e1 e2 e3 = e3 ∙ ap (λ (x : List ℕ). x ++ c) (e2 ∙ ap (λ (x : List ℕ). x ++ b) e1) ∙ append_assoc (out ++ a) b c ∙ append_assoc out a (b ++ c)
 
-pub appended5 : (out o1 o2 o3 o4 o5 a b c d e : List ℕ) → o1 ≡ out ++ a → o2 ≡ o1 ++ b → o3 ≡ o2 ++ c → o4 ≡ o3 ++ d → o5 ≡ o4 ++ e → o5 ≡ out ++ ((a ++ b) ++ (c ++ (d ++ e)))
-appended5 out o1 o2 o3 o4 o5 a b c d e e1 e2 e3 e4 e5 = grind (arith, common_steps)
+pub appended2 : (out o1 o2 a b : List ℕ) → o1 ≡ out ++ a → o2 ≡ o1 ++ b → o2 ≡ out ++ (a ++ b)
+appended2 out o1 o2 a b e1 e2 = e2 ∙ ap (λ (x : List ℕ). x ++ b) e1 ∙ append_assoc out a b
+
+pub appended6 : (out o1 o2 o3 o4 o5 o6 a b c d e f : List ℕ) → o1 ≡ out ++ a → o2 ≡ o1 ++ b → o3 ≡ o2 ++ c → o4 ≡ o3 ++ d → o5 ≡ o4 ++ e → o6 ≡ o5 ++ f
+    → o6 ≡ out ++ ((a ++ b) ++ (c ++ (d ++ (e ++ f))))
+appended6 out o1 o2 o3 o4 o5 o6 a b c d e f e1 e2 e3 e4 e5 e6 =
+    appended2 out o2 o6 (a ++ b) (c ++ (d ++ (e ++ f))) (appended2 out o1 o2 a b e1 e2)
+    (appended2 o2 o3 o6 c (d ++ (e ++ f)) e3 (appended3 o3 o4 o5 o6 d e f e4 e5 e6))
 
 -- one item more was written
 pub item_appended : {A : Type 0} (f : A → List ℕ) (out now next : List ℕ) (xs : List A) (i : ℕ) (x : A) → i < length xs → x ≡ get_or xs i x
@@ -198,27 +240,27 @@ item_of P [] i x all lt is = absurd (omega (arith, lt))
 item_of P (y ∷ ys) zero x all lt is = subst P (sym is) all.0
 item_of P (y ∷ ys) (suc i) x all lt is = item_of P ys i x all.1 (omega (arith, lt)) is
 
--- a journal of version 2 whose size is written last
-pub sized : (o1 o2 o3 o4 bytes count items : List ℕ) (len size : ℕ) → o1 ≡ 79 ∷ 82 ∷ 71 ∷ 74 ∷ 2 ∷ 0 ∷ 0 ∷ [] → o2 ≡ o1 ++ big_bytes 8 0 → o3 ≡ o2 ++ count → o4 ≡ o3 ++ items
+-- a journal of version 3 whose size is written last
+pub sized : (o1 o2 o3 o4 bytes count items : List ℕ) (len size : ℕ) → o1 ≡ 79 ∷ 82 ∷ 71 ∷ 74 ∷ 3 ∷ 0 ∷ 0 ∷ [] → o2 ≡ o1 ++ big_bytes 8 0 → o3 ≡ o2 ++ count → o4 ≡ o3 ++ items
     → len ≡ length o4 → size ≡ length o4 - 15 → bytes ≡ take 7 o4 ++ (big_bytes 8 size ++ drop 15 o4)
-    → take len (bytes ++ drop (length bytes) o4) ≡ header_bytes Two (length (count ++ items)) ++ (count ++ items)
+    → take len (bytes ++ drop (length bytes) o4) ≡ header_bytes Three (length (count ++ items)) ++ (count ++ items)
 sized o1 o2 o3 o4 bytes count items len size e1 e2 e3 e4 long is_size written =
-    let front : List ℕ = 79 ∷ 82 ∷ 71 ∷ 74 ∷ 2 ∷ 0 ∷ 0 ∷ [] in
+    let front : List ℕ = 79 ∷ 82 ∷ 71 ∷ 74 ∷ 3 ∷ 0 ∷ 0 ∷ [] in
     let whole : o4 ≡ (front ++ big_bytes 8 0) ++ (count ++ items) =
     e4 ∙ ap (λ (x : List ℕ). x ++ items) (e3 ∙ ap (λ (x : List ℕ). x ++ count) (e2 ∙ ap (λ (x : List ℕ). x ++ big_bytes 8 0) e1)) ∙ append_assoc (front ++ big_bytes 8 0) count items in
     let grown : length o4 ≡ 15 + length (count ++ items) = ap length whole ∙ length-append (front ++ big_bytes 8 0) (count ++ items) in
     let is_length : size ≡ length (count ++ items) = omega (arith, grown, is_size) in
-    let made : bytes ≡ header_bytes Two (length (count ++ items)) ++ (count ++ items) =
+    let made : bytes ≡ header_bytes Three (length (count ++ items)) ++ (count ++ items) =
     written ∙ ap (λ (x : List ℕ). take 7 x ++ (big_bytes 8 size ++ drop 15 x)) whole ∙ ap (λ (n : ℕ). front ++ (big_bytes 8 n ++ (count ++ items))) is_length in
-    let same : length bytes ≡ length o4 = ap length made ∙ length-append (header_bytes Two (length (count ++ items))) (count ++ items) ∙ sym grown in
+    let same : length bytes ≡ length o4 = ap length made ∙ length-append (header_bytes Three (length (count ++ items))) (count ++ items) ∙ sym grown in
     ap (λ (n : ℕ). take n (bytes ++ drop (length bytes) o4)) long
     ∙ ap (λ (x : List ℕ). take (length o4) (bytes ++ x)) (drop_all (length bytes) o4 (omega (arith, same)))
     ∙ ap (take (length o4)) (append-nil bytes) ∙ take_all (length o4) bytes (omega (arith, same)) ∙ made
 
 -- bytes that are a record's begin with them
-pub written_begins : (bytes : List ℕ) (entries : List Entry) → IsWellFormed Two entries → bytes ≡ journal_bytes Two entries → BeginsWith bytes entries
+pub written_begins : (bytes : List ℕ) (entries : List Entry) → IsWellFormed Three entries → bytes ≡ journal_bytes Three entries → BeginsWith bytes entries
 written_begins bytes entries is written =
-    record { version = Two; rest = []; whole = written ∙ sym (append-nil (journal_bytes Two entries)); well_formed = is }
+    record { version = Three; rest = []; whole = written ∙ sym (append-nil (journal_bytes Three entries)); well_formed = is }
 
 -- the record is read again, whatever follows
 pub begins_again : (bytes : List ℕ) (entries : List Entry) → BeginsWith bytes entries → (rest : List ℕ) → journal_at (bytes ++ rest) ≡ Some entries
@@ -229,18 +271,20 @@ begins_again bytes entries is rest = journal_again (bytes ++ rest) entries (reco
   well_formed = is.well_formed;
 })
 
--- ---- what was read in version 1 can be written in version 2
+-- what was read is a record
+pub found_record : (bytes : List ℕ) (answer : Result (List Entry) (Fault Malformed)) → IfOk answer (λ entries. BeginsWith bytes entries) → IfOk answer (λ entries. IsRecord entries)
+found_record bytes (Ok entries) found = (found.version, found.well_formed)
+found_record bytes (Err e) found = tt
 
-entries_writable : (version : Version) (entries : List Entry) → AllByRecursion (IsEntry version) entries → AllByRecursion (IsEntry Two) entries
-entries_writable Two entries each = each
-entries_writable One [] each = tt
-entries_writable One (entry ∷ entries) each =
-    (record { text = each.0.text; name = each.0.name; few = omega (arith, each.0.few); patches = each.0.patches; small = omega (arith, each.0.small) }, entries_writable One entries each.1)
+-- and what was read in version 3 can be written
+read_writable : (version : Version) (entries : List Entry) → version_number version ≡ 3 → IsWellFormed version entries → IsWellFormed Three entries
+read_writable One entries three is = absurd (omega (arith, three))
+read_writable Two entries three is = absurd (omega (arith, three))
+read_writable Three entries three is = is
 
-pub begins_writable : (bytes : List ℕ) (entries : List Entry) → BeginsWith bytes entries → IsWellFormed Two entries
-begins_writable bytes entries is =
-    record { some = is.well_formed.some; few = is.well_formed.few; each = entries_writable is.version entries is.well_formed.each; apart = is.well_formed.apart }
-
-pub found_writable : (bytes : List ℕ) (answer : Result (List Entry) (Fault Malformed)) → IfOk answer (λ entries. BeginsWith bytes entries) → IfOk answer (λ entries. IsWellFormed Two entries)
-found_writable bytes (Ok entries) found = begins_writable bytes entries found
+pub found_writable : (bytes : List ℕ) (answer : Result (List Entry) (Fault Malformed)) → IfOk answer (λ entries. BeginsWith bytes entries)
+    → IfOk answer (λ entries. slice_index bytes 4 ≡ 3 → IsWellFormed Three entries)
+found_writable bytes (Ok entries) found = λ three.
+    let number : slice_index bytes 4 ≡ version_number found.version = ap (λ (l : List ℕ). slice_index l 4) found.whole in
+    read_writable found.version entries (sym number ∙ three) found.well_formed
 found_writable bytes (Err e) found = tt

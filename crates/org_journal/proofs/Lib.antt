@@ -11,4 +11,5 @@ pub mod Journal
 pub mod Fitting
 pub mod Accounted
 pub mod ReadBack
+pub mod Ends
 mod Vectors

@@ -1,9 +1,10 @@
 -- A field that is read is the field that was written, and what was written is read again.
-use Rattle.std.proofs.Common.{◌≡◌, ℕ, ◌+◌, ◌-◌, ◌^◌, ◌<◌, ◌≤◌, Bool, true, false, cond, ltb, List, ◌++◌, length, get_or, take, drop, Option, Some, None, refl, sym, ap, subst, ◌∙◌, append_assoc, arith}
+use Rattle.std.proofs.Common.{◌≡◌, ℕ, ◌+◌, ◌-◌, ◌^◌, ◌<◌, ◌≤◌, Bool, true, false, cond, ltb, List, [], ◌∷◌, ◌++◌, length, get_or, take, drop, Option, Some, None, refl, sym, ap, subst, ◌∙◌, append_assoc, arith}
 use Rattle.std.proofs.lemmas.Grind.{common_steps}
-use Rattle.std.specs.Prelude.{IsTrue, IsUtf8, ◌&&◌}
+use Rattle.std.specs.Prelude.{IsTrue, IsUtf8, ◌&&◌, nat_le}
 use Rattle.std.specs.Str.{is_utf8}
-use Rattle.std.proofs.lemmas.Bool.{false≢true, ltb-false, le-ltb}
+use Rattle.std.proofs.Math.Nat.{mod-eq_of_lt}
+use Rattle.std.proofs.lemmas.Bool.{false≢true, leb-true, le-leb, ltb-false, le-ltb}
 use Rattle.std.proofs.lemmas.List.{drop_at, take-append-drop, length-append, length-drop, length-take, take_all, get_or-drop}
 use Rattle.std.proofs.lemmas.Nat.{be_bytes_2, be_bytes_4, be_bytes_8}
 use Rattle.std.proofs.lemmas.Option.{none-some, same_Some, some_pair_parts}
@@ -11,8 +12,8 @@ use Rattle.std.proofs.lemmas.Str.{IsUtf8-from_is_utf8, is_utf8-from_IsUtf8}
 use Rattle.byteorder.specs.Endian.{big_bytes, big_number}
 use Rattle.byteorder.specs.Numbers.{big_from-take, big_from-lt, big_number-reads_back, length-bytes_high_first}
 use Rattle.org_disk.specs.Names.{is_file_name}
-use Rattle.org_journal.specs.Record.{name_bytes, counted_bytes}
-use Rattle.org_journal.specs.Reading.{◌>>=◌, number_at, bytes_at, counted_at, name_at}
+use Rattle.org_journal.specs.Record.{name_bytes, counted_bytes, context_bytes, most_context}
+use Rattle.org_journal.specs.Reading.{◌>>=◌, number_at, bytes_at, counted_at, context_at, name_at}
 
 abbrev pub IsBytes : List ℕ → Type 0
 IsBytes bytes = (i : ℕ) → get_or bytes i 0 < 256
@@ -58,6 +59,13 @@ Takes-then a x b y c p q = record { parts = p.parts ∙ ap (λ (t : List ℕ). x
 -- the bytes of a number of n bytes that was read
 abbrev pub HasBack : ℕ → Type 0
 HasBack n = (bytes : List ℕ) → length bytes ≡ n → IsBytes bytes → big_bytes n (big_number n bytes) ≡ bytes
+
+pub back1 : HasBack 1
+back1 [] len fits = absurd (omega (arith, len))
+back1 (b ∷ []) len fits =
+    let is : big_number 1 (b ∷ []) ≡ b = omega arith in
+    ap (big_bytes 1) is ∙ ap (λ (n : ℕ). n ∷ []) (mod-eq_of_lt (fits 0))
+back1 (b ∷ c ∷ bytes) len fits = absurd (omega (arith, len))
 
 pub back2 : HasBack 2
 back2 bytes len fits = be_bytes_2 bytes (big_number 2 bytes) len fits (omega arith)
@@ -107,6 +115,25 @@ counted_takes bytes text rest fits e =
 pub counted_again : (text rest : List ℕ) → length text < 256 ^ 8 → counted_at (counted_bytes text ++ rest) ≡ Some (text, rest)
 unfolding counted_at
 counted_again text rest lt = grind (arith, common_steps)
+
+-- ---- contexts
+
+pub context_takes : (bytes text rest : List ℕ) → IsBytes bytes → context_at bytes ≡ Some (text, rest) → Takes bytes (context_bytes text) rest × (length text ≤ most_context)
+unfolding context_at
+context_takes bytes text rest fits e =
+    let a = bind_some (number_at 1 bytes) (λ n. cond (nat_le n.0 most_context) (bytes_at n.0 n.1) None) (text, rest) e in
+    let g = passed (nat_le a.0.0 most_context) (bytes_at a.0.0 a.0.1) (text, rest) a.2 in
+    let count = number_takes 1 back1 bytes a.0.0 a.0.1 fits a.1 in
+    let behind = bytes_takes a.0.0 a.0.1 text rest count.0.rest_fits g.1 in
+    let few = leb-true a.0.0 most_context g.0 in
+    (rw behind.1 (Takes-then bytes (big_bytes 1 a.0.0) a.0.1 text rest count.0 behind.0), omega (arith, few, behind.1))
+
+pub context_again : (text rest : List ℕ) → length text ≤ most_context → context_at (context_bytes text ++ rest) ≡ Some (text, rest)
+unfolding context_at
+context_again text rest short =
+    let small : length text < 256 ^ 1 = omega (arith, short) in
+    ap (λ (x : List ℕ). context_at x) (append_assoc (big_bytes 1 (length text)) text rest)
+    ∙ rw (number_again 1 (length text) (text ++ rest) small, le-leb _ _ short, bytes_again (length text) text rest refl) refl
 
 -- ---- names
 

@@ -8,12 +8,11 @@ use Rattle.org_journal.specs.declared.fault.FindFault.{FindFault}
 use Rattle.org_journal.specs.declared.fault.FindFault.TheVariants.{BadJournal, Device, OutOfMemory}
 use Rattle.org_journal.specs.declared.finding.Found.{Found}
 use Rattle.org_journal.specs.declared.finding.Found.TheVariants.{Closed, Open}
-use Rattle.org_journal.specs.declared.record.Version.TheVariants.{Two}
 use Rattle.org_journal.specs.Gate.{front_size, is_open}
 use Rattle.org_journal.specs.Reading.{journal_at}
 use Rattle.org_splice.specs.Patches.{AreWellFormed}
 use Rattle.org_splice.specs.Texts.{pairs_of}
-use Rattle.org_journal.specs.Record.{IsWellFormed}
+use Rattle.org_journal.specs.Record.{IsRecord}
 use Rattle.org_journal.specs.Recovered.{Image}
 
 -- the size of the record that a journal's header gives
@@ -48,11 +47,11 @@ Finds image (Err Device) = Unit {0}
 Finds image (Err OutOfMemory) =
     IsTrue (is_open (image journal_name)) × HoldsRecord (image journal_name)
 
--- A record that was found is one that could be written, in whichever version it stood; and behind
--- it another byte can be written.
-abbrev pub IsWritable : Found → Type 0
-IsWritable Closed = Unit {0}
-IsWritable (Open entries end) = IsWellFormed Two entries × (end + 1 < 2 ^ 64)
+-- What was found is a record, in whichever version it stood; and behind it another byte can be
+-- written.
+abbrev pub IsWhole : Found → Type 0
+IsWhole Closed = Unit {0}
+IsWhole (Open entries end) = IsRecord entries × (end + 1 < 2 ^ 64)
 
 -- what the header alone says: None of a closed gate, and the record's size of an open one
 abbrev pub FindsSize : List ℕ → Result (Option ℕ) FindFault → Type 0

@@ -4,11 +4,12 @@ use Rattle.std.specs.List.{starts_with}
 use Rattle.std.specs.Str.{is_utf8}
 use Rattle.byteorder.specs.Endian.{big_number}
 use Rattle.org_disk.specs.Names.{is_file_name}
+use Rattle.org_journal.specs.declared.record.Before.{Before}
 use Rattle.org_journal.specs.declared.record.Entry.{Entry}
 use Rattle.org_splice.specs.declared.patch.Patch.{Patch}
 use Rattle.org_journal.specs.declared.record.Version.{Version}
-use Rattle.org_journal.specs.declared.record.Version.TheVariants.{One, Two}
-use Rattle.org_journal.specs.Record.{greatest_length, most_entries, most_patches, names_differ}
+use Rattle.org_journal.specs.declared.record.Version.TheVariants.{One, Two, Three}
+use Rattle.org_journal.specs.Record.{greatest_length, most_context, most_entries, most_patches, names_differ}
 
 infixl 10 ◌>>=◌
 abbrev pub ◌>>=◌ : {A B : Type 0} → Option A → (A → Option B) → Option B
@@ -69,8 +70,12 @@ patches_at place final alone (suc n) bytes = do
 
 -- an entry of version 1 has one patch
 abbrev pub old_entry : List ℕ → (final from : ℕ) → List ℕ → Entry
-old_entry name final from bytes =
-    record { name = name; length = final; patches = record { from = from; bytes = bytes } ∷ [] }
+old_entry name final from bytes = record {
+  name = name;
+  length = final;
+  before = None;
+  patches = record { from = from; bytes = bytes } ∷ [];
+}
 
 unfoldable pub old_entry_at : List ℕ → Option (Entry × List ℕ)
 old_entry_at bytes = do
@@ -82,28 +87,78 @@ old_entry_at bytes = do
       then Some (old_entry name.0 final.0 from.0 text.0, text.1)
       else None
 
--- what stands in front of the patches of an entry of version 2: its name, its final length and
--- their number
+-- bytes behind their number, which has one byte
+unfoldable pub context_at : List ℕ → Option (List ℕ × List ℕ)
+context_at bytes = do
+  count ← number_at 1 bytes
+  if nat_le count.0 most_context then bytes_at count.0 count.1 else None
+
+-- what a file was that had this length, and these bytes before the first patch and after the last
+abbrev pub before_of : ℕ → List ℕ → List ℕ → Before
+before_of size leading trailing =
+    record { length = size; leading = leading; trailing = trailing }
+
+unfoldable pub before_at : List ℕ → Option (Before × List ℕ)
+before_at bytes = do
+  size ← number_at 8 bytes
+  leading ← context_at size.1
+  trailing ← context_at leading.1
+  Some (before_of size.0 leading.0 trailing.0, trailing.1)
+
+-- what an entry of this version says of its file as it was before
+unfoldable pub before_in : Version → List ℕ → Option (Option Before × List ℕ)
+before_in One bytes = Some (None, bytes)
+before_in Two bytes = Some (None, bytes)
+before_in Three bytes = do
+  before ← before_at bytes
+  Some (Some before.0, before.1)
+
+-- what stands before the patches of an entry of version 2 or 3
 pub record Head : Type 0 where
   pub name : List ℕ
   pub final : ℕ
+  pub before : Option Before
   pub count : ℕ
 
-unfoldable pub head_at : List ℕ → Option (Head × List ℕ)
-head_at bytes = do
+-- a file's final length, and the number of its patches
+abbrev pub is_possible : (final count : ℕ) → Bool
+is_possible final count =
+    nat_le final (greatest_length Three)
+    && (nat_le 1 count && nat_le count (most_patches Three))
+
+unfoldable pub head_at : Version → List ℕ → Option (Head × List ℕ)
+head_at version bytes = do
   name ← name_at bytes
   final ← number_at 8 name.1
-  count ← number_at 4 final.1
-  if nat_le final.0 (greatest_length Two) && (nat_le 1 count.0 && nat_le count.0 (most_patches Two))
-      then Some (record { name = name.0; final = final.0; count = count.0 }, count.1)
+  before ← before_in version final.1
+  count ← number_at 4 before.1
+  if is_possible final.0 count.0
+      then Some (
+        record
+            { name = name.0; final = final.0; before = before.0; count = count.0 },
+        count.1,
+      )
       else None
+
+-- an entry of version 2 or 3
+unfoldable pub new_entry_at : Version → List ℕ → Option (Entry × List ℕ)
+new_entry_at version bytes = do
+  head ← head_at version bytes
+  patches ← patches_at 0 head.0.final (head.0.count == 1) head.0.count head.1
+  Some (
+    record {
+      name = head.0.name;
+      length = head.0.final;
+      before = head.0.before;
+      patches = patches.0;
+    },
+    patches.1,
+  )
 
 unfoldable pub entry_at : Version → List ℕ → Option (Entry × List ℕ)
 entry_at One bytes = old_entry_at bytes
-entry_at Two bytes = do
-  head ← head_at bytes
-  patches ← patches_at 0 head.0.final (head.0.count == 1) head.0.count head.1
-  Some (record { name = head.0.name; length = head.0.final; patches = patches.0 }, patches.1)
+entry_at Two bytes = new_entry_at Two bytes
+entry_at Three bytes = new_entry_at Three bytes
 
 -- the name of an entry, and the bytes behind the entry
 abbrev pub name_behind : Option (Entry × List ℕ) → Option (List ℕ × List ℕ)
@@ -131,7 +186,8 @@ record_at version bytes = do
   if length entries.1 == 0 && names_differ entries.0 then Some entries.0 else None
 
 abbrev pub version_at : ℕ → Option Version
-version_at n = if n == 1 then Some One else if n == 2 then Some Two else None
+version_at n = if n == 1 then Some One else if n == 2 then Some Two
+    else if n == 3 then Some Three else None
 
 -- the version, and the bytes of the record
 unfoldable pub header_at : List ℕ → Option (Version × List ℕ)

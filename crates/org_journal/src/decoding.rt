@@ -1,25 +1,27 @@
-//! The record that the bytes behind a journal's gate spell, in either version of the format.
+//! The record that the bytes behind a journal's gate spell, in one of the versions of the
+//! format.
 //!
 //! Bytes are checked whole before any memory is taken for what they hold. Whether a record fits its
 //! files is `finding`'s question.
-ghost use Rattle.std.specs.Prelude.{◌≡◌, ◌==◌, ◌⊎◌, List, Some, Ok, Err, IfOk, IsErrOf, IsFalse, IsTrue, is_some};
-ghost use Rattle.org_journal.specs.Reading.{patches_at, entry_at, entries_at, journal_at};
+ghost use Rattle.std.specs.Prelude.{◌≡◌, ◌==◌, ◌⊎◌, List, Some, Ok, Err, IfOk, IsErrOf, IsFalse, IsTrue, is_some, slice_index};
+ghost use Rattle.std.specs.Option.{option_map};
+ghost use Rattle.org_journal.specs.Reading.{patches_at, before_of, new_entry_at, entry_at, entries_at, journal_at};
 ghost use Rattle.org_disk.specs.Names.{is_file_name};
 ghost use Rattle.org_journal.specs.Decoding.{DecodesAs, malformed};
-ghost use Rattle.org_journal.specs.Record.{BeginsWith, IsWellFormed};
-ghost use Rattle.org_journal.specs.declared.record.Version.TheVariants.{One, Two};
+ghost use Rattle.org_journal.specs.Record.{BeginsWith, IsRecord, IsWellFormed};
+ghost use Rattle.org_journal.specs.declared.record.Version.TheVariants.{One, Three};
 ghost use Rattle.org_journal.specs.declared.record.Entry.{Entry};
 
 use crate::fault::Malformed;
-use crate::fields::{head_at, old_entry_at, patch_at};
+use crate::fields::{BeforeSlice, head_at, old_entry_at, patch_at};
 use crate::reading::{count_at, header_at, well_formed};
-use crate::record::{Entry, Patches, Record, Version};
+use crate::record::{Before, Entry, Patches, Record, Version};
 use org_disk::{BadName, FileName};
 use org_fault::Fault;
 use org_splice::{Bytes, Patch};
-use std::alloc::Global;
+use std::alloc::{AllocError, Global};
 
-// The patches of an entry of version 2, and the bytes behind them.
+// The patches of an entry of version 2 or 3, and the bytes behind them.
 fn patches_of(
     alloc: Global,
     length: u64,
@@ -37,7 +39,7 @@ fn patches_of(
             return Err(Fault::Refused(Malformed));
         };
         place = patch.from + patch.bytes.len() as u64;
-        let bytes = Bytes::new(Vec::from_slice(alloc, patch.bytes)?);
+        let bytes = copied(alloc, patch.bytes)?;
         patches.push(Patch {
             from: patch.from,
             bytes,
@@ -59,15 +61,42 @@ fn name_of(alloc: Global, text: &str) -> Result<FileName, Fault<Malformed>>
     }
 }
 
+// Bytes of their own.
+fn copied(alloc: Global, bytes: &[u8]) -> Result<Bytes, AllocError>
+    ensures { IfOk result (λ copy. copy ≡ bytes.now) }
+{
+    Ok(Bytes::new(Vec::from_slice(alloc, bytes)?))
+}
+
+// What a file was before, with contexts of its own.
+fn before_of(alloc: Global, before: Option<BeforeSlice<'_>>) -> Result<Option<Before>, AllocError>
+    ensures { IfOk result (λ copy. copy
+        ≡ option_map (λ b. before_of b.length b.leading.now b.trailing.now) before.entry) }
+{
+    let Some(before) = before else {
+        return Ok(None);
+    };
+    Ok(Some(Before {
+        length: before.length,
+        leading: copied(alloc, before.leading)?,
+        trailing: copied(alloc, before.trailing)?,
+    }))
+}
+
 // The entry of a file of this name.
 fn named(
     alloc: Global,
     name: &str,
     length: u64,
+    before: Option<Before>,
     patches: Vec<Patch>,
 ) -> Result<Entry, Fault<Malformed>>
-    ensures entry { IfOk result (λ entry. entry
-        ≡ record { name = name.now; length = length; patches = patches.items }) }
+    ensures entry { IfOk result (λ entry. entry ≡ record {
+      name = name.now;
+      length = length;
+      before = before;
+      patches = patches.items;
+    }) }
     ensures malformed { IsErrOf result malformed → IsFalse (is_file_name name.now) }
 {
     let name = name_of(alloc, name)?;
@@ -75,6 +104,7 @@ fn named(
     Ok(Entry {
         name,
         length,
+        before,
         patches,
     })
 }
@@ -87,30 +117,36 @@ fn old_entry_of(alloc: Global, bytes: &[u8]) -> Result<(Entry, &[u8]), Fault<Mal
     let Some((entry, rest)) = old_entry_at(bytes) else {
         return Err(Fault::Refused(Malformed));
     };
-    let bytes = Bytes::new(Vec::from_slice(alloc, entry.patch.bytes)?);
+    let bytes = copied(alloc, entry.patch.bytes)?;
     let mut patches = Vec::new(alloc);
     patches.push(Patch {
         from: entry.patch.from,
         bytes,
     })?;
-    let entry = named(alloc, entry.name, entry.length, patches)?;
+    let entry = named(alloc, entry.name, entry.length, None, patches)?;
     Ok((entry, rest))
 }
 
-// An entry of version 2, and the bytes behind it.
-#[tactic(auto, unfolding(crate::specs::Reading::entry_at))]
-fn new_entry_of(alloc: Global, bytes: &[u8]) -> Result<(Entry, &[u8]), Fault<Malformed>>
-    ensures { DecodesAs (λ x. (x.0, x.1.now)) result (entry_at Two bytes.now) }
+// An entry of version 2 or 3, and the bytes behind it.
+#[tactic(auto, unfolding(crate::specs::Reading::new_entry_at))]
+fn new_entry_of(
+    alloc: Global,
+    version: Version,
+    bytes: &[u8],
+) -> Result<(Entry, &[u8]), Fault<Malformed>>
+    ensures { DecodesAs (λ x. (x.0, x.1.now)) result (new_entry_at version bytes.now) }
 {
-    let Some((head, rest)) = head_at(bytes) else {
+    let Some((head, rest)) = head_at(version, bytes) else {
         return Err(Fault::Refused(Malformed));
     };
+    let before = before_of(alloc, head.before)?;
     let (patches, rest) = patches_of(alloc, head.length, head.count, rest)?;
-    let entry = named(alloc, head.name, head.length, patches)?;
+    let entry = named(alloc, head.name, head.length, before, patches)?;
     Ok((entry, rest))
 }
 
 // An entry, and the bytes behind it.
+#[tactic(auto, unfolding(crate::specs::Reading::entry_at))]
 fn entry_of(
     alloc: Global,
     version: Version,
@@ -120,7 +156,7 @@ fn entry_of(
 {
     match version {
         Version::One => old_entry_of(alloc, bytes),
-        Version::Two => new_entry_of(alloc, bytes),
+        Version::Two | Version::Three => new_entry_of(alloc, version, bytes),
     }
 }
 
@@ -163,15 +199,17 @@ fn record_of(alloc: Global, bytes: &[u8]) -> Result<Record, Fault<Malformed>>
 ///
 /// # Errors
 ///
-/// - `Malformed`: exactly where they don't begin with a well-formed record's bytes, in either
-///   version.
+/// - `Malformed`: exactly where they don't begin with a well-formed record's bytes, in one of the
+///   versions.
 /// - `OutOfMemory`: only where they do.
 pub fn decode(alloc: Global, bytes: &[u8]) -> Result<Record, Fault<Malformed>>
     ensures found { IfOk result (λ entries. BeginsWith bytes.now entries) }
     ensures only { (entries : List Entry) → BeginsWith bytes.now entries
         → (result ≡ Ok entries) ⊎ (result ≡ Err Fault.OutOfMemory) }
-    // What was read, in either version, can be written in version 2.
-    ensures writable { IfOk result (λ entries. IsWellFormed Two entries) }
+    ensures record { IfOk result (λ entries. IsRecord entries) }
+    // What was read in version 3 can be written.
+    ensures writable { IfOk result
+        (λ entries. slice_index bytes.now 4 ≡ 3 → IsWellFormed Three entries) }
     ensures memory { IsErrOf result Fault.OutOfMemory
         → (entries : List Entry) × BeginsWith bytes.now entries }
     ensures exact { DecodesAs (λ entries. entries) result (journal_at bytes.now) }

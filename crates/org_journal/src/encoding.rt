@@ -1,16 +1,17 @@
-//! The bytes of a record, in version 2 of the journal's format: numbers big-endian, names behind
+//! The bytes of a record, in version 3 of the journal's format: numbers big-endian, names behind
 //! their lengths, patches behind their counts.
 //!
-//! The gate's byte isn't part of them. Version 1 is read and never written.
-ghost use Rattle.std.specs.Prelude.{◌≡◌, ◌≤◌, ◌++◌, List, ℕ, length, take, drop, Some, OnOk, IfOk};
+//! The gate's byte isn't part of them. Versions 1 and 2 are read and never written.
+ghost use Rattle.std.specs.Prelude.{◌≡◌, ◌≤◌, ◌++◌, List, ℕ, length, take, drop, Some, IfSome, OnOk, IfOk};
 ghost use Rattle.std.specs.List.{flat_map, AllByRecursion};
+ghost use Rattle.std.specs.Option.{option_copied};
 ghost use Rattle.byteorder.specs.Endian.{big_bytes};
-ghost use Rattle.org_journal.specs.declared.record.Version.TheVariants.{Two};
-ghost use Rattle.org_journal.specs.Record.{patch_bytes, entry_bytes, record_bytes, journal_bytes, IsEntry, IsWellFormed};
+ghost use Rattle.org_journal.specs.declared.record.Version.TheVariants.{Three};
+ghost use Rattle.org_journal.specs.Record.{patch_bytes, context_bytes, before_bytes, IsBefore, most_context, entry_bytes, record_bytes, journal_bytes, IsEntry, IsWellFormed};
 ghost use Rattle.org_journal.specs.Reading.{journal_at};
 
 use crate::reading::HEADER;
-use crate::record::{Entry, Record};
+use crate::record::{Before, Entry, Record};
 use byteorder::{BigEndian, ByteOrder};
 use org_splice::Patch;
 use std::alloc::{AllocError, Global};
@@ -59,22 +60,44 @@ fn put_patches(out: &mut Vec<u8>, patches: &[Patch]) -> Result<(), AllocError>
     Ok(())
 }
 
+fn put_context(out: &mut Vec<u8>, context: &[u8]) -> Result<(), AllocError>
+    requires { length context.now ≤ most_context }
+    ensures { OnOk result (out.new.items ≡ out.old.items ++ context_bytes context.now) }
+{
+    out.push(context.len() as u8)?;
+    out.extend_from_slice(context)
+}
+
+fn put_before(out: &mut Vec<u8>, before: Option<&Before>) -> Result<(), AllocError>
+    requires { IfSome (option_copied before) IsBefore }
+    ensures { OnOk result
+        (out.new.items ≡ out.old.items ++ before_bytes (option_copied before.entry)) }
+{
+    let Some(before) = before else {
+        return Ok(());
+    };
+    put_u64(out, before.length)?;
+    put_context(out, before.leading.as_slice())?;
+    put_context(out, before.trailing.as_slice())
+}
+
 fn put_entry(out: &mut Vec<u8>, entry: &Entry) -> Result<(), AllocError>
-    requires { IsEntry Two entry.now }
-    ensures { OnOk result (out.new.items ≡ out.old.items ++ entry_bytes Two entry.now) }
+    requires { IsEntry Three entry.now }
+    ensures { OnOk result (out.new.items ≡ out.old.items ++ entry_bytes Three entry.now) }
 {
     let name = entry.name.as_str();
     put_u16(out, name.len() as u16)?;
     out.extend_from_slice(name.as_bytes())?;
     put_u64(out, entry.length)?;
+    put_before(out, entry.before.as_ref())?;
     let patches = entry.patches.as_slice();
     put_u32(out, patches.len() as u32)?;
     put_patches(out, patches)
 }
 
 fn put_entries(out: &mut Vec<u8>, entries: &[Entry]) -> Result<(), AllocError>
-    requires { AllByRecursion (IsEntry Two) entries.now }
-    ensures { OnOk result (out.new.items ≡ out.old.items ++ flat_map (entry_bytes Two)
+    requires { AllByRecursion (IsEntry Three) entries.now }
+    ensures { OnOk result (out.new.items ≡ out.old.items ++ flat_map (entry_bytes Three)
         entries.now) }
 {
     for entry in entries {
@@ -112,14 +135,14 @@ fn room_for(entries: &[Entry]) -> usize {
 }
 
 impl Record {
-    /// The journal's bytes behind its gate, in version 2 of the format.
+    /// The journal's bytes behind its gate, in version 3 of the format.
     ///
     /// # Errors
     ///
     /// `AllocError`.
     pub fn encode(&self, alloc: Global) -> Result<Vec<u8>, AllocError>
-        requires { IsWellFormed Two self.now }
-        ensures bytes { IfOk result (λ bytes. bytes.items ≡ journal_bytes Two self.now) }
+        requires { IsWellFormed Three self.now }
+        ensures bytes { IfOk result (λ bytes. bytes.items ≡ journal_bytes Three self.now) }
         // The record is read again from them, whatever follows.
         ensures read { IfOk result (λ bytes. (rest : List ℕ)
             → journal_at (bytes.items ++ rest) ≡ Some self.now) }
@@ -128,7 +151,7 @@ impl Record {
         let mut out = Vec::new(alloc);
         // Where there is no such room, the bytes take what they need.
         let _ = out.reserve(room_for(entries));
-        out.extend_from_slice(b"ORGJ\x02\x00\x00")?;
+        out.extend_from_slice(b"ORGJ\x03\x00\x00")?;
         put_u64(&mut out, 0)?;
         put_u32(&mut out, entries.len() as u32)?;
         put_entries(&mut out, entries)?;

@@ -3,9 +3,11 @@
 //! Each function answers a field and the bytes behind it, or none where it isn't well formed.
 //! Nothing here takes memory.
 ghost use Rattle.std.specs.Prelude.{◌≡◌, ◌+◌, ◌≤◌, length, IfSome, IsTrue};
+ghost use Rattle.std.specs.Option.{option_map};
 ghost use Rattle.org_disk.specs.Names.{is_file_name};
-ghost use Rattle.org_journal.specs.Reading.{Reads, number_at, bytes_at, counted_at, name_at, may_follow, patch_at, old_entry, old_entry_at, head_at};
+ghost use Rattle.org_journal.specs.Reading.{Reads, number_at, bytes_at, counted_at, name_at, may_follow, patch_at, old_entry, old_entry_at, context_at, before_of, before_at, before_in, head_at};
 
+use crate::record::{MOST_CONTEXT, Version};
 use byteorder::{BigEndian, ByteOrder};
 use org_disk::FileName;
 use std::str;
@@ -32,12 +34,30 @@ pub(crate) struct OldEntry<'a> {
     pub patch: PatchSlice<'a>,
 }
 
-/// What stands in front of the patches of an entry of version 2.
+/// What a file was before its entry was made, with contexts that are still the record's bytes.
+#[derive(Clone, Copy)]
+pub(crate) struct BeforeSlice<'a> {
+    pub length: u64,
+    pub leading: &'a [u8],
+    pub trailing: &'a [u8],
+}
+
+/// What stands before the patches of an entry of version 2 or 3.
 #[derive(Clone, Copy)]
 pub(crate) struct EntryHead<'a> {
     pub name: &'a str,
     pub length: u64,
+    pub before: Option<BeforeSlice<'a>>,
     pub count: u32,
+}
+
+fn u8_at(bytes: &[u8]) -> Option<(u8, &[u8])>
+    ensures { Reads (λ x. (x.0, x.1.now)) result (number_at 1 bytes.now) }
+{
+    if bytes.is_empty() {
+        return None;
+    }
+    Some((bytes[0], &bytes[1..]))
 }
 
 fn u16_at(bytes: &[u8]) -> Option<(u16, &[u8])>
@@ -154,16 +174,70 @@ pub(crate) fn old_entry_at(bytes: &[u8]) -> Option<(OldEntry<'_>, &[u8])>
     ))
 }
 
-/// What stands in front of the patches of an entry of version 2.
+// A context, behind its length.
+#[tactic(auto, unfolding(crate::specs::Reading::context_at))]
+fn context_at(bytes: &[u8]) -> Option<(&[u8], &[u8])>
+    ensures { Reads (λ x. (x.0.now, x.1.now)) result (context_at bytes.now) }
+{
+    let (count, rest) = u8_at(bytes)?;
+    if count > MOST_CONTEXT {
+        return None;
+    }
+    bytes_at(u64::from(count), rest)
+}
+
+// What a file was before.
+#[tactic(auto, unfolding(crate::specs::Reading::before_at))]
+fn before_at(bytes: &[u8]) -> Option<(BeforeSlice<'_>, &[u8])>
+    ensures { Reads (λ x. (before_of x.0.length x.0.leading.now x.0.trailing.now, x.1.now)) result
+        (before_at bytes.now) }
+{
+    let (length, rest) = u64_at(bytes)?;
+    let (leading, rest) = context_at(rest)?;
+    let (trailing, rest) = context_at(rest)?;
+    Some((
+        BeforeSlice {
+            length,
+            leading,
+            trailing,
+        },
+        rest,
+    ))
+}
+
+// What a file was before, where an entry of this version says it.
+#[tactic(auto, unfolding(crate::specs::Reading::before_in))]
+fn before_in(version: Version, bytes: &[u8]) -> Option<(Option<BeforeSlice<'_>>, &[u8])>
+    ensures { Reads
+        (λ x. (option_map (λ b. before_of b.length b.leading.now b.trailing.now) x.0, x.1.now))
+        result (before_in version bytes.now) }
+{
+    match version {
+        Version::One | Version::Two => Some((None, bytes)),
+        Version::Three => {
+            let (before, rest) = before_at(bytes)?;
+            Some((Some(before), rest))
+        }
+    }
+}
+
+/// What stands before the patches of an entry of version 2 or 3.
 #[tactic(auto, unfolding(crate::specs::Reading::head_at))]
-pub(crate) fn head_at(bytes: &[u8]) -> Option<(EntryHead<'_>, &[u8])>
+pub(crate) fn head_at(version: Version, bytes: &[u8]) -> Option<(EntryHead<'_>, &[u8])>
     ensures accepted { IfSome result (λ x. IsTrue (is_file_name x.0.name.now)) }
-    ensures reads { Reads
-        (λ x. (record { name = x.0.name.now; final = x.0.length; count = x.0.count }, x.1.now))
-        result (head_at bytes.now) }
+    ensures reads { Reads (λ x. (
+      record {
+        name = x.0.name.now;
+        final = x.0.length;
+        before = option_map (λ b. before_of b.length b.leading.now b.trailing.now) x.0.before;
+        count = x.0.count;
+      },
+      x.1.now,
+    )) result (head_at version bytes.now) }
 {
     let (name, rest) = name_at(bytes)?;
     let (length, rest) = u64_at(rest)?;
+    let (before, rest) = before_in(version, rest)?;
     let (count, rest) = u32_at(rest)?;
     if length > GREATEST_LENGTH || !(1..=MOST_PATCHES).contains(&count) {
         return None;
@@ -172,6 +246,7 @@ pub(crate) fn head_at(bytes: &[u8]) -> Option<(EntryHead<'_>, &[u8])>
         EntryHead {
             name,
             length,
+            before,
             count,
         },
         rest,

@@ -8,7 +8,7 @@ ghost use Rattle.org_disk.specs.Names.{journal_name};
 ghost use Rattle.org_splice.specs.Patches.{AreWellFormed};
 ghost use Rattle.org_splice.specs.Texts.{pairs_of};
 ghost use Rattle.org_journal.specs.Recovered.{contents, fits, all_fit};
-ghost use Rattle.org_journal.specs.Finding.{Finds, IsWritable, FindsSize, FindsRecord, HoldsRecordOfSize, HaveWellFormedPatches};
+ghost use Rattle.org_journal.specs.Finding.{Finds, IsWhole, FindsSize, FindsRecord, HoldsRecordOfSize, HaveWellFormedPatches};
 ghost use Rattle.org_journal.specs.Gate.{front_size};
 
 use crate::decoding::decode;
@@ -112,7 +112,7 @@ fn record_of<D: Disk>(
     requires within { D.honest disk.old → HoldsRecordOfSize
         (D.files disk.old journal.now).content size }
     ensures found { D.honest disk.new → FindsRecord (D.files disk.old journal.now).content result }
-    ensures writable { IfOk result (λ found. IsWritable found) }
+    ensures whole { IfOk result (λ found. IsWhole found) }
     ensures looks { Looks D.Disk disk.old disk.new }
     ensures accounts { CountsFailures D.Disk disk.old disk.new
         (IsErrOf result FindFault.Device) }
@@ -175,7 +175,7 @@ pub fn all_fit<D: Disk>(disk: &mut D, entries: &[Entry]) -> Result<bool, DiskFau
 pub fn find<D: Disk>(alloc: Global, disk: &mut D, journal: &FileName) -> Result<Found, FindFault>
     requires { journal.now ≡ journal_name }
     ensures found { D.honest disk.new → Finds (contents (D.files disk.old)) result }
-    ensures writable { IfOk result (λ found. IsWritable found) }
+    ensures whole { IfOk result (λ found. IsWhole found) }
     ensures looks { Looks D.Disk disk.old disk.new }
     ensures accounts { CountsFailures D.Disk disk.old disk.new
         (IsErrOf result FindFault.Device) }

@@ -10,7 +10,7 @@ ghost use Rattle.org_journal.specs.Recovered.{Image, all_fit, recovered, replaye
 ghost use Rattle.org_journal.specs.declared.record.Entry.{Entry};
 ghost use Rattle.org_journal.specs.declared.record.Version.{Version};
 
-/// The bytes of a well-formed record are read back as that record, in either version and whatever
+/// The bytes of a well-formed record are read back as that record, in each version and whatever
 /// stands behind them. No bytes begin with two records.
 pub fn records_read_back()
     ensures read { (version : Version) (entries : List Entry) (rest : List ℕ)

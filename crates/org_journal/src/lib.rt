@@ -12,6 +12,7 @@ mod fields;
 mod finding;
 mod gate;
 pub mod laws;
+mod left;
 mod reading;
 mod record;
 
@@ -20,5 +21,6 @@ pub use fault::{FindFault, Malformed};
 pub use fields::GREATEST_LENGTH;
 pub use finding::{FRONT, Found, all_fit, find};
 pub use gate::{arm, close_gate, is_open, mark, open_gate, prepare};
+pub use left::is_left;
 pub use reading::well_formed;
-pub use record::{Entry, Patches, Record};
+pub use record::{Before, Entry, MOST_CONTEXT, Patches, Record};

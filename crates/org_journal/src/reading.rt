@@ -4,7 +4,7 @@
 ghost use Rattle.std.specs.Prelude.{◌≡◌, ◌↔◌, ◌==◌, List, Some, IfSome, IsTrue, is_some};
 ghost use Rattle.org_journal.specs.Record.{is_named, names_differ, BeginsWith};
 ghost use Rattle.org_journal.specs.declared.record.Entry.{Entry};
-ghost use Rattle.org_journal.specs.Reading.{Reads, behind, name_behind, patches_at, entry_at, entries_at, count_at, record_at, header_at, journal_at};
+ghost use Rattle.org_journal.specs.Reading.{Reads, behind, name_behind, patches_at, new_entry_at, entry_at, entries_at, count_at, record_at, header_at, journal_at};
 
 use crate::fields::{counted_at, head_at, old_entry_at, patch_at, u32_at};
 use crate::record::Version;
@@ -14,7 +14,7 @@ const MOST_ENTRIES: u32 = 512;
 /// The bytes in front of a record, without the gate; the last 8 are the record's size.
 pub(crate) const HEADER: usize = 15;
 
-// The bytes behind the patches of an entry of version 2.
+// The bytes behind the patches of an entry of version 2 or 3.
 fn behind_patches(length: u64, count: u32, bytes: &[u8]) -> Option<&[u8]>
     ensures { Reads (λ rest. rest.now) result
         (behind (patches_at 0 length (count == 1) count bytes.now)) }
@@ -29,6 +29,17 @@ fn behind_patches(length: u64, count: u32, bytes: &[u8]) -> Option<&[u8]>
     Some(rest)
 }
 
+// The name of an entry of version 2 or 3, and the bytes behind the entry.
+#[tactic(auto, unfolding(crate::specs::Reading::new_entry_at))]
+fn name_of_new_entry_at(version: Version, bytes: &[u8]) -> Option<(&str, &[u8])>
+    ensures { Reads (λ x. (x.0.now, x.1.now)) result
+        (name_behind (new_entry_at version bytes.now)) }
+{
+    let (head, rest) = head_at(version, bytes)?;
+    let rest = behind_patches(head.length, head.count, rest)?;
+    Some((head.name, rest))
+}
+
 // The name of an entry, and the bytes behind the entry.
 #[tactic(auto, unfolding(crate::specs::Reading::entry_at))]
 fn name_of_entry_at(version: Version, bytes: &[u8]) -> Option<(&str, &[u8])>
@@ -39,11 +50,7 @@ fn name_of_entry_at(version: Version, bytes: &[u8]) -> Option<(&str, &[u8])>
             let (entry, rest) = old_entry_at(bytes)?;
             Some((entry.name, rest))
         }
-        Version::Two => {
-            let (head, rest) = head_at(bytes)?;
-            let rest = behind_patches(head.length, head.count, rest)?;
-            Some((head.name, rest))
-        }
+        Version::Two | Version::Three => name_of_new_entry_at(version, bytes),
     }
 }
 
@@ -130,6 +137,7 @@ pub(crate) fn header_at(bytes: &[u8]) -> Option<(Version, &[u8])>
     let version = match bytes[4] {
         1 => Version::One,
         2 => Version::Two,
+        3 => Version::Three,
         _ => return None,
     };
     let (record, _) = counted_at(&bytes[7..])?;
@@ -146,8 +154,8 @@ fn is_journal(bytes: &[u8]) -> bool
     }
 }
 
-/// Whether the bytes behind a journal's gate begin with those of a well-formed record, in either
-/// version. Takes no memory.
+/// Whether the bytes behind a journal's gate begin with those of a well-formed record, in one of
+/// the versions. Takes no memory.
 pub fn well_formed(bytes: &[u8]) -> bool
     ensures record { IsTrue result ↔ ((entries : List Entry) × BeginsWith bytes.now entries) }
     ensures exact { result ≡ is_some (journal_at bytes.now) }

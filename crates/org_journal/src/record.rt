@@ -4,7 +4,7 @@
 ghost use Rattle.std.specs.Prelude.{◌≡◌};
 
 use org_disk::FileName;
-use org_splice::Patch;
+use org_splice::{Bytes, Patch};
 use std::marker::Model;
 
 /// A vector, which a clause sees as the list of its items.
@@ -40,14 +40,32 @@ impl<T> Items<T> {
 /// The patches of one file.
 pub type Patches = Items<Patch>;
 
-/// What becomes of one file: its patches are applied to it in order, and it has `length` bytes
-/// then.
+/// The most bytes of a context.
+pub const MOST_CONTEXT: u8 = 32;
+
+/// What a file was before its entry was made. By this an opening sees whether another program has
+/// changed the file since.
+#[derive(Drop)]
+pub struct Before {
+    /// How many bytes the file had.
+    pub length: u64,
+    /// The bytes just before the first patch, at most `MOST_CONTEXT` in a record.
+    pub leading: Bytes,
+    /// The bytes just after the last patch, at most `MOST_CONTEXT` in a record. There are none if
+    /// the length changes.
+    pub trailing: Bytes,
+}
+
+/// What becomes of one file: its patches are applied to it in order, and then it is cut to `length`
+/// bytes if it was longer before.
 #[derive(Drop)]
 pub struct Entry {
     /// The name of the file.
     pub name: FileName,
     /// How many bytes the file has in the end, at most `GREATEST_LENGTH` in a record.
     pub length: u64,
+    /// What the file was before, which a record of version 3 says.
+    pub before: Option<Before>,
     /// What is applied to it, each patch behind the one before, at most 1,000 in a record.
     pub patches: Patches,
 }
@@ -61,6 +79,9 @@ pub enum Version {
     /// An entry has one patch, and its file at most 16,777,216 bytes. It is read, and never
     /// written.
     One,
-    /// An entry has up to 1,000 patches, and its file at most 67,108,864 bytes.
+    /// An entry has up to 1,000 patches, and its file at most 67,108,864 bytes. It is read, and
+    /// never written.
     Two,
+    /// An entry also says what its file was before.
+    Three,
 }

@@ -130,10 +130,11 @@ def at_the_limit(room):
     lines = edit("a.org", 0, "", "x") + edit("a.org", 2, "A", "B")
     room.judge("edits of %d bytes" % LIMIT, run(folder, lines), "refused 14 TooLarge\n" + SAFE)
     room.judge("the file of the limit", held(folder, "a.org") == text.replace(b"A", b"B", 1), True)
-    record = (b"\0\0\0\1" b"\0\5a.org" + LIMIT.to_bytes(8, "big") + b"\0\0\0\1" + (2).to_bytes(8, "big")
-              + (1).to_bytes(8, "big") + b"B")
+    # 2 bytes stand before the patch, and as many as a context has after it
+    record = (b"\0\0\0\1" b"\0\5a.org" + 2 * LIMIT.to_bytes(8, "big") + b"\2* " + b"\x20\n" + 31 * b"x" + b"\0\0\0\1"
+              + (2).to_bytes(8, "big") + (1).to_bytes(8, "big") + b"B")
     room.judge("its journal", held(folder, "orgstore.journal"),
-               b"\0ORGJ\2\0\0" + len(record).to_bytes(8, "big") + record)
+               b"\0ORGJ\3\0\0" + len(record).to_bytes(8, "big") + record)
     os.unlink(folder + "/a.org")
 
 

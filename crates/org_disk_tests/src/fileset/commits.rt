@@ -129,6 +129,58 @@ fn with_journal(rt: &impl Abort, alloc: Global, journal: &[u8]) -> MemoryDisk {
     disk_with(rt, alloc, journal, b"* A\n", b"")
 }
 
+// The journal after an edit of a.org that keeps its length: what stands on both sides of the patch.
+pub const KEPT: &[u8] = b"\0ORGJ\x03\0\0\0\0\0\0\0\0\0\x39\0\0\0\x01\0\x05a.org\
+    \0\0\0\0\0\0\0\x08\0\0\0\0\0\0\0\x08\x02* \x05\n* B\n\
+    \0\0\0\x01\0\0\0\0\0\0\0\x02\0\0\0\0\0\0\0\x01C";
+
+// After one that makes it longer, and after another one that makes it shorter again.
+pub const LONGER: &[u8] = b"\0ORGJ\x03\0\0\0\0\0\0\0\0\0\x3a\0\0\0\x01\0\x05a.org\
+    \0\0\0\0\0\0\0\x09\0\0\0\0\0\0\0\x04\x02* \0\
+    \0\0\0\x01\0\0\0\0\0\0\0\x02\0\0\0\0\0\0\0\x07Better\n";
+
+const SHORTER: &[u8] = b"\0ORGJ\x03\0\0\0\0\0\0\0\0\0\x35\0\0\0\x01\0\x05a.org\
+    \0\0\0\0\0\0\0\x04\0\0\0\0\0\0\0\x09\x02* \0\
+    \0\0\0\x01\0\0\0\0\0\0\0\x02\0\0\0\0\0\0\0\x02C\n";
+
+const LETTER: Edit = Edit {
+    file: 0,
+    at: 2,
+    removed: 1,
+    bytes: b"C",
+};
+
+const BACK: Edit = Edit {
+    file: 0,
+    at: 2,
+    removed: 6,
+    bytes: b"C",
+};
+
+// A text of a.org, edits that are committed one after the other by one set, and what the journal
+// begins with then.
+static RECORDED: &[(&[u8], &[Edit], &[u8])] = &[
+    (b"* A\n* B\n", &[LETTER], KEPT),
+    (b"* A\n", &[RENAME], LONGER),
+    (b"* A\n", &[RENAME, BACK], SHORTER),
+];
+
+#[test]
+fn records_say_what_files_were(rt: HostRuntime) {
+    let alloc = rt.alloc();
+    for (i, (text, edits, journal)) in RECORDED.iter().enumerate() {
+        let mut set = open(&rt, alloc, disk_with(&rt, alloc, b"", text, b""), FILES);
+        for edit in *edits {
+            hold(&rt, commit(&rt, alloc, &mut set, &[*edit]).is_ok());
+        }
+        let mut disk = set.into_disk();
+        let name = FileName::journal_name(alloc).expect(&rt, "memory");
+        let bytes = must(&rt, bytes_of(alloc, &mut disk, &name));
+        hold_row(&rt, bytes.starts_with(journal), i);
+        drop(disk);
+    }
+}
+
 // How many calls an opening and a commit of these edits make.
 fn calls_with(rt: &impl Abort, alloc: Global, edits: &[Edit]) -> u64 {
     calls_of(changed(rt, alloc, with_journal(rt, alloc, b""), edits))
@@ -179,11 +231,11 @@ fn end_old(rt: &impl Abort, alloc: Global, disk: MemoryDisk) -> MemoryDisk {
     disk
 }
 
-// Whether the journal has a closed gate and a record of version 2.
+// Whether the journal has a closed gate and a record of version 3.
 fn is_closed_and_new(rt: &impl Abort, alloc: Global, disk: &mut MemoryDisk) -> bool {
     let journal = FileName::journal_name(alloc).expect(rt, "memory");
     let bytes = must(rt, bytes_of(alloc, disk, &journal));
-    matches!(bytes.as_slice(), [0, _, _, _, _, 2, ..])
+    matches!(bytes.as_slice(), [0, _, _, _, _, 3, ..])
 }
 
 #[test]

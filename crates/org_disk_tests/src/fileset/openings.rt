@@ -1,4 +1,5 @@
 //! What opening a set finds, and how it ends a record that a crash left.
+use super::commits::{KEPT, LONGER};
 use super::{
     FILES, crashed, disk_with, holds, image_of, open, opened_disk, opened_then_closed, opens_with,
     read_once, with_gate,
@@ -179,4 +180,56 @@ fn a_failed_read_breaks_the_set(rt: HostRuntime) {
         is_broken_by_read(&mut set, &name_of(&rt, alloc, "a.org")),
     );
     drop(set);
+}
+
+// A closed journal of version 3, what a.org has once its gate is open, and what an opening makes of
+// that; or nothing, where a.org is found changed.
+type Left = (&'static [u8], &'static [u8], Option<&'static [u8]>);
+
+static LEFT: &[Left] = &[
+    (KEPT, b"* A\n* B\n", Some(b"* C\n* B\n")),
+    (KEPT, b"* C\n* B\n", Some(b"* C\n* B\n")),
+    // any byte where the patch is written
+    (KEPT, b"* Z\n* B\n", Some(b"* C\n* B\n")),
+    // a byte more, and one less
+    (KEPT, b"* A\n* B\nx", None),
+    (KEPT, b"* A\n* B", None),
+    // other bytes before the patch, and after it
+    (KEPT, b"+ A\n* B\n", None),
+    (KEPT, b"*+A\n* B\n", None),
+    (KEPT, b"* A+* B\n", None),
+    (KEPT, b"* A\n* B+", None),
+    (KEPT, b"", None),
+    // each length from the old one to the final one
+    (LONGER, b"* A\n", Some(b"* Better\n")),
+    (LONGER, b"* Bet\0", Some(b"* Better\n")),
+    (LONGER, b"* Better\n", Some(b"* Better\n")),
+    (LONGER, b"* A", None),
+    (LONGER, b"* Better\n\n", None),
+    (LONGER, b"+ A\n", None),
+];
+
+fn is_left_so(rt: &impl Abort, alloc: Global, (journal, text, made): &Left) -> bool {
+    let mut opened = Vec::from_slice(alloc, journal).expect(rt, "memory");
+    if let Some(gate) = opened.first_mut() {
+        *gate = 1;
+    }
+    let disk = disk_with(rt, alloc, &opened, text, b"");
+    let (mut disk, fault) = opened_then_closed(rt, alloc, disk);
+    let is_so = match made {
+        Some(made) => fault.is_none() && holds(rt, alloc, &mut disk, "a.org", made),
+        None => matches!(&fault, Some(OpenFault::Changed(name)) if name.as_str() == "a.org")
+            && holds(rt, alloc, &mut disk, "a.org", text)
+            && holds(rt, alloc, &mut disk, "orgstore.journal", &opened),
+    };
+    drop(disk);
+    is_so
+}
+
+#[test]
+fn changed_bytes_are_found(rt: HostRuntime) {
+    let alloc = rt.alloc();
+    for (i, row) in LEFT.iter().enumerate() {
+        hold_row(&rt, is_left_so(&rt, alloc, row), i);
+    }
 }

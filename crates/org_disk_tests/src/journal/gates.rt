@@ -2,13 +2,13 @@
 ghost use Rattle.std.specs.Prelude.{◌≡◌, ◌≤◌, length, IfOk, OnOk};
 ghost use Rattle.org_disk.specs.Disk.{IsStable};
 ghost use Rattle.org_disk.specs.Names.{journal_name};
-ghost use Rattle.org_journal.specs.Finding.{IsWritable};
+ghost use Rattle.org_journal.specs.Finding.{IsWhole};
 
 use super::{ALL, Body, TWO, behind_gate, body_of, is_capture, joined};
 use crate::disk::{hold, hold_row};
 use crate::fileset::{disk_with, is_refused};
 use org_disk::{Disk, DiskFault, FileName};
-use org_fixtures::{NEW, OLD};
+use org_fixtures::{NEW, NEWEST, OLD};
 use org_journal::{FindFault, Found, all_fit, arm, close_gate, find, open_gate, prepare};
 use org_test_disks::MemoryDisk;
 use std::alloc::Global;
@@ -38,7 +38,7 @@ fn answer_in(found: &Result<Found, FindFault>) -> Answer {
 
 // The same, and `Bad` where the record doesn't fit its files.
 fn fitting_answer<D: Disk>(disk: &mut D, found: &Result<Found, FindFault>) -> Answer
-    requires { IfOk found.now (λ found. IsWritable found) }
+    requires { IfOk found.now (λ found. IsWhole found) }
 {
     if let Ok(Found::Open(record, _)) = found {
         match all_fit(disk, record.as_slice()) {
@@ -70,6 +70,7 @@ const LONG: &[(usize, &[u8])] = &[(45, &[17])];
 static ROWS: &[(u8, Body, &[u8], Answer)] = &[
     (1, (&OLD, ALL, &[], b""), b"", Answer::Capture),
     (1, (&NEW, ALL, &[], b""), b"", Answer::Capture),
+    (1, (&NEWEST, ALL, &[], b""), b"", Answer::Capture),
     (1, (&OLD, ALL, &[], b"\0"), b"", Answer::Capture),
     (0, (&OLD, ALL, &[], b""), b"", Answer::Closed),
     (0x55, (&OLD, ALL, &[], b""), b"", Answer::Closed),

@@ -1,8 +1,8 @@
 //! Which bytes are a record, and how a record is written.
-use super::{ALL, Body, TWO, behind_gate, body_of, is_capture, joined};
+use super::{ALL, Body, THREE, TWO, behind_gate, body_of, is_capture, joined};
 use crate::disk::hold_row;
 use org_fault::Fault;
-use org_fixtures::{NEW, OLD};
+use org_fixtures::{NEW, NEWEST, OLD};
 use org_journal::{Malformed, decode, well_formed};
 use std::alloc::Global;
 use std::process::Abort;
@@ -29,11 +29,12 @@ const ENTRY: &[u8] =
 type Row = (Body, Record);
 
 static FORMED: &[Row] = &[
-    // both versions are read, and version 2 is written
+    // the versions are read, and version 3 is written
     ((&OLD, ALL, &[], b""), Record::Capture),
     ((&NEW, ALL, &[], b""), Record::Capture),
-    ((&OLD, ALL, &[], b""), Record::Written(&NEW)),
-    ((&TWO, ALL, &[], b""), Record::Written(&TWO)),
+    ((&NEWEST, ALL, &[], b""), Record::Capture),
+    ((&NEWEST, ALL, &[], b""), Record::Written(&NEWEST)),
+    ((&THREE, ALL, &[], b""), Record::Written(&THREE)),
     // well formed journals, and others
     ((&TWO, ALL, &[], b""), Record::Formed),
     ((&TWO, ALL, &[(66, &[3])], b""), Record::Formed), // the patches touch
@@ -57,7 +58,8 @@ static FORMED: &[Row] = &[
 
 static VERSION_1: &[Row] = &[
     ((&OLD, ALL, &[(3, &[0x4b])], b""), Record::Malformed), // a wrong letter
-    ((&OLD, ALL, &[(4, &[3])], b""), Record::Malformed), // version 3
+    ((&OLD, ALL, &[(4, &[0])], b""), Record::Malformed), // no version
+    ((&OLD, ALL, &[(4, &[4])], b""), Record::Malformed),
     ((&OLD, ALL, &[(6, &[1])], b""), Record::Malformed), // a byte that is to be 0
     ((&OLD, ALL, &[(7, &[0xff; 8])], b""), Record::Malformed), // a size past the end
     ((&OLD, ALL, &[(14, &[56])], b""), Record::Malformed),
@@ -103,6 +105,36 @@ static VERSION_2: &[Row] = &[
     ),
 ];
 
+// A context of 32 bytes and one of 33, with the bytes after them.
+const CONTEXT_32: &[u8] =
+    b"\x20********************************\0\0\0\0\x01\0\0\0\0\0\0\0\x02\0\0\0\0\0\0\0\x01C";
+
+const CONTEXT_33: &[u8] =
+    b"\x21*********************************\0\0\0\0\x01\0\0\0\0\0\0\0\x02\0\0\0\0\0\0\0\x01C";
+
+static VERSION_3: &[Row] = &[
+    ((&THREE, 46, &[(14, &[0x56])], CONTEXT_32), Record::Formed),
+    (
+        (&THREE, 46, &[(14, &[0x57])], CONTEXT_33),
+        Record::Malformed,
+    ),
+    // any old length
+    ((&THREE, ALL, &[(38, &[0xff; 8])], b""), Record::Formed),
+    ((&THREE, ALL, &[(38, &[0; 8])], b""), Record::Formed),
+    // contexts that take more bytes, or less, than they have
+    ((&THREE, ALL, &[(46, &[3])], b""), Record::Malformed),
+    ((&THREE, ALL, &[(49, &[0])], b""), Record::Malformed),
+    // the record ends within the second context
+    ((&THREE, 50, &[(14, &[0x23])], b""), Record::Malformed),
+    // it is no record of version 2
+    ((&THREE, ALL, &[(4, &[2])], b""), Record::Malformed),
+    // a file of 67,108,865 bytes
+    (
+        (&THREE, ALL, &[(30, &[0, 0, 0, 0, 4, 0, 0, 1])], b""),
+        Record::Malformed,
+    ),
+];
+
 fn is_refused(alloc: Global, bytes: &[u8]) -> bool {
     !well_formed(bytes) && matches!(decode(alloc, bytes), Err(Fault::Refused(Malformed)))
 }
@@ -113,6 +145,9 @@ fn is_read(alloc: Global, bytes: &[u8]) -> bool {
 
 // Whether the record of these bytes is written as those.
 fn is_written(rt: &impl Abort, alloc: Global, bytes: &[u8], expected: &[u8]) -> bool {
+    if bytes.len() < 5 || bytes[4] != 3 {
+        return false;
+    }
     let record = decode(alloc, bytes).expect(rt, "no record");
     record.encode(alloc).expect(rt, "memory").as_slice() == expected
 }
@@ -152,4 +187,9 @@ fn records_of_version_1(rt: HostRuntime) {
 #[test]
 fn records_of_version_2(rt: HostRuntime) {
     hold_rows(&rt, rt.alloc(), VERSION_2);
+}
+
+#[test]
+fn records_of_version_3(rt: HostRuntime) {
+    hold_rows(&rt, rt.alloc(), VERSION_3);
 }

@@ -1,14 +1,17 @@
-use Rattle.std.proofs.Common.{List, ℕ, Option, sym, subst}
+use Rattle.std.proofs.Common.{List, ℕ, Option, ap, sym, subst}
+use Rattle.std.proofs.lemmas.Result.{on_ok_weaker}
 use Rattle.std.specs.Prelude.{IsSomeAnd}
 use Rattle.org_disk.proofs.Moments.{passes_then}
 use Rattle.org_journal.specs.Recovered.{Image, SameFiles, IsRecoverable, contents}
 use Rattle.org_fileset.specs.Recovery.{IsReopened}
 use Rattle.org_fileset.proofs.OpenGate.{on_ok_always}
+use Rattle.org_disk.specs.Disk.{FileState}
 use Rattle.org_disk.specs.Names.{journal_name}
 use Rattle.org_fileset.specs.Writes.{IsUnconcerned}
 use Rattle.org_journal.proofs.Accounted.{accounts_after, accounts_passed}
 use Rattle.org_fileset.proofs.Sets.{passed_never}
 use Rattle.org_fileset.proofs.Sizes.{recovered_few, answer_recovered, answer_sized}
+use Rattle.org_fileset.proofs.Noted.{lengths_as}
 use Rattle.org_fileset.proofs.Starting.{since_start}
 use Rattle.org_fileset.proofs.Writes.{alone_looks, alone_then}
 use Rattle.org_fileset.proofs.Recovering.{as_before}
@@ -70,3 +73,12 @@ returns-clause-answer g c ended =
 
 pub returns-clause-not_too_many : goal.returns-clause-not_too_many
 returns-clause-not_too_many g c = c.check_sizes.ensures.not_too_many
+
+pub returns-in_err-recover-clause-lengths : goal.returns-in_err-recover-clause-lengths
+returns-in_err-recover-clause-lengths g c = passed_never _ _ c.from_residual.result c.from_residual.ensures.1
+
+pub returns-clause-lengths : goal.returns-clause-lengths
+returns-clause-lengths g c = on_ok_weaker c.check_sizes.result (λ had ended.
+    let looks = c.check_sizes.ensures.looks ended in
+    lengths_as c.args.names.now _ (contents (g.D.Disk.files c.recover.new.disk)) (contents (g.D.Disk.files c.check_sizes.new.disk)) (ap (λ (f : List ℕ → FileState). contents f) looks.same) (had ended))
+    c.check_sizes.ensures.lengths

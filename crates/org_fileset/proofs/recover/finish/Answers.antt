@@ -11,4 +11,4 @@ redo-requires-clause-end g c honest =
 
 pub redo-requires-clause-applicable : goal.redo-requires-clause-applicable
 redo-requires-clause-applicable g c honest =
-    open_applicable (g.D.Disk.files c.args.disk.now) c.args.found.now c.as_slice.result.now _ (open_as c.in-Open.is c.as_slice.ensures) c.requires.writable (c.requires.fit honest)
+    open_applicable (g.D.Disk.files c.args.disk.now) c.args.found.now c.as_slice.result.now _ (open_as c.in-Open.is c.as_slice.ensures) c.requires.whole (c.requires.fit honest)

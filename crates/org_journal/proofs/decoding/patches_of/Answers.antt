@@ -8,7 +8,7 @@ returns-in_default c =
 
 pub loop-preserved : goal.loop-preserved
 loop-preserved c =
-    rw (c.in_ok-push.ensures.items, c.new-bytes.ensures, c.in_ok-from_slice.ensures.items) (front_next c.loop.patches.items (record { from = c.in-Some.patch.from; bytes = c.in-Some.patch.bytes.now }) _ _ _ (patches_next c.loop.place c.args.length (c.args.count == 1) c.args.count c.loop.counter c.loop.rest.now (record { from = c.in-Some.patch.from; bytes = c.in-Some.patch.bytes.now }) c.in-Some.after.now c.loop-test.true c.in-Some.ensures.reads) c.loop.invariant)
+    rw (c.in_ok-push.ensures.items, c.in_ok-bytes.ensures) (front_next c.loop.patches.items (record { from = c.in-Some.patch.from; bytes = c.in-Some.patch.bytes.now }) _ _ _ (patches_next c.loop.place c.args.length (c.args.count == 1) c.args.count c.loop.counter c.loop.rest.now (record { from = c.in-Some.patch.from; bytes = c.in-Some.patch.bytes.now }) c.in-Some.after.now c.loop-test.true c.in-Some.ensures.reads) c.loop.invariant)
 
 pub returns : goal.returns
 returns c =

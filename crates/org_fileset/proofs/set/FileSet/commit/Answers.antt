@@ -4,14 +4,16 @@ use Rattle.std.proofs.lemmas.List.{nil_from_length}
 use Rattle.org_splice.specs.Texts.{EditedText}
 use Rattle.org_disk.specs.Names.{journal_name}
 use Rattle.org_journal.specs.declared.record.Entry.{Entry}
-use Rattle.org_journal.specs.declared.record.Version.TheVariants.{Two}
+use Rattle.org_journal.specs.declared.record.Version.TheVariants.{Three}
 use Rattle.org_journal.specs.Record.{BeginsWith, IsWellFormed, journal_bytes}
 use Rattle.org_journal.specs.Recovered.{contents}
 use Rattle.org_journal.proofs.Journal.{written_begins}
 use Rattle.org_fileset.specs.Entries.{changed}
+use Rattle.org_fileset.specs.Lengths.{with_lengths}
 use Rattle.org_fileset.specs.Replay.{AreApplicableTo}
 use Rattle.org_fileset.specs.Writes.{IsOther}
 use Rattle.org_fileset.specs.declared.fault.SetFault.TheVariants.{Broken, Device}
+use Rattle.org_fileset.proofs.Noted.{commit_noted}
 use Rattle.org_fileset.proofs.Recorded.{changes_applicable, changes_fit}
 use Rattle.org_disk.proofs.Accounting.{accounts_none, accounts_ok}
 use Rattle.org_journal.proofs.Accounted.{accounts_answered, accounts_failed, accounts_quiet}
@@ -57,10 +59,10 @@ returns-then-len-eq0-clause-commits g c = record {
   accounts = accounts_answered (accounts_none _ _);
 }
 
-pub returns-in_err-entries_of : goal.returns-in_err-entries_of
-returns-in_err-entries_of g c = record {
+pub returns-in_err-entries : goal.returns-in_err-entries
+returns-in_err-entries g c = record {
   commits = commits_refused g.D.Disk c.args.self.now (g.C.Changes.pairs c.args.changes.now) c.from_residual.result (rw (← c.self.view_is) c.if-self.false) (g.met.D.Disk.only_now c.args.self.now.disk) c.from_residual.ensures.1;
-  nothing = λ none. absurd (some g (goal.at.returns-in_err-entries_of g c).Else-len-eq0 none);
+  nothing = λ none. absurd (some g (goal.at.returns-in_err-entries g c).Else-len-eq0 none);
 }
 
 pub returns-in_err-body : goal.returns-in_err-body
@@ -75,11 +77,11 @@ returns-in-Ok g c = record {
     commits =
         rw (← c.self.view_is) (λ ended.
         let edits = (rw (← c.self.view_is) at c.requires.edits) c.if-self.false (c.commit_entries.ensures.accounts.was_honest ended) in
-        commits_record g.D.Disk (g.C.Changes.pairs c.args.changes.now) c.in_ok-entries_of.field-0.items _ c.self.inside.disk c.commit_entries.new.disk (Ok tt) (Ok tt) (some g (goal.at.returns-in-Ok g c).Else-len-eq0) c.in_ok-entries_of.ensures.entries
+        commits_record g.D.Disk (g.C.Changes.pairs c.args.changes.now) c.in_ok-entries.entries.items _ c.self.inside.disk c.commit_entries.new.disk (Ok tt) (Ok tt) (some g (goal.at.returns-in-Ok g c).Else-len-eq0) c.in_ok-entries.ensures.entries
         (c.as_slice.ensures ∙ c.new-record.ensures) edits (c.in-Ok.ensures.commits ended) (λ made. made.done));
     record_stands =
         λ ended. let journal = contents (g.D.Disk.files c.commit_entries.new.disk) journal_name in
-        has_record (g.C.Changes.pairs c.args.changes.now) c.in_ok-entries_of.field-0.items journal c.in_ok-entries_of.ensures.entries
+        has_record (g.C.Changes.pairs c.args.changes.now) c.in_ok-entries.entries.items journal c.in_ok-entries.ensures.entries
         ((c.in-Ok.ensures.commits ended).closed.found ∙ ap (λ (l : List Entry). let o : Option (List Entry) = Some l in o) (c.as_slice.ensures ∙ c.new-record.ensures));
     memory = λ e. absurd (ok_apart e);
     set = rw (← c.self.view_is) (keeps_whole _ _ refl c.if-self.false c.if-self.false (Ok (tt {0})) (λ e. cc e) (λ e. cc e));
@@ -94,7 +96,7 @@ returns g c = record {
     commits =
         rw (← c.self.view_is) (λ ended.
         let edits = (rw (← c.self.view_is) at c.requires.edits) c.if-self.false (c.commit_entries.ensures.accounts.was_honest ended) in
-        commits_record g.D.Disk (g.C.Changes.pairs c.args.changes.now) c.in_ok-entries_of.field-0.items _ c.self.inside.disk c.commit_entries.new.disk c.commit_entries.result (Err Device) (some g (goal.at.returns g c).Else-len-eq0) c.in_ok-entries_of.ensures.entries
+        commits_record g.D.Disk (g.C.Changes.pairs c.args.changes.now) c.in_ok-entries.entries.items _ c.self.inside.disk c.commit_entries.new.disk c.commit_entries.result (Err Device) (some g (goal.at.returns g c).Else-len-eq0) c.in_ok-entries.ensures.entries
         (c.as_slice.ensures ∙ c.new-record.ensures) edits (c.commit_entries.ensures.commits ended) (λ made. tt));
     record_stands = λ honest. tt;
     memory = λ e. absurd (device_apart e);
@@ -107,8 +109,8 @@ returns g c = record {
 pub encode-requires : goal.encode-requires
 encode-requires g c =
     let named = rw (← c.self.view_is) at c.requires.named in
-    subst (λ (l : List Entry). IsWellFormed Two l) (sym c.new-record.ensures)
-    (changes_formed c.self.inside.names.items (g.C.Changes.pairs c.args.changes.now) c.in_ok-entries_of.field-0.items c.in_ok-entries_of.ensures.entries c.in_ok-entries_of.ensures.distinct
+    subst (λ (l : List Entry). IsWellFormed Three l) (sym c.new-record.ensures)
+    (changes_formed c.self.inside.names.items (g.C.Changes.pairs c.args.changes.now) c.in_ok-entries.entries.items c.in_ok-entries.ensures.entries c.in_ok-entries.ensures.distinct
     (some g (goal.at.encode-requires g c).Else-len-eq0) c.self.invariant.each c.self.invariant.few named c.requires.small)
 
 pub commit_entries-requires-clause-applicable : goal.commit_entries-requires-clause-applicable
@@ -117,10 +119,10 @@ commit_entries-requires-clause-applicable g c honest =
     let edits = (rw (← c.self.view_is) at c.requires.edits) c.if-self.false in
     let changes = g.C.Changes.pairs c.args.changes.now in
     let files = g.D.Disk.files c.self.inside.disk in
-    let entries = c.in_ok-entries_of.field-0.items in
-    let are = c.in_ok-entries_of.ensures.entries in
+    let entries = c.in_ok-entries.entries.items in
+    let are = c.in_ok-entries.ensures.entries in
     subst (λ (l : List Entry). AreApplicableTo l files) (sym (c.as_slice.ensures ∙ c.new-record.ensures)) (record {
-      applicable = changes_applicable changes entries are c.in_ok-entries_of.ensures.distinct (committable c.self.inside.names.items changes c.self.invariant.each named c.requires.small);
+      applicable = changes_applicable changes entries are c.in_ok-entries.ensures.distinct (committable c.self.inside.names.items changes c.self.invariant.each named c.requires.small);
       fits = changes_fit changes entries (contents files) are (all_edits (contents files) changes (edits honest));
     })
 
@@ -128,9 +130,37 @@ pub commit_entries-requires-clause-body : goal.commit_entries-requires-clause-bo
 commit_entries-requires-clause-body g c =
     let named = rw (← c.self.view_is) at c.requires.named in
     let changes = g.C.Changes.pairs c.args.changes.now in
-    let entries = c.in_ok-entries_of.field-0.items in
+    let entries = c.in_ok-entries.entries.items in
     let record_is = c.as_slice.ensures ∙ c.new-record.ensures in
-    let formed = changes_formed c.self.inside.names.items changes entries c.in_ok-entries_of.ensures.entries c.in_ok-entries_of.ensures.distinct
+    let formed = changes_formed c.self.inside.names.items changes entries c.in_ok-entries.ensures.entries c.in_ok-entries.ensures.distinct
     (some g (goal.at.commit_entries-requires-clause-body g c).Else-len-eq0) c.self.invariant.each c.self.invariant.few named c.requires.small in
-    subst (λ (l : List Entry). BeginsWith c.deref.result.now l) (sym record_is)
-    (written_begins c.deref.result.now entries formed (c.deref.ensures.value ∙ c.in_ok-body.ensures.bytes ∙ ap (λ (l : List Entry). journal_bytes Two l) c.new-record.ensures))
+    subst (λ (l : List Entry). BeginsWith c.deref-3.result.now l) (sym record_is)
+    (written_begins c.deref-3.result.now entries formed (c.deref-3.ensures.value ∙ c.in_ok-body.ensures.bytes ∙ ap (λ (l : List Entry). journal_bytes Three l) c.new-record.ensures))
+
+-- after a commit the lengths are those of the new texts
+pub invariant_of-self : goal.invariant_of-self
+invariant_of-self g c =
+    let set = c.self.inside in
+    let changes = g.C.Changes.pairs c.args.changes.now in
+    let old = g.D.Disk.files set.disk in
+    let new = g.D.Disk.files c.commit_entries.new.disk in
+    let made = c.in_ok-entries.entries.items in
+    let are = c.in_ok-entries.ensures.entries in
+    let entries = c.as_slice.result.now in
+    let named = rw (← c.self.view_is) at c.requires.named in
+    let edits = (rw (← c.self.view_is) at c.requires.edits) c.if-self.false in
+    record {
+      journal_is = c.self.invariant.journal_is;
+      each = c.self.invariant.each;
+      few = c.self.invariant.few;
+      gate = λ whole ended. (c.in-Ok.ensures.commits ended).closed.gate;
+      lengths_are = λ whole ended.
+          let honest = c.commit_entries.ensures.accounts.was_honest ended in
+          let can : AreApplicableTo entries old = subst (λ (l : List Entry). AreApplicableTo l old) (sym (c.as_slice.ensures ∙ c.new-record.ensures)) (record {
+            applicable = changes_applicable changes made are c.in_ok-entries.ensures.distinct (committable set.names.items changes c.self.invariant.each named c.requires.small);
+            fits = changes_fit changes made (contents old) are (all_edits (contents old) changes (edits honest));
+          }) in
+          commit_noted set.names.items c.deref-in-Ok.result.now set.lengths.items c.deref_mut.result.now c.note_lengths.new.lengths set.lengths.len c.deref-in-Ok.ensures.value c.deref_mut.ensures.value
+          set.lengths.ok.0 entries old new (c.note_lengths.ensures ∙ ap (with_lengths c.deref-in-Ok.result.now c.deref_mut.result.now) (c.as_slice-in-Ok.ensures ∙ sym c.as_slice.ensures))
+          c.self.invariant.each can (c.self.invariant.lengths_are whole honest) (c.in-Ok.ensures.commits ended).commits.done.made;
+    }
