@@ -17,7 +17,7 @@ use Rattle.org_capture.proofs.Filling.{with_prefix-append}
 abbrev is_other : ℕ → Bool
 is_other b = not (eqb b 10)
 
--- how many bytes stand behind the last newline
+-- how many bytes stand after the last newline
 abbrev pub tail : List ℕ → ℕ
 tail text = suffix_len (λ b. not (eqb b 10)) text
 

@@ -38,7 +38,7 @@ pub head_made : (states : Keywords) (title : List ℕ) (place : Place) (node : N
     → below_head states title place node d r ≡ Ok (below_made place node title d)
 head_made states title place node d r none can = rw (none, can) refl
 
--- bytes put behind a text
+-- bytes put after a text
 pub at_the_end : (text new added : List ℕ) → new ≡ text ++ added → Inserts text new (length text) added
 at_the_end text new added is = grind (arith, common_steps)
 

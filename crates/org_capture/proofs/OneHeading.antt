@@ -33,7 +33,7 @@ entry_node t node entry = (root_prints (tree t).preamble (tree t).forest (length
 
 -- ---- line by line
 
--- the first line of a text, and the text behind its newline
+-- the first line of a text, and the text after its newline
 pub first_line : (t line rest behind : List ℕ) (r : Option ℕ) (e : ℕ) → IsFirstByte (is_byte 10) t r → r ≡ Some e → line ≡ take e t → rest ≡ drop e t → behind ≡ drop 1 rest
     → lines_of t ≡ line ∷ lines_of behind
 first_line t line rest behind r e found is is_line is_rest is_behind = grind (arith, common_steps, cut_found, drop-drop, lines_of-append)

@@ -113,7 +113,7 @@ walk_over d up test end index next w le fits fail =
           ∙ ap (λ c. first_from test c index) all ∙ w.rest;
     }
 
--- a node that fails the test, and others behind it
+-- a node that fails the test, and others after it
 pub walk_on : (d : Document) (up : Option ℕ) (test : ℕ → Bool) (end index next : ℕ) → Walk d up test end index → index < next → next ≤ end → test index ≡ false
     → ((i : ℕ) → index + 1 ≤ i → i < next → test i ≡ false) → Walk d up test end next
 walk_on d up test end index next w lt fits here fail =

@@ -16,7 +16,7 @@ AnswersBytes said (Ok bytes) = said ≡ Ok bytes.items
 AnswersBytes said (Err OutOfMemory) = Unit {0}
 AnswersBytes said (Err (Refused why)) = said ≡ Err why
 
--- bytes are put behind these, or the template is bad, unless memory ran out
+-- bytes are put after these, or the template is bad, unless memory ran out
 abbrev pub Adds : {A : Type 0} → Option (List ℕ) → List ℕ → List ℕ → Result A (Fault Refusal)
     → Type 0
 Adds said old new (Ok done) = (more : List ℕ) × (said ≡ Some more) × (new ≡ old ++ more)

@@ -18,7 +18,7 @@ use Rattle.org_capture.specs.declared.target.Target.TheVariants.{Top, Head, Path
 use Rattle.org_capture.specs.declared.dates.DateKind.TheVariants.{Year, Month, Day}
 use Rattle.org_capture.specs.Dates.{dated}
 
--- what stands behind the star of a heading that is made with a title
+-- what stands after the star of a heading that is made with a title
 abbrev pub rest_of : List ℕ → List ℕ
 rest_of title = 32 ∷ title
 

@@ -34,7 +34,7 @@ is_key_from i [] = true
 is_key_from i (b ∷ bs) =
     (if i == 4 || i == 7 then b == 45 else is_ascii_digit b) && is_key_from (i + 1) bs
 
--- behind a month's or a day's key a space and any text may stand
+-- after a month's or a day's key a space and any text may stand
 abbrev pub may_follow : DateKind → List ℕ → Bool
 may_follow kind [] = true
 may_follow Year (b ∷ bs) = false
@@ -75,7 +75,7 @@ weekday_name w =
     else if w == 5 then codes "Saturday"
     else codes "Sunday"
 
--- what a day's headings have behind their keys
+-- what a day's headings have after their keys
 abbrev pub behind_key : DateKind → CivilDay → List ℕ
 behind_key Year day = []
 behind_key Month day = 32 ∷ month_name day.month
@@ -106,7 +106,7 @@ first_dated states d up kind key wanted =
     find (λ i. is_dated states (level_below up d) kind key wanted (node_at d i).node)
     (children_of d up)
 
--- the number of the first node below a node, or at top level, and of the first behind those
+-- the number of the first node below a node, or at top level, and of the first after those
 abbrev pub span_below : Document → Option ℕ → ℕ × ℕ
 span_below d None = (0, node_count d)
 span_below d (Some i) = (i + 1, i + size_of d i)

@@ -14,7 +14,7 @@ abbrev pub sizes_of : List ℕ → Sizes
 sizes_of text =
     record { whole = counted (length text); line = counted (suffix_len (λ b. not (b == 10)) text) }
 
--- the sizes of a text with more behind it, or the template is bad, unless memory ran out
+-- the sizes of a text with more after it, or the template is bad, unless memory ran out
 abbrev pub Grows : Option (List ℕ) → List ℕ → Result Sizes (Fault Refusal) → Type 0
 Grows said text (Ok sizes) =
     (more : List ℕ) × (said ≡ Some more) × (sizes ≡ sizes_of (text ++ more))

@@ -19,7 +19,7 @@ use Rattle.org_capture.specs.declared.target.Target.TheVariants.{Top, Head, Path
 use Rattle.org_capture.specs.Capture.{rest_of, date_base}
 use Rattle.org_capture.specs.Dates.{date_title, key_on, first_dated, put_dated, found_or_made}
 
--- ---- headings that are missing, each by what stands behind its stars
+-- ---- headings that are missing, each by what stands after its stars
 
 abbrev pub date_rest : CivilDay → DateKind → List ℕ
 date_rest day kind = 32 ∷ date_title kind day

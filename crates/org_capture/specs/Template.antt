@@ -13,7 +13,7 @@ use Rattle.org_fault.specs.declared.refusal.Refusal.TheVariants.{BadTemplate}
 abbrev pub is_escape_mark : ℕ → Bool
 is_escape_mark c = c == 40 || c == 91 || c == 60 || c == 94 || c == 58 || c == 42 || c == 92
 
--- what a percent sign with this byte behind it is, unless the sign stands for itself
+-- what a percent sign with this byte after it is, unless the sign stands for itself
 abbrev pub escape_of : ℕ → Option Piece
 escape_of c =
     if c == 116 then Some (Stamp true false)
@@ -38,17 +38,17 @@ pieces_of (b ∷ c ∷ more) =
       | Some piece ↦ piece ∷ pieces_of more
     ]
 
--- the bytes behind the last newline
+-- the bytes after the last newline
 abbrev pub last_line : List ℕ → List ℕ
 last_line text = end_of (λ b. not (b == 10)) text
 
--- a text with these bytes repeated behind each newline
+-- a text with these bytes repeated after each newline
 abbrev pub with_prefix : List ℕ → List ℕ → List ℕ
 with_prefix prefix [] = []
 with_prefix prefix (b ∷ bs) =
     b ∷ (if b == 10 then prefix ++ with_prefix prefix bs else with_prefix prefix bs)
 
--- what a piece stands for at a moment, behind a line that has begun with these bytes; None where
+-- what a piece stands for at a moment, after a line that has begun with these bytes; None where
 -- the piece isn't served
 abbrev pub text_of : Moment → List ℕ → List ℕ → Piece → Option (List ℕ)
 text_of moment initial line (Byte b) = Some (b ∷ [])
@@ -63,7 +63,7 @@ abbrev pub with_text : Option (List ℕ) → (List ℕ → Result (List ℕ) Ref
 with_text None go_on = Err BadTemplate
 with_text (Some text) go_on = go_on text
 
--- the pieces filled in, one after the other, behind a text
+-- the pieces filled in one by one, after a text
 abbrev pub filled : Moment → List ℕ → List ℕ → List Piece → Result (List ℕ) Refusal
 filled moment initial text [] = Ok text
 filled moment initial text (piece ∷ pieces) =

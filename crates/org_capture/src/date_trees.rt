@@ -40,7 +40,7 @@ fn dated_place(outline: &Outline<'_>, parent: &Option<Node>, kind: DateKind, key
     outline.place(*parent, Place::Last)
 }
 
-/// Puts the lines of a moment's date headings of these kinds behind a text, from a level on.
+/// Puts the lines of a moment's date headings of these kinds after a text, from a level on.
 fn push_dates(
     alloc: Global,
     text: &mut Vec<u8>,

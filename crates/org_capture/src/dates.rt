@@ -35,7 +35,7 @@ impl DateKind {
     }
 }
 
-/// Whether these bytes are digits, but for the hyphens behind a year and behind a month.
+/// Whether these bytes are digits, but for the hyphens after a year and after a month.
 fn is_key(bytes: &[u8]) -> bool
     ensures { result ≡ is_key_from 0 bytes.now }
 {
@@ -52,7 +52,7 @@ fn is_key(bytes: &[u8]) -> bool
     true
 }
 
-/// Whether these bytes may stand behind a key of this kind.
+/// Whether these bytes may stand after a key of this kind.
 fn may_follow(kind: DateKind, rest: &[u8]) -> bool
     ensures { result ≡ may_follow kind rest.now }
 {
@@ -166,7 +166,7 @@ fn is_dated(
     }
 }
 
-/// The numbers of the first heading below a heading, or at top level, and of the first behind
+/// The numbers of the first heading below a heading, or at top level, and of the first after
 /// those.
 fn span_below(outline: &Outline<'_>, parent: &Option<Node>) -> (usize, usize)
     requires { ForSome parent.now (λ node. node < node_count (tree outline.now.text)) }

@@ -14,7 +14,7 @@ use org_fault::{Fault, Refusal};
 use org_headings::{heading_level, is_terminated};
 use std::alloc::AllocError;
 
-/// The first line of a terminated text, without its newline, and the text behind it; none where the
+/// The first line of a terminated text, without its newline, and the text after it; none where the
 /// text is empty.
 fn first_line(text: &[u8]) -> Option<(&[u8], &[u8])>
     requires { terminated text.now ≡ text.now }
@@ -38,7 +38,7 @@ fn lies_deeper(line: &[u8], level: usize) -> bool
 }
 
 /// Whether each heading line of a terminated text has more stars than this, so that no tree is left
-/// behind the deeper ones.
+/// after the deeper ones.
 fn are_deeper(text: &[u8], level: usize) -> bool
     requires { terminated text.now ≡ text.now }
     ensures { IsTrue result ↔ (others level (tree text.now).forest ≡ Empty) }
@@ -80,7 +80,7 @@ fn is_one_heading(text: &[u8]) -> bool
     }
 }
 
-/// Puts a newline behind the text where it ends without one.
+/// Puts a newline after the text where it ends without one.
 fn terminate(text: &mut Vec<u8>) -> Result<(), AllocError>
     ensures { OnOk result (text.new.items ≡ terminated text.old.items) }
 {

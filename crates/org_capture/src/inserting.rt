@@ -73,7 +73,7 @@ pub(crate) fn insertion(
     })
 }
 
-/// Puts the line of a heading with a title behind a text.
+/// Puts the line of a heading with a title after a text.
 pub(crate) fn push_heading(text: &mut Vec<u8>, level: usize, title: &[u8]) -> Result<(), AllocError>
     ensures { OnOk result (text.new.items
         ≡ text.old.items ++ (heading_line level (rest_of title.now) ++ 10 ∷ [])) }

@@ -32,7 +32,7 @@ pub fn fillings_stay()
     // An initial text alone is what it is, whatever bytes it has.
     ensures alone { (moment : Moment) (initial : List ℕ)
         → expanded (37 ∷ 105 ∷ []) moment initial ≡ Ok initial }
-    // Bytes without a percent sign stay, and the template goes on behind them.
+    // Bytes without a percent sign stay, and the template goes on after them.
     ensures behind { (plain template : List ℕ) (moment : Moment) (initial : List ℕ)
         → IsTrue (list_all (λ b. not (b == 37)) plain)
         → expanded (plain ++ template) moment initial

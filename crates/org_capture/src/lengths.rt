@@ -13,7 +13,7 @@ use org_fault::{Fault, Refusal};
 use org_stamp::{Moment, Stamp};
 use std::alloc::Global;
 
-/// How many bytes a text has, and how many of them stand behind its last newline; 2^64 - 1 where
+/// How many bytes a text has, and how many of them stand after its last newline; 2^64 - 1 where
 /// there are more.
 #[derive(Clone, Copy)]
 pub(crate) struct Sizes {
@@ -21,7 +21,7 @@ pub(crate) struct Sizes {
     line: usize,
 }
 
-/// The sizes of a text with these bytes behind it.
+/// The sizes of a text with these bytes after it.
 fn with_bytes(sizes: Sizes, bytes: &[u8]) -> Sizes
     ensures { (text : List ℕ) → sizes ≡ sizes_of text → result ≡ sizes_of (text ++ bytes.now) }
 {
@@ -41,7 +41,7 @@ fn newlines(text: &[u8]) -> usize
     memchr_iter(b'\n', text).count()
 }
 
-/// The sizes of a text with the initial text behind it, each line but the first behind what stands
+/// The sizes of a text with the initial text after it, each line but the first after what stands
 /// on the text's last one.
 fn with_initial(sizes: Sizes, initial_text: &[u8]) -> Sizes
     ensures { (text : List ℕ) → sizes ≡ sizes_of text
@@ -56,7 +56,7 @@ fn with_initial(sizes: Sizes, initial_text: &[u8]) -> Sizes
     }
 }
 
-/// The sizes of a text with what a piece stands for behind it.
+/// The sizes of a text with what a piece stands for after it.
 fn with_piece(
     alloc: Global,
     sizes: Sizes,

@@ -17,7 +17,7 @@ pub(crate) enum Piece {
     Unknown,
 }
 
-/// What a percent sign with this byte behind it is, unless the sign stands for itself.
+/// What a percent sign with this byte after it is, unless the sign stands for itself.
 fn escape_of(byte: u8) -> Option<Piece>
     ensures { result ≡ escape_of byte }
 {
@@ -35,7 +35,7 @@ fn escape_of(byte: u8) -> Option<Piece>
     Some(Piece::Stamp { active, timed })
 }
 
-/// The first piece of a template, and what stands behind it.
+/// The first piece of a template, and what stands after it.
 pub(crate) fn first_piece(template: &[u8]) -> Option<(Piece, &[u8])>
     ensures value { MatchOption result (template.now ≡ [])
         (λ found. pieces_of template.now ≡ found.0 ∷ pieces_of found.1.now) }

@@ -13,7 +13,7 @@ use org_fault::{Fault, Refusal};
 use org_stamp::{Moment, Stamp};
 use std::alloc::{AllocError, Global};
 
-/// How many bytes stand behind the last newline.
+/// How many bytes stand after the last newline.
 pub(crate) fn last_line_len(text: &[u8]) -> usize
     ensures count { result ≡ suffix_len (λ b. not (b == 10)) text.now }
     ensures within { result ≤ length text.now }
@@ -24,7 +24,7 @@ pub(crate) fn last_line_len(text: &[u8]) -> usize
     }
 }
 
-/// What stands behind the last newline.
+/// What stands after the last newline.
 fn last_line(text: &[u8]) -> &[u8]
     ensures { result.now ≡ last_line text.now }
 {
@@ -42,7 +42,7 @@ pub(crate) fn split_plain(template: &[u8]) -> (&[u8], &[u8])
     template.split_at(end)
 }
 
-/// Puts bytes behind a text, with a prefix repeated behind each newline of theirs.
+/// Puts bytes after a text, with a prefix repeated after each newline of theirs.
 fn push_with_prefix(text: &mut Vec<u8>, prefix: &[u8], bytes: &[u8]) -> Result<(), AllocError>
     ensures { OnOk result (text.new.items ≡ text.old.items ++ with_prefix prefix.now bytes.now) }
 {
@@ -55,7 +55,7 @@ fn push_with_prefix(text: &mut Vec<u8>, prefix: &[u8], bytes: &[u8]) -> Result<(
     Ok(())
 }
 
-/// Puts what a piece stands for behind the text.
+/// Puts what a piece stands for after the text.
 fn push_piece(
     alloc: Global,
     text: &mut Vec<u8>,

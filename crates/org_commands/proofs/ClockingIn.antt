@@ -1,4 +1,4 @@
--- Clocking in, behind the calls that look the heading up and look for the clock that runs.
+-- Clocking in, after the calls that look the heading up and look for the clock that runs.
 use Rattle.std.proofs.Common.{◌≡◌, ◌≢◌, ◌∙◌, false, true, ℕ, List, [], Option, None, Some, Result, Ok, Err, refl, sym, ap, subst}
 use Rattle.std.specs.Option.{option_map, unwrap_or}
 use Rattle.org_disk.specs.declared.disk.Disk.{Ghosts}

@@ -96,7 +96,7 @@ held_outside names live files any set are name out = go (text_of set name) refl
     go None is = refl
     go (Some text) is = absurd (false≢true (sym out ∙ are.named name (ap is_some is)))
 
--- ---- behind it
+-- ---- after it
 
 mapped_some : {X Y : Type 0} (f : X → Y) (o : Option X) → is_some (option_map f o) ≡ is_some o
 mapped_some f None = refl

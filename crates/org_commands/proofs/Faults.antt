@@ -40,18 +40,18 @@ planned_own (fault.Refused why) = (λ no. cc, λ no. cc)
 pub refused_own : (why : Refusal) → IsOwn (Refused why)
 refused_own why = (λ no. cc, λ no. cc)
 
--- behind an answer that is Ok nothing is broken
+-- after an answer that is Ok nothing is broken
 pub whole_behind : {A E : Type 0} (answer : Result A E) (x : A) (device : E) (broken : Bool) → answer ≡ Ok x → IsErrOf answer device ↔ IsTrue broken → broken ≡ false
 whole_behind answer x device true is breaks = absurd (fine_is_no_fault answer x device is (breaks.1 refl))
 whole_behind answer x device false is breaks = refl
 
 module _ {D : Type 0} {g : Ghosts D} {old mid new : D} where
-  -- the accounts of a call behind one whose answer is Ok
+  -- the accounts of a call after one whose answer is Ok
   pub accounts_behind : {A Failed : Type 0} (answer : Result A RunFault) (x : A) → answer ≡ Ok x → CountsFailures g old mid (IsErrOf answer Device) → CountsFailures g mid new Failed
       → CountsFailures g old new Failed
   accounts_behind answer x is first second = accounts_then (accounts_fine (λ fell. fine_is_no_fault answer x Device is fell) first) second
 
-  -- the accounts of a call, where another answer fails just where its own does, and the disk stays behind it
+  -- the accounts of a call, where another answer fails just where its own does, and the disk stays after it
   pub accounts_as : {Failed Fails : Type 0} → new ≡ mid → (Fails → Failed) → (Failed → Fails) → CountsFailures g old mid Failed → CountsFailures g old new Fails
   accounts_as {Fails = Fails} same back on call = grind (arith, common_steps)
 

@@ -272,7 +272,7 @@ pub sound_put : (plan : Plan) (names : List (List ℕ)) (live : Type 0) (files :
     → IsSound names live files held → IsSound names live files next
 sound_put plan names live files held next is now before sound = grind (arith, common_steps, texts_second, texts_edited)
 
--- the files of a plan are held behind it
+-- the files of a plan are held after it
 still_held : (change : FileEdits) (set : TextSet) (name : List ℕ) → IsSome (text_of set name) → IsSome (text_of (with_edits change set) name)
 still_held change set name some = some_change change.file (spliced_each change.edits.items) set.texts name ∙ some
 

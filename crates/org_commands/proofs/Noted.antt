@@ -126,7 +126,7 @@ noted_more names ns old new held file searched same more now before noted =
 pub stays_lowered : (names : List (List ℕ)) (file : List ℕ) (size : ℕ) (edits : List Edit) (old new : List (Option Searches)) → Lowers names file size edits old new → StayKnown names old new
 stays_lowered names file size edits old new lowers set are i searched at name is = grind (arith, common_steps)
 
--- the bytes behind edits
+-- the bytes after edits
 pub spliced_bytes : (edits : List Edit) (text : EditedText) → (spliced_each edits text).bytes ≡ applied_each edits text.bytes
 spliced_bytes [] text = refl
 spliced_bytes (e ∷ es) text = spliced_bytes es _

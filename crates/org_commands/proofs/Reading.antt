@@ -79,12 +79,12 @@ module _ {D : Type 0} {g : Ghosts D} {A B : Type 0} where
   only_reads_fault {fault = fault} is call =
       only_reads_as (λ broken. same_fault fault Broken (sym is ∙ broken)) (λ fell. same_fault fault Device (sym is ∙ fell)) (λ fell. is ∙ same_fault fault Device fell) call
 
-  -- an answer of its own, behind a call that didn't fail
+  -- an answer of its own, after a call that didn't fail
   pub only_reads_fine : {old new : OpenFiles D} {x : A} {answer : Result B RunFault} → (IsErrOf answer Broken → ⊥) → (IsErrOf answer Device → ⊥)
       → OnlyReads g old new (Ok x) → OnlyReads g old new answer
   only_reads_fine works stays call = only_reads_as (λ broken. absurd (works broken)) (λ fell. absurd (stays fell)) (λ fell. absurd (cc)) call
 
-  -- an answer that is Ok, or a fault of its own, behind a call that didn't fail
+  -- an answer that is Ok, or a fault of its own, after a call that didn't fail
   pub only_reads_ok : {old new : OpenFiles D} {x : A} {y : B} → OnlyReads g old new (Ok x) → OnlyReads g old new (Ok y)
   only_reads_ok {y = y} call = only_reads_fine (fine_is_no_fault (Ok y) y Broken refl) (fine_is_no_fault (Ok y) y Device refl) call
 
@@ -117,7 +117,7 @@ module _ {D : Type 0} {g : Ghosts D} {A : Type 0} where
       disk = only_reads_fault is call.disk;
     }
 
-    -- an answer that is Ok, or that there is no memory, behind a call that didn't fail
+    -- an answer that is Ok, or that there is no memory, after a call that didn't fail
     pub reads_files_ok : {x : A} {y : B} → ReadsFiles g old new (Ok x) → ReadsFiles g old new (Ok y)
     reads_files_ok call = record { keeps = call.keeps; reads = call.reads; disk = only_reads_ok call.disk }
 

@@ -43,26 +43,26 @@ pub record IsNoted (names : List (List ℕ)) (notes : List (Option Searches)) (h
 abbrev pub StaysKnown : Searches → Searches → Type 0
 StaysKnown was searches = (text : List ℕ) → AreSearched was text → AreSearched searches text
 
--- .. and of texts of this size, or larger ones, behind an edit
+-- .. and of texts of this size, or larger ones, after an edit
 abbrev pub FollowsEdit : ℕ → Edit → Searches → Searches → Type 0
 FollowsEdit size edit was searches =
     (text : List ℕ) → size ≤ length text → edit.at + edit.removed ≤ length text
     → AreSearched was text → AreSearched searches (applied edit text)
 
--- .. or behind these edits
+-- .. or after these edits
 abbrev pub FollowsEdits : ℕ → List Edit → Searches → Searches → Type 0
 FollowsEdits size edits was searches =
     (text : List ℕ) → size ≤ length text → CanApply edits text → AreSearched was text
     → AreSearched searches (applied_each edits text)
 
--- a note behind edits of a text of this size, or of a larger one
+-- a note after edits of a text of this size, or of a larger one
 abbrev pub LowersNote : ℕ → List Edit → Option Searches → Option Searches → Type 0
 LowersNote size edits old new =
     (searches : Searches) → new ≡ Some searches
     → (was : Searches) × (old ≡ Some was) × StaysKnown was searches
     × FollowsEdits size edits was searches
 
--- the notes behind edits of one file, whose text has this size, or a larger one
+-- the notes after edits of one file, whose text has this size, or a larger one
 abbrev pub Lowers : List (List ℕ) → List ℕ → ℕ → List Edit → List (Option Searches)
     → List (Option Searches) → Type 0
 Lowers names file size edits old new =

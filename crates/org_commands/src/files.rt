@@ -207,7 +207,7 @@ impl<D: Disk> Files<D> {
 
     /// Makes one of the files ready for a command: it is read where it isn't held, a last line
     /// without a newline gets one, and its headings are read where they aren't held. The faults are
-    /// those of `load`; the command's edits are to be taken back behind them.
+    /// those of `load`; the command's edits are to be taken back after them.
     pub(crate) fn ready(&mut self, name: &FileName) -> Result<(), RunFault>
         requires name { is_name self.old.names name.now ≡ true }
         requires unbroken { self.old.broken ≡ false }
@@ -227,7 +227,7 @@ impl<D: Disk> Files<D> {
         self.notes.is_clockless(index)
     }
 
-    /// What is known of the text of this file behind searches.
+    /// What is known of the text of this file after searches.
     pub(crate) fn searched(&self, file: &FileName) -> Searches
         ensures { ForSome (text_of self.now.held.now file.now)
             (λ text. AreSearched result (terminated text.bytes)) }

@@ -1,4 +1,4 @@
-//! What is noted of the texts of a store's files: what is known of each behind searches.
+//! What is noted of the texts of a store's files: what is known of each after searches.
 //!
 //! A note is kept by the number of its file, in byte order of the names. The names are passed to
 //! each call, since the file set has them. All notes are right of their texts (`AreKnown`,
@@ -58,7 +58,7 @@ impl Notes {
         }
     }
 
-    /// What is known of the text of this file behind searches.
+    /// What is known of the text of this file after searches.
     pub(crate) fn searched(&self, names: &[FileName], file: &FileName) -> Searches
         ensures { (set : TextSet) → AreKnown names.now self.now set
             → ForSome (text_of set file.now) (λ text. AreSearched result (terminated text.bytes)) }
@@ -127,7 +127,7 @@ impl Notes {
     }
 
     // Lowers what is noted of one file, whose text has this size, or a larger one, to what is known
-    // behind edits.
+    // after edits.
     fn lower(&mut self, names: &[FileName], file: &FileName, size: usize, edits: &Edits)
         ensures { Lowers names.now file.now size edits.now.items self.old self.new }
     {
@@ -185,7 +185,7 @@ fn size_of(texts: &Texts, name: &FileName) -> usize
     }
 }
 
-/// A note behind edits of a text of this size, or of a larger one.
+/// A note after edits of a text of this size, or of a larger one.
 fn lowered_note(note: Option<Searches>, size: usize, edits: &Edits) -> Option<Searches>
     ensures { LowersNote size edits.now.items note result }
 {

@@ -1,4 +1,4 @@
-//! What is known of a file's text behind searches.
+//! What is known of a file's text after searches.
 //!
 //! The clock that runs, and the line that names a place for archived subtrees, are each searched
 //! for where they aren't known to be missing.
@@ -27,7 +27,7 @@ impl Searches {
         }
     }
 
-    /// What is known behind an edit of a text of this size, or of a larger one. It is so of the
+    /// What is known after an edit of a text of this size, or of a larger one. It is so of the
     /// text before the edit, too.
     pub(crate) fn behind(self, size: usize, edit: &Edit) -> Searches
         ensures edited { FollowsEdit size edit.now self result }
@@ -39,7 +39,7 @@ impl Searches {
         }
     }
 
-    /// The same behind edits, each of the text that those before it leave.
+    /// The same after edits, each of the text that those before it leave.
     pub(crate) fn behind_each(self, size: usize, edits: &Edits) -> Searches
         ensures edited { FollowsEdits size edits.now.items self result }
         ensures unedited { StaysKnown self result }
@@ -55,7 +55,7 @@ impl Searches {
     }
 }
 
-/// The size of a text behind an edit, or a smaller one.
+/// The size of a text after an edit, or a smaller one.
 fn size_behind(size: usize, edit: &Edit) -> usize
     ensures { (text : List ℕ) → size ≤ length text
         → edit.now.at + edit.now.removed ≤ length text

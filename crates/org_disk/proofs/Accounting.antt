@@ -42,7 +42,7 @@ pub looks_then : {D : Type 0} {files : D → List ℕ → FileState} {instant : 
     → LooksInCall files instant left_since old mid → LooksInCall files instant left_since mid new → LooksInCall files instant left_since old new
 looks_then first second = grind (arith, common_steps)
 
--- the same where each is known while the disk is honest behind it
+-- the same where each is known while the disk is honest after it
 pub looks_behind : {D : Type 0} {files : D → List ℕ → FileState} {instant : D → ℕ} {left_since : D → ℕ → (List ℕ → List ℕ) → Type 0} {old mid new : D} {before after : Type 0}
     → (before → LooksInCall files instant left_since old mid) → (after → before) → (after → LooksInCall files instant left_since mid new) → after → LooksInCall files instant left_since old new
 looks_behind first back second ended = looks_then (first (back ended)) (second ended)

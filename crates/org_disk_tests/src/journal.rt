@@ -38,7 +38,7 @@ fn put(bytes: &mut [u8], at: usize, others: &[u8]) {
     }
 }
 
-// What stands behind the gate of a journal: how many of a worked one's bytes, places of both with
+// What stands after the gate of a journal: how many of a worked one's bytes, places of both with
 // others, and what is added.
 type Body = (
     &'static [u8],
@@ -57,7 +57,7 @@ fn behind_gate(journal: &[u8]) -> &[u8] {
     }
 }
 
-// The bytes behind the gate.
+// The bytes after the gate.
 fn body_of(rt: &impl Abort, alloc: Global, body: &Body) -> Vec<u8> {
     let (journal, count, changes, added) = body;
     let worked = behind_gate(journal);

@@ -1,4 +1,4 @@
--- Files that are tried behind an opened gate, which is closed where a try fails.
+-- Files that are tried after an opened gate, which is closed where a try fails.
 use Rattle.std.proofs.Common.{◌≡◌, ◌≢◌, ◌≤◌, ℕ, List, ◌∷◌, length, drop, Result, Ok, Err, IsErr, sym, ◌∙◌, ap, subst, arith, true, false, inl, inr}
 use Rattle.std.proofs.lemmas.Grind.{common_steps}
 use Rattle.std.proofs.lemmas.Bool.{cases_Bool}
@@ -20,7 +20,7 @@ use Rattle.org_fileset.proofs.Commits.{WritesRecord, at_rest_recovers, stands_op
 use Rattle.org_fileset.proofs.Tried.{still_stable}
 use Rattle.org_fileset.proofs.Writes.{alone_then, alone_looks}
 
--- a call that failed, and one behind it that didn't
+-- a call that failed, and one after it that didn't
 pub accounts_told : {D : Type 0} {g : Ghosts D} {old mid new : D} → CountsFailures g old mid (true ≡ true) → CountsFailures g mid new (false ≡ true) → CountsFailures g old new (true ≡ true)
 accounts_told first second = grind (arith, common_steps)
 
@@ -73,7 +73,7 @@ module _ {D : Type 0} (g : Ghosts D) (entries : List Entry) (old : D) (is : IsOp
         others = λ name un. puts.others name un.apart ∙ tries.others name un;
       }
 
--- A commit whose files were tried again behind the opened gate.
+-- A commit whose files were tried again after the opened gate.
 
 module _ {D : Type 0} (g : Ghosts D) (entries : List Entry) (old mid : D) (done : Unit {0}) (written : WritesRecord g entries old mid (Ok done)) where
   -- they are as they were

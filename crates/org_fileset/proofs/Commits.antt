@@ -26,7 +26,7 @@ use Rattle.org_fileset.proofs.Recovers.{recovers_open, recovers_closed, takes-re
 pub shut : (journal : List ℕ) → slice_index journal 0 ≢ 1 → is_open journal ≡ false
 shut journal not = and_right (nat_le 16 (length journal)) (slice_index journal 0 == 1) (ne_eqb (slice_index journal 0) 1 not)
 
--- behind the first byte stands what was written there, and then whatever was there
+-- after the first byte stands what was written there, and then whatever was there
 drop-overwritten : (body text : List ℕ) → 1 ≤ length text → drop 1 (overwritten 1 body text) ≡ body ++ drop (1 + length body) text
 drop-overwritten body [] long = absurd (omega arith)
 drop-overwritten body (x ∷ text) long = refl
@@ -67,7 +67,7 @@ module _ (entries : List Entry) (files : List ℕ → FileState) (can : AreAppli
       each = λ name not text image. takes name text (only_image (rest.stable name) text (subst (λ f. IsImage f text) (others name not) image));
     }
 
-  -- the body stands behind the gate
+  -- the body stands after the gate
   module _ (gate : HasClosedGate (files journal_name)) (body : List ℕ) (begins : BeginsWith body entries) (mid : List ℕ → FileState) (over_record : (mid journal_name).content ≡ overwritten 1 body (contents files journal_name))
       (same : (other : List ℕ) → other ≢ journal_name → mid other ≡ files other) where
     behind : drop 1 (mid journal_name).content ≡ body ++ drop (1 + length body) (contents files journal_name)
@@ -112,7 +112,7 @@ stands_open entries files can last over same rest image left =
       | inr closed ↦ inl (recovers_closed (contents files) image closed other_is)
     ]
 
--- What calls do that write a record behind a closed gate and open the gate over it, where the disk is honest after them. The journal alone is written; where all was on the disk, a crash leaves
+-- What calls do that write a record after a closed gate and open the gate over it, where the disk is honest after them. The journal alone is written; where all was on the disk, a crash leaves
 -- what recovers to the files before, or to those that the record makes of them.
 pub record WritesRecord {D : Type 0} (g : Ghosts D) (entries : List Entry) (old new : D) (result : Result (Unit {0}) DiskFault) : Type 0 where
   pub opened : OnOk result (IsOpenOver entries (g.files new))
@@ -120,7 +120,7 @@ pub record WritesRecord {D : Type 0} (g : Ghosts D) (entries : List Entry) (old 
   pub others : (name : List ℕ) → name ≢ journal_name → g.files new name ≡ g.files old name
   pub alone : LeavesAlone g (IsUnwritten entries) old new
 
--- What a call did that wrote a record behind the closed gate, or failed there; and what one that opened the gate then.
+-- What a call did that wrote a record after the closed gate, or failed there; and what one that opened the gate then.
 module _ {D : Type 0} (g : Ghosts D) (old : D) (journal : List ℕ) (name_is : journal ≡ journal_name) (entries : List Entry)
     (can : AreApplicableTo entries (g.files old)) where
   arming : (new : D) → PassesOver g old new (LeavesClosed journal (g.files old)) → IsAtRest (g.files old)

@@ -64,7 +64,7 @@ module _ {patches : List (ℕ × List ℕ)} {final : ℕ} {name to : List ℕ} w
     others = λ other apart. ap (λ (f : List ℕ → FileState). f other) same ∙ sofar.others other apart;
   }
 
-  -- calls behind one that changes nothing
+  -- calls after one that changes nothing
   pub applies_behind : {m n k : ℕ} {s u v : ℕ → Image → Type 0} {old mid new : List ℕ → FileState} → EachPatchedTo patches final to (old name)
       → mid ≡ old → Passes m n s u (AreImages old) → (EachPatchedTo patches final to (mid name) → AppliesPatches patches final name to n k u v mid new)
       → AppliesPatches patches final name to m k s v old new

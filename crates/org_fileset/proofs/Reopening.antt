@@ -34,7 +34,7 @@ use Rattle.org_fileset.proofs.Recovering.{as_before, formed_applicable, sync_lef
 no_record : (image : Image) → is_open (image journal_name) ≡ true → journal_at (drop 1 (image journal_name)) ≡ None → recovered image ≡ None
 no_record image opened none = rw (opened, none) refl
 
--- What is found behind a sync that succeeded: it stands in a journal that is on the disk, and each content is as it was.
+-- What is found after a sync that succeeded: it stands in a journal that is on the disk, and each content is as it was.
 module _ (journal : List ℕ) (old mid new : List ℕ → FileState) (name_is : journal ≡ journal_name) (synced : Changes sync journal old mid (Ok tt)) (looked : new ≡ mid) where
   changes : Changes sync journal_name old mid (Ok tt)
   changes = subst (λ (n : List ℕ). Changes sync n old mid (Ok tt)) name_is synced
@@ -69,7 +69,7 @@ found_by (Err fault) image finds reported = tt
 pub open_as : {found : Found} {record_entries entries : List Entry} {end : ℕ} → found ≡ Open record_entries end → entries ≡ record_entries → found ≡ Open entries end
 open_as {end = end} is same = is ∙ ap (λ (l : List Entry). let x : Found = Open l end in x) (sym same)
 
--- a record that was found stands behind an open gate ..
+-- a record that was found stands after an open gate ..
 pub open_over : (files : List ℕ → FileState) (found : Found) (entries : List Entry) (end : ℕ) → IsStable (files journal_name) → found ≡ Open entries end → Finds (contents files) (Ok found)
     → IsOpenOver entries files × EndsAt (contents files journal_name) end
 open_over files found entries end stable is finds =
@@ -96,7 +96,7 @@ module _ {D : Type 0} (g : Ghosts D) where
             synced.others time (λ image left. left.others);
       }
 
-  -- a look behind it
+  -- a look after it
   pub looked_on : (old mid new : D) → IsLookedAt g old mid → LooksOver g mid new → IsLookedAt g old new
   looked_on old mid new look looks = record {
     images = λ image left. look.images image (subst (λ (f : List ℕ → FileState). AreImages f image) looks.same left);

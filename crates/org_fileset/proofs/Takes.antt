@@ -31,7 +31,7 @@ named_apart (first ∷ entries) zero entry name none is same = grind (arith, com
 named_apart (first ∷ entries) (suc i) entry name none is same =
     named_apart entries i entry name (or_false (bytes_eq first.name name) (is_named name entries) none).1 is same
 
--- an entry behind the first has another name
+-- an entry after the first has another name
 later_name : (first : Entry) (entries : List Entry) (i : ℕ) (entry : Entry) → names_differ (first ∷ entries) ≡ true → slice_get entries i ≡ Some entry → bytes_eq first.name entry.name ≡ false
 later_name first entries i entry differ is = grind (arith, common_steps, and_parts, named_apart, not-true, name_cases)
 

@@ -237,7 +237,7 @@ module _ {D : Type 0} (g : Ghosts D) (entries : List Entry) (old : D) (only_now 
           recoverable = λ rest. replays.recoverable (replayable rest);
           alone = alone_then g (IsUnwritten entries) old mid new written.alone replays.alone;
         };
-        -- the record stays behind the gate
+        -- the record stays after the gate
         closed = on_ok_weaker result (λ made. record {
           gate = made.gate;
           found = ap (λ (l : List ℕ). journal_at (drop 1 l)) made.journal ∙ written.opened.found;

@@ -47,7 +47,7 @@ abbrev pub SaySizes : (List ℕ → ℕ) → List Entry → Type 0
 SaySizes sizes entries = AllByRecursion
     (λ entry. IsSomeAnd entry.before (λ before. before.length ≡ sizes entry.name)) entries
 
--- Behind its gate a journal of these bytes has the record of the changed files, in their order; of
+-- After its gate a journal of these bytes has the record of the changed files, in their order; of
 -- none it needs none.
 abbrev pub HasRecordOf : List (List ℕ × EditedText) → List ℕ → Type 0
 HasRecordOf [] journal = Unit {0}

@@ -28,12 +28,12 @@ pub record RecoversAsBefore (files : List ℕ → FileState) (image : Image) : T
 abbrev pub is_closed : List ℕ → Bool
 is_closed journal = nat_le front_size (length journal) && not (is_open journal)
 
--- a journal with 0 behind its record
+-- a journal with 0 after its record
 abbrev pub marked : List ℕ → List ℕ
 marked journal = overwritten (front_size + record_size journal) (0 ∷ []) journal
 
 -- What an opening makes of the journal. A whole one with a closed gate stays as it is, whatever
--- byte closes it; of another the first byte is 0 then, the one behind the record of an open one is
+-- byte closes it; of another the first byte is 0 then, the one after the record of an open one is
 -- 0 too, and the rest is as it was.
 abbrev pub closed_journal : List ℕ → List ℕ
 closed_journal journal =

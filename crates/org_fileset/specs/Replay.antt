@@ -93,7 +93,7 @@ pub record IsOpenOver (entries : List Entry) (files : List ℕ → FileState) : 
   pub opened : IsTrue (is_open (files journal_name).content)
   pub found : journal_at (drop 1 (files journal_name).content) ≡ Some entries
 
--- the journal's gate is closed, and behind it stands this record
+-- the journal's gate is closed, and after it stands this record
 pub record IsClosedOver (entries : List Entry) (files : List ℕ → FileState) : Type 0 where
   pub gate : HasClosedGate (files journal_name)
   pub found : journal_at (drop 1 (files journal_name).content) ≡ Some entries
@@ -159,7 +159,7 @@ pub record CommitsOver {D A E : Type 0} (g : Ghosts D) (after : Image) (Alone : 
   pub alone : LeavesAlone g Alone old new
 
 -- What a commit of entries does, where the disk is honest after it: the files become what the
--- entries make of them, and the record stays behind the closed gate.
+-- entries make of them, and the record stays after the closed gate.
 pub record CommitsEntriesOver {D : Type 0} (g : Ghosts D) (entries : List Entry) (old new : D)
     (result : Result (Unit {0}) DiskFault) : Type 0 where
   pub commits : CommitsOver g (replayed entries (contents (g.files old))) (IsUnwritten entries)

@@ -70,7 +70,7 @@ Commits g old changes new result = g.honest new
     → CommitsOver g (changed changes (contents (g.files old))) (IsOther (keys_of changes)) old new
     result
 
--- Behind the journal's gate stands the record of the changes, where they were committed.
+-- After the journal's gate stands the record of the changes, where they were committed.
 abbrev pub LeavesRecord : {D A E : Type 0} → Ghosts D → List (List ℕ × EditedText) → D
     → Result A E → Type 0
 LeavesRecord g changes new result = g.honest new

@@ -37,14 +37,14 @@ pub record IsUnwritten (entries : List Entry) (name : List ℕ) : Type 0 where
   pub unnamed : IsFalse (is_named name entries)
 
 -- The file of this name isn't the journal, which has these bytes; nor does a record name it that
--- stands behind an open gate.
+-- stands after an open gate.
 pub record IsUnconcerned (journal : List ℕ) (name : List ℕ) : Type 0 where
   pub apart : name ≢ journal_name
   pub unnamed : IsTrue (is_open journal) → (entries : List Entry)
       → journal_at (drop 1 journal) ≡ Some entries
       → IsFalse (is_named name entries)
 
--- Calls that try the files of a record behind a journal that is open over it, and close the gate
+-- Calls that try the files of a record after a journal that is open over it, and close the gate
 -- where one fails, where the disk is honest after them. After Ok they only looked. After a failure
 -- each file but the journal has no other image than it had, and none but those of the record's was
 -- called; what a crash leaves meanwhile recovers to the files as they were or, where the gate still

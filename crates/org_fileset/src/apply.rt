@@ -57,7 +57,7 @@ pub fn apply_entry<D: Disk>(disk: &mut D, entry: &Entry) -> Result<(), DiskFault
 }
 
 // Applies an entry's patches to its file, which had so many bytes before. The length that is asked
-// for behind the patches is what the disk takes the file to have from here on.
+// for after the patches is what the disk takes the file to have from here on.
 fn apply_patches<D: Disk>(disk: &mut D, entry: &Entry, before: u64) -> Result<(), DiskFault>
     requires can { D.honest disk.old
         → CanPatch entry.now (D.files disk.old entry.now.name).content }

@@ -37,11 +37,11 @@ pub fn replay<D: Disk>(disk: &mut D, journal: &FileName, entries: &[Entry]) -> R
 
 /// Commits entries that fit their files. The body is their record, from the journal's second byte
 /// on. Where all files are on the disk at the start, every image at every moment since recovers to
-/// all files before, or to all files after. No other file is written; and behind the closed gate
+/// all files before, or to all files after. No other file is written; and after the closed gate
 /// the record stays.
 ///
 /// Before anything is written, the journal and the files are tried: where one can't be written, the
-/// gate stays closed. Behind the opened gate the files are tried again, just before the first of
+/// gate stays closed. After the opened gate the files are tried again, just before the first of
 /// them is written: where another program changed one meanwhile, the gate is closed, and none is
 /// written. Once all is done they are tried a last time: where another program replaced one
 /// meanwhile, its change went astray, and isn't reported as done.
@@ -71,7 +71,7 @@ pub fn commit_entries<D: Disk>(
     try_files(disk, entries)
 }
 
-// Tries the files once more behind the opened gate. Where another program changed one meanwhile,
+// Tries the files once more after the opened gate. Where another program changed one meanwhile,
 // the gate is closed again, and each file stays as it is.
 fn try_again<D: Disk>(disk: &mut D, journal: &FileName, entries: &[Entry]) -> Result<(), DiskFault>
     requires journal { journal.now ≡ journal_name }

@@ -31,7 +31,7 @@ pub enum OpenFault {
     /// More than 256 different names were given. The disk wasn't called.
     #[error("TooManyFiles")]
     TooManyFiles,
-    /// The journal's gate is open, and what stands behind it is no record, or one that doesn't fit
+    /// The journal's gate is open, and what stands after it is no record, or one that doesn't fit
     /// its files. No content was changed.
     #[error("BadJournal")]
     BadJournal,

@@ -107,7 +107,7 @@ fn finish<D: Disk>(disk: &mut D, journal: &FileName, found: &Found) -> Result<()
 ///
 /// In this order, and the first three before anything is changed:
 ///
-/// - `BadJournal`: the gate is open, and no whole record stands behind it.
+/// - `BadJournal`: the gate is open, and no whole record stands after it.
 /// - `Changed`, `Outside`: the gate is open over a record, and this is the first of its files that
 ///   doesn't stand as a crash may have left it.
 /// - `BadJournal`: the record doesn't fit its files.

@@ -15,7 +15,7 @@ is_same None other = false
 abbrev pub is_again : List (Option Node) → ℕ → Bool
 is_again nodes at = list_any (λ other. is_same other (get_or nodes at None)) (take at nodes)
 
--- of these names one behind the first may be reported, which leads to the file of one before it
+-- of these names one after the first may be reported, which leads to the file of one before it
 abbrev pub MayReport : List (List ℕ) → AliasFault → Type 0
 MayReport names (SameFile name) = Contains (drop 1 names) name
 MayReport names Linked = Unit {0}

@@ -123,7 +123,7 @@ pub trait System {
         ensures err { OnErr result (history self.new ≡ history self.old) };
 
     /// Locks the folder at a path, as far as the system locks it, until this is dropped or its
-    /// process ends. It is the folder of all calls that follow: no other one is locked behind it.
+    /// process ends. It is the folder of all calls that follow: no other one is locked after it.
     fn lock(&mut self, path: &str) -> Result<(), Fault<lock::Locked>>
         requires { IsFalse (is_held (history self.old)) }
         ensures ok { OnOk result (history self.new ≡ Locked path.now ∷ history self.old) }

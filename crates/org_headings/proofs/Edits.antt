@@ -1,5 +1,5 @@
 -- The headings of an edited text: those before the lines that the edit touches, those of these
--- lines, and those behind them, moved.
+-- lines, and those after them, moved.
 use Rattle.std.proofs.Common.{rules, ◌≡◌, ℕ, zero, suc, ◌+◌, ◌-◌, ◌<◌, ◌≤◌, ◌^◌, Bool, true, false, eqb, ltb, List, [], ◌∷◌, ◌++◌, length, drop, take, get_or, set, Option, Some, None, refl, sym, ap, subst, ◌∙◌, append_assoc, arith, add-zero, cond, inl, inr}
 use Rattle.std.proofs.lemmas.Grind.{common_steps}
 use Rattle.std.specs.Prelude.{map, ◌⊎◌}
@@ -348,7 +348,7 @@ pub edited_now : (hs us ws : List Heading) (c : List ℕ) (removed added from to
     → n ≡ length fresh → us ≡ take first hs ++ (fresh ++ drop last hs) → ws ≡ take (first + n) us ++ map (moved removed added) (drop (first + n) us) → ws ≡ headings_of c
 edited_now hs us ws c removed added from to first last n {fresh} m en eu ew = grind (arith, common_steps)
 
--- where all headings begin before the lines, those of the lines go behind them: us is their list
+-- where all headings begin before the lines, those of the lines go after them: us is their list
 pub appended_now : (hs ks ls us : List Heading) (c : List ℕ) (at removed added from to first : ℕ) → IsEdit hs c at removed added → length c < 2 ^ 64
     → (from ≤ at) × (ends_line true (take from c) ≡ true) → (at + added ≤ to) × (to ≤ length c)
     → (to ≡ length c) ⊎ ((f : Bool) → ends_line f (take (to - (at + added)) (drop (at + added) c)) ≡ true)

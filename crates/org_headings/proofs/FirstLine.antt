@@ -1,4 +1,4 @@
--- The two places of a heading line, found in a text that begins with what stands behind its stars.
+-- The two places of a heading line, found in a text that begins with what stands after its stars.
 use Rattle.std.proofs.Common.{rules, ◌≡◌, ℕ, Bool, true, false, eqb, List, [], ◌∷◌, drop, refl, sym, ◌∙◌, arith, inl, inr}
 use Rattle.std.proofs.lemmas.Grind.{common_steps}
 use Rattle.std.specs.Prelude.{◌≢◌}

@@ -30,11 +30,11 @@ get_or-front [] b k lt = absurd (omega arith)
 get_or-front (x ∷ a) b zero lt = refl
 get_or-front (x ∷ a) b (suc k) lt = get_or-front a b k (omega arith)
 
--- what follows the byte behind the stars doesn't count
+-- what follows the byte after the stars doesn't count
 pub level_of-append : (a b : List ℕ) → stars a < length a → level_of (a ++ b) ≡ level_of a
 level_of-append a b lt = grind (arith, common_steps, stars-append, get_or-front)
 
--- a newline behind a line doesn't count
+-- a newline after a line doesn't count
 stars-newline : (l more : List ℕ) → stars (l ++ 10 ∷ more) ≡ stars l
 stars-newline [] more = refl
 stars-newline (b ∷ l) more = grind (arith, common_steps, stars-newline l more)
@@ -61,7 +61,7 @@ pub line_at-line : (l r : List ℕ) → IsLine l → line_at (l ++ 10 ∷ r) ≡
 line_at-line [] r p = refl
 line_at-line (b ∷ l) r p = grind (arith, common_steps, nat_tests, line_at-more, line_at-line l r p.1)
 
--- behind stars it goes on
+-- after stars it goes on
 pub line_at-stars : (n : ℕ) (u : List ℕ) → line_at (replicate n 42 ++ u) ≡ replicate n 42 ++ line_at u
 line_at-stars zero u = refl
 line_at-stars (suc n) u = line_at-more 42 (replicate n 42 ++ u) refl ∙ ap (λ (l : List ℕ). 42 ∷ l) (line_at-stars n u)
@@ -252,7 +252,7 @@ scanned_next text base from s n found new r x y sc h is en ex ey enew =
           ∙ p.all;
     }
 
--- what the code finds behind the n stars at `start`: the line's rest
+-- what the code finds after the n stars at `start`: the line's rest
 rest_is : (text : List ℕ) (start n : ℕ) → n ≡ stars (drop start text) → drop n (line_at (drop start text)) ≡ line_at (drop (start + n) text)
 rest_is text start n count =
     let u = drop start text in
@@ -282,7 +282,7 @@ scanned_other text base from s n found r x y sc h is en ex ey not_both =
     let P : List Heading → Type 0 = λ hs. Scanned text base (from + s + n) hs in
     subst P (append-nil found) (scanned_next text base from s n found [] r x y sc h is en ex ey (none_at x y n (base + (from + s)) (line_at (drop (from + s) text)) not_both))
 
--- a pass that puts what it finds behind others
+-- a pass that puts what it finds after others
 pub record ScannedOnto (text : List ℕ) (base from : ℕ) (held all : List Heading) : Type 0 where
   pub found : List Heading
   pub behind : all ≡ held ++ found

@@ -7,11 +7,11 @@ use Rattle.org_headings.specs.declared.beginnings.Beginning.{Beginning}
 use Rattle.org_headings.specs.declared.beginnings.Beginnings.{Beginnings}
 use Rattle.org_headings.specs.declared.beginnings.Sought.{Sought}
 
--- behind the gap
+-- after the gap
 abbrev pub first_place : List ℕ → List ℕ
 first_place rest = behind is_blank rest
 
--- behind the first word there, which may be a keyword
+-- after the first word there, which may be a keyword
 abbrev pub second_place : List ℕ → List ℕ
 second_place rest = behind is_blank (behind is_solid (behind is_blank rest))
 
@@ -28,7 +28,7 @@ abbrev pub beginnings_of : List ℕ → Beginnings
 beginnings_of rest =
     record { first = beginning_of (first_place rest); second = beginning_of (second_place rest) }
 
--- whether a title that begins so may stand at a place, or behind a priority there
+-- whether a title that begins so may stand at a place, or after a priority there
 abbrev pub may_begin : Beginning → Beginning → Bool
 may_begin title place =
     place.byte == 91

@@ -86,7 +86,7 @@ pub record IsEdit (headings : List Heading) (after : List ℕ) (at removed added
   pub front : take at after ≡ take at before
   pub back : drop (at + added) after ≡ drop (at + removed) before
 
--- a heading behind an edit, moved by it
+-- a heading after an edit, moved by it
 abbrev pub moved : ℕ → ℕ → Heading → Heading
 moved removed added h =
     record { start = h.start - removed + added; level = h.level; beginnings = h.beginnings }

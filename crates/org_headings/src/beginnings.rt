@@ -1,6 +1,6 @@
 //! How a heading line lets its title begin.
 //!
-//! The title, or a priority before it, stands behind the gap, or behind the first word there, which
+//! The title, or a priority before it, stands after the gap, or after the first word there, which
 //! may be a keyword. Two bytes of each place are kept with the heading, so that a look-up by title
 //! reads few lines.
 ghost use Rattle.std.specs.Prelude.{◌≡◌, ◌≤◌, ◌+◌, ◌*◌, ◌==◌, ◌&&◌, ◌||◌, IsFalse, not, drop, length};
@@ -20,9 +20,9 @@ pub struct Beginning {
 /// What stands at the two places of a heading line.
 #[derive(Clone, Copy)]
 pub struct Beginnings {
-    /// Behind the gap.
+    /// After the gap.
     pub first: Beginning,
-    /// Behind the first word there.
+    /// After the first word there.
     pub second: Beginning,
 }
 
@@ -93,14 +93,14 @@ impl Beginning {
         }
     }
 
-    /// Whether a title that begins so may stand at a place, or behind a priority there.
+    /// Whether a title that begins so may stand at a place, or after a priority there.
     fn may_begin(self, place: Beginning) -> bool
         ensures { result ≡ may_begin self place }
     {
         (place.byte == b'[') | self.stands_at(place)
     }
 
-    /// Whether a title that begins with a digit may stand at this place, or behind a priority
+    /// Whether a title that begins with a digit may stand at this place, or after a priority
     /// there.
     fn may_begin_date(self) -> bool
         ensures { result ≡ may_begin_date self }
@@ -122,7 +122,7 @@ impl Sought {
 }
 
 impl Beginnings {
-    /// The beginnings of a heading line, by what stands behind its stars and all that follows it.
+    /// The beginnings of a heading line, by what stands after its stars and all that follows it.
     pub(crate) fn of_line(tail: &[u8]) -> Beginnings
         ensures { result ≡ beginnings_of (line_at tail.now) }
     {

@@ -1,7 +1,7 @@
 //! Where the headings of a text are: places, levels, and how their titles can begin, in document
 //! order.
 //!
-//! The list rises, and has every heading of its text. An edit moves what stands behind it; only the
+//! The list rises, and has every heading of its text. An edit moves what stands after it; only the
 //! lines that it touches are read again. Titles aren't held.
 ghost use Rattle.std.specs.Prelude.{◌≡◌, ◌⊎◌, ◌+◌, ◌++◌, ◌∷◌, [], ◌<◌, ◌≤◌, ◌^◌, take, drop, vec_len, IfOk, IfSome, OnOk, OnErr, None, length, map, not, true, nat_lt};
 ghost use Rattle.std.specs.List.{prefix_len, AllByRecursion};
@@ -29,7 +29,7 @@ pub struct Heading {
     pub beginnings: Beginnings,
 }
 
-/// Puts a heading behind others, by what stands behind its stars and all that follows it; unchanged
+/// Puts a heading after others, by what stands after its stars and all that follows it; unchanged
 /// where memory ran out, or where the level doesn't have 32 bits, which takes a line of 4 GiB.
 fn push(
     headings: &mut Vec<Heading>,
@@ -53,7 +53,7 @@ fn push(
     Ok(())
 }
 
-/// Puts the headings of whole lines that stand at `base` of a text behind others; unchanged where
+/// Puts the headings of whole lines that stand at `base` of a text after others; unchanged where
 /// memory ran out. Each star is looked for once.
 fn scan(headings: &mut Vec<Heading>, text: &[u8], base: usize) -> Result<(), AllocError>
     requires { base + length text.now < 2 ^ 64 }
@@ -119,7 +119,7 @@ fn follow(
 /// The places and levels of the headings of a terminated text, kept apart from it. A clause sees
 /// their list.
 ///
-/// How their titles can begin is kept once more, each behind the other, since a look-up by title
+/// How their titles can begin is kept once more, each after the other, since a look-up by title
 /// reads only that; where memory ran out, it isn't, and each heading is looked at.
 #[derive(Drop)]
 pub struct Heads {
@@ -178,7 +178,7 @@ impl Heads {
 
     /// Makes these the headings of the text `after`, which comes from the text whose headings they
     /// are by one edit: at `at`, `removed` bytes were replaced by `added` others. Only the lines
-    /// that the edit touches are read; what lies behind them moves.
+    /// that the edit touches are read; what lies after them moves.
     ///
     /// # Errors
     ///
@@ -213,7 +213,7 @@ impl Heads {
         Ok(())
     }
 
-    /// Puts the headings of whole lines that stand at `base` of the text behind the others;
+    /// Puts the headings of whole lines that stand at `base` of the text after the others;
     /// unchanged where memory ran out.
     fn append(&mut self, lines: &[u8], base: usize) -> Result<(), AllocError>
         requires { base + length lines.now < 2 ^ 64 }
@@ -250,7 +250,7 @@ impl Heads {
         Ok(())
     }
 
-    /// Moves the headings from a number on, which lie behind an edit.
+    /// Moves the headings from a number on, which lie after an edit.
     fn move_from(&mut self, first: usize, removed: usize, added: usize)
         requires within { first ≤ length self.old }
         requires room { AllByRecursion (λ h. CanMove removed added h) (drop first self.old) }
@@ -368,7 +368,7 @@ pub fn starts_before(headings: &[Heading], position: usize) -> usize
     headings.partition_point(|heading| heading.start < position)
 }
 
-/// Moves headings that lie behind an edit.
+/// Moves headings that lie after an edit.
 fn move_by(headings: &mut [Heading], removed: usize, added: usize)
     requires { AllByRecursion (λ h. CanMove removed added h) headings.old }
     ensures { headings.new ≡ map (moved removed added) headings.old }

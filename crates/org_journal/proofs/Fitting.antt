@@ -110,7 +110,7 @@ counted_front front rest long within =
       rw (first', big_from-append 8 front rest long, drop-append-le 8 front rest long, second', take-append-le size (drop 8 front) rest short, drop-append-le size (drop 8 front) rest short) refl,
     )
 
--- bytes behind the record change nothing
+-- bytes after the record change nothing
 journal_front : (front rest : List ℕ) → 15 ≤ length front → 15 + big_number 8 (drop 7 front) ≤ length front → journal_at (front ++ rest) ≡ journal_at front
 unfolding journal_at header_at
 journal_front front rest long within =
@@ -137,7 +137,7 @@ journal_taken bytes n is within =
 pub journal_of_body : (journal body : List ℕ) (size : ℕ) → HoldsRecordOfSize journal size → body ≡ take (15 + size) (drop 1 journal) → journal_at (drop 1 journal) ≡ journal_at body
 journal_of_body journal body size held read = grind (arith, common_steps, drop-drop, journal_taken, length-drop)
 
--- the place behind a record that was read
+-- the place after a record that was read
 pub end_here : (journal body : List ℕ) (size end : ℕ) → HoldsRecordOfSize journal size → body ≡ take (15 + size) (drop 1 journal) → end ≡ length body + 1 → EndsAt journal end
 end_here journal body size end held read is =
     let taken : length (take (15 + size) (drop 1 journal)) ≡ 15 + size = omega (arith, length-take (15 + size) (drop 1 journal), length-drop 1 journal, held.within, held.size_is) in
@@ -215,7 +215,7 @@ bad_size image BadJournal found = (found.0, size_passes (image journal_name) fou
 bad_size image Device found = tt
 bad_size image OutOfMemory found = absurd found
 
--- what the record behind an open gate says
+-- what the record after an open gate says
 pub found_of : (image : Image) (journal : List ℕ) (r : Result Found FindFault) → journal ≡ image journal_name → is_open journal ≡ true → HoldsRecord journal → FindsRecord journal r → Finds image r
 found_of image journal r is opened held found = go r (subst (λ (j : List ℕ). is_open j ≡ true) is opened) (subst HoldsRecord is held) (subst (λ (j : List ℕ). FindsRecord j r) is found)
   where

@@ -1,4 +1,4 @@
--- What a crash leaves of the journal while its gate, or the bytes behind it, are written.
+-- What a crash leaves of the journal while its gate, or the bytes after it, are written.
 use Rattle.std.proofs.Common.{rules, ◌≡◌, ◌≢◌, Bool, true, false, inl, inr, ⊎_elim, ℕ, ◌+◌, ◌-◌, ◌<◌, ◌≤◌, ◌∷◌, List, [], length, take, drop, refl, sym, ◌∙◌, ap, subst, arith}
 use Rattle.std.proofs.lemmas.Grind.{common_steps}
 use Rattle.std.specs.Prelude.{IsFalse, IsErr, Result, Ok, Err, slice_index, nat_le, ◌==◌, ◌&&◌}
@@ -22,7 +22,7 @@ module _ (journal : List ℕ) (gate : ℕ) (files : List ℕ → FileState) (is 
   abbrev content : List ℕ
   content = (files journal).content
 
-  -- the bytes behind the gate are those of the content
+  -- the bytes after the gate are those of the content
   abbrev HasBody : List ℕ → Type 0
   HasBody bytes = drop 1 bytes ≡ drop 1 content
 
@@ -48,7 +48,7 @@ module _ (journal : List ℕ) (gate : ℕ) (files : List ℕ → FileState) (is 
       → (image : List ℕ → List ℕ) → AreLeftBy sync journal mid image → LeavesBody journal files image
   gate_sync mid is_written others image left = search (rules, arith, stable, only_image, stable_is, overwritten_gate, content, body_written)
 
--- ---- a byte behind the record of an open journal
+-- ---- a byte after the record of an open journal
 
 module _ (journal : List ℕ) (end : ℕ) (files : List ℕ → FileState) (is : IsStable (files journal)) (ends : EndsAt (files journal).content end) where
   abbrev mark : FileState → FileState
@@ -113,7 +113,7 @@ module _ (journal : List ℕ) (end : ℕ) (files : List ℕ → FileState) (is :
       → (bytes : List ℕ) → IsImage (new journal) bytes → HasSameRecord (files journal).content bytes
   mark_failed new left bytes image = mark_here bytes (left.images bytes image)
 
--- ---- the bytes behind a closed gate
+-- ---- the bytes after a closed gate
 
 both_false : (a b : Bool) → b ≡ false → (a && b) ≡ false
 both_false true b e = e
@@ -127,7 +127,7 @@ closed_is bytes text same closed = both_false (nat_le front_size (length bytes))
     by_test true e = absurd (closed (sym same ∙ eqb-true _ _ e))
     by_test false e = e
 
--- bytes behind the gate leave it as it is
+-- bytes after the gate leave it as it is
 gate_stays : (body text : List ℕ) → 1 ≤ length text → slice_index (overwritten 1 body text) 0 ≡ slice_index text 0
 gate_stays body [] some = absurd (omega arith)
 gate_stays body (x ∷ text) some = refl

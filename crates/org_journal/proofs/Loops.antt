@@ -60,7 +60,7 @@ pub entries_end : (version : Version) (count i : ℕ) (bytes : List ℕ) → cou
 unfolding entries_at
 entries_end version count i bytes le = grind (arith, common_steps)
 
--- ---- the bytes behind
+-- ---- the bytes after
 
 pub patches_behind_next : (place final : ℕ) (alone : Bool) (count i : ℕ) (bytes : List ℕ) (first : Patch) (after : List ℕ) (total : Option (List ℕ)) → i < count → patch_at place final alone bytes ≡ Some (first, after)
     → behind (patches_at place final alone (count - i) bytes) ≡ total → behind (patches_at (first.from + length first.bytes) final alone (count - (i + 1)) after) ≡ total

@@ -96,7 +96,7 @@ number_again n x rest lt =
 pub number_is : (n : ℕ) (bytes : List ℕ) (x : ℕ) → n ≤ length bytes → x ≡ big_number n bytes → number_at n bytes ≡ Some (x, take (length bytes - n) (drop n bytes))
 number_is n bytes x long reported = rw (le-ltb _ _ long, reported, take_all (length bytes - n) (drop n bytes) (omega (arith, length-drop n bytes))) refl
 
--- ---- bytes behind their count
+-- ---- bytes after their count
 
 pub bytes_takes : (n : ℕ) (bytes text rest : List ℕ) → IsBytes bytes → bytes_at n bytes ≡ Some (text, rest) → Takes bytes text rest × (length text ≡ n)
 bytes_takes n bytes text rest fits e = grind (arith, common_steps)

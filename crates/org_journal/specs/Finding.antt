@@ -47,7 +47,7 @@ Finds image (Err Device) = Unit {0}
 Finds image (Err OutOfMemory) =
     IsTrue (is_open (image journal_name)) × HoldsRecord (image journal_name)
 
--- What was found is a record, in whichever version it stood; and behind it another byte can be
+-- What was found is a record, in whichever version it stood; and after it another byte can be
 -- written.
 abbrev pub IsWhole : Found → Type 0
 IsWhole Closed = Unit {0}
@@ -63,7 +63,7 @@ FindsSize journal (Err BadJournal) =
 FindsSize journal (Err Device) = Unit {0}
 FindsSize journal (Err OutOfMemory) = ⊥
 
--- what the bytes behind an open gate say, where the whole record lies within them
+-- what the bytes after an open gate say, where the whole record lies within them
 abbrev pub FindsRecord : List ℕ → Result Found FindFault → Type 0
 FindsRecord journal (Ok (Open entries end)) =
     (journal_at (drop 1 journal) ≡ Some entries) × EndsAt journal end

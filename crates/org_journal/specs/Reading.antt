@@ -21,7 +21,7 @@ abbrev pub Reads : {X Y : Type 0} → (X → Y) → Option X → Option Y → Ty
 Reads view (Some found) read = read ≡ Some (view found)
 Reads view None read = read ≡ None
 
--- the bytes behind what a reader found
+-- the bytes after what a reader found
 abbrev pub behind : {A : Type 0} → Option (A × List ℕ) → Option (List ℕ)
 behind (Some found) = Some found.1
 behind None = None
@@ -34,7 +34,7 @@ number_at n bytes =
 abbrev pub bytes_at : ℕ → List ℕ → Option (List ℕ × List ℕ)
 bytes_at n bytes = if nat_lt (length bytes) n then None else Some (take n bytes, drop n bytes)
 
--- bytes behind their count
+-- bytes after their count
 unfoldable pub counted_at : List ℕ → Option (List ℕ × List ℕ)
 counted_at bytes = do
   count ← number_at 8 bytes
@@ -87,7 +87,7 @@ old_entry_at bytes = do
       then Some (old_entry name.0 final.0 from.0 text.0, text.1)
       else None
 
--- bytes behind their number, which has one byte
+-- bytes after their number, which has one byte
 unfoldable pub context_at : List ℕ → Option (List ℕ × List ℕ)
 context_at bytes = do
   count ← number_at 1 bytes
@@ -160,7 +160,7 @@ entry_at One bytes = old_entry_at bytes
 entry_at Two bytes = new_entry_at Two bytes
 entry_at Three bytes = new_entry_at Three bytes
 
--- the name of an entry, and the bytes behind the entry
+-- the name of an entry, and the bytes after the entry
 abbrev pub name_behind : Option (Entry × List ℕ) → Option (List ℕ × List ℕ)
 name_behind (Some found) = Some (found.0.name, found.1)
 name_behind None = None
@@ -201,7 +201,7 @@ header_at bytes =
       Some (version, text.0))
     else None
 
--- the record whose bytes a journal has behind its gate
+-- the record whose bytes a journal has after its gate
 unfoldable pub journal_at : List ℕ → Option (List Entry)
 journal_at bytes = do
   found ← header_at bytes

@@ -61,11 +61,11 @@ version_number One = 1
 version_number Two = 2
 version_number Three = 3
 
--- the journal's bytes behind the gate, up to the record of this size
+-- the journal's bytes after the gate, up to the record of this size
 abbrev pub header_bytes : Version → ℕ → List ℕ
 header_bytes version size = codes "ORGJ" ++ version_number version ∷ 0 ∷ 0 ∷ big_bytes 8 size
 
--- the journal's bytes behind the gate
+-- the journal's bytes after the gate
 abbrev pub journal_bytes : Version → List Entry → List ℕ
 journal_bytes version entries =
     header_bytes version (length (record_bytes version entries)) ++ record_bytes version entries

@@ -16,7 +16,7 @@ use Rattle.org_journal.specs.Reading.{◌>>=◌, journal_at}
 abbrev pub Image : Type 0
 Image = List ℕ → List ℕ
 
--- no patch begins behind both the end of a text of this size and the end of the patch before
+-- no patch begins after both the end of a text of this size and the end of the patch before
 abbrev pub begins_within : (size place : ℕ) → List (ℕ × List ℕ) → Bool
 begins_within size place [] = true
 begins_within size place (patch ∷ patches) =

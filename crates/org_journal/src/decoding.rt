@@ -1,4 +1,4 @@
-//! The record that the bytes behind a journal's gate spell, in one of the versions of the
+//! The record that the bytes after a journal's gate spell, in one of the versions of the
 //! format.
 //!
 //! Bytes are checked whole before any memory is taken for what they hold. Whether a record fits its
@@ -21,7 +21,7 @@ use org_fault::Fault;
 use org_splice::{Bytes, Patch};
 use std::alloc::{AllocError, Global};
 
-// The patches of an entry of version 2 or 3, and the bytes behind them.
+// The patches of an entry of version 2 or 3, and the bytes after them.
 fn patches_of(
     alloc: Global,
     length: u64,
@@ -109,7 +109,7 @@ fn named(
     })
 }
 
-// An entry of version 1, and the bytes behind it.
+// An entry of version 1, and the bytes after it.
 #[tactic(auto, unfolding(crate::specs::Reading::entry_at))]
 fn old_entry_of(alloc: Global, bytes: &[u8]) -> Result<(Entry, &[u8]), Fault<Malformed>>
     ensures { DecodesAs (λ x. (x.0, x.1.now)) result (entry_at One bytes.now) }
@@ -127,7 +127,7 @@ fn old_entry_of(alloc: Global, bytes: &[u8]) -> Result<(Entry, &[u8]), Fault<Mal
     Ok((entry, rest))
 }
 
-// An entry of version 2 or 3, and the bytes behind it.
+// An entry of version 2 or 3, and the bytes after it.
 #[tactic(auto, unfolding(crate::specs::Reading::new_entry_at))]
 fn new_entry_of(
     alloc: Global,
@@ -145,7 +145,7 @@ fn new_entry_of(
     Ok((entry, rest))
 }
 
-// An entry, and the bytes behind it.
+// An entry, and the bytes after it.
 #[tactic(auto, unfolding(crate::specs::Reading::entry_at))]
 fn entry_of(
     alloc: Global,
@@ -160,7 +160,7 @@ fn entry_of(
     }
 }
 
-// The entries of a record, and the bytes behind them.
+// The entries of a record, and the bytes after them.
 fn entries_of(
     alloc: Global,
     version: Version,
@@ -195,7 +195,7 @@ fn record_of(alloc: Global, bytes: &[u8]) -> Result<Record, Fault<Malformed>>
     Ok(Record::new(entries))
 }
 
-/// The record whose bytes stand at the front of these, which are a journal's bytes behind its gate.
+/// The record whose bytes stand at the front of these, which are a journal's bytes after its gate.
 ///
 /// # Errors
 ///

@@ -1,5 +1,5 @@
-//! The bytes of a record, in version 3 of the journal's format: numbers big-endian, names behind
-//! their lengths, patches behind their counts.
+//! The bytes of a record, in version 3 of the journal's format: numbers big-endian, names after
+//! their lengths, patches after their counts.
 //!
 //! The gate's byte isn't part of them. Versions 1 and 2 are read and never written.
 ghost use Rattle.std.specs.Prelude.{◌≡◌, ◌≤◌, ◌++◌, List, ℕ, length, take, drop, Some, IfSome, OnOk, IfOk};
@@ -135,7 +135,7 @@ fn room_for(entries: &[Entry]) -> usize {
 }
 
 impl Record {
-    /// The journal's bytes behind its gate, in version 3 of the format.
+    /// The journal's bytes after its gate, in version 3 of the format.
     ///
     /// # Errors
     ///

@@ -15,7 +15,7 @@ pub struct Malformed;
 /// Why nothing can be said of a journal on a disk.
 #[derive(Clone, Copy, Debug, Error)]
 pub enum FindFault {
-    /// The gate is open, but no well-formed record that fits its files stands behind it.
+    /// The gate is open, but no well-formed record that fits its files stands after it.
     #[error("bad journal")]
     BadJournal,
     /// A call of the disk failed.

@@ -1,6 +1,6 @@
 //! The fields of a record, read from the front of its bytes.
 //!
-//! Each function answers a field and the bytes behind it, or none where it isn't well formed.
+//! Each function answers a field and the bytes after it, or none where it isn't well formed.
 //! Nothing here takes memory.
 ghost use Rattle.std.specs.Prelude.{◌≡◌, ◌+◌, ◌≤◌, length, IfSome, IsTrue};
 ghost use Rattle.std.specs.Option.{option_map};
@@ -96,7 +96,7 @@ fn bytes_at(count: u64, bytes: &[u8]) -> Option<(&[u8], &[u8])>
     Some(bytes.split_at(count as usize))
 }
 
-/// Bytes behind their count.
+/// Bytes after their count.
 #[tactic(auto, unfolding(crate::specs::Reading::counted_at))]
 pub(crate) fn counted_at(bytes: &[u8]) -> Option<(&[u8], &[u8])>
     ensures { Reads (λ x. (x.0.now, x.1.now)) result (counted_at bytes.now) }
@@ -105,7 +105,7 @@ pub(crate) fn counted_at(bytes: &[u8]) -> Option<(&[u8], &[u8])>
     bytes_at(count, rest)
 }
 
-/// The name of a file, behind its length.
+/// The name of a file, after its length.
 fn name_at(bytes: &[u8]) -> Option<(&str, &[u8])>
     ensures reads { Reads (λ x. (x.0.now, x.1.now)) result (name_at bytes.now) }
     ensures accepted { IfSome result (λ x. IsTrue (is_file_name x.0.now)) }
@@ -174,7 +174,7 @@ pub(crate) fn old_entry_at(bytes: &[u8]) -> Option<(OldEntry<'_>, &[u8])>
     ))
 }
 
-// A context, behind its length.
+// A context, after its length.
 #[tactic(auto, unfolding(crate::specs::Reading::context_at))]
 fn context_at(bytes: &[u8]) -> Option<(&[u8], &[u8])>
     ensures { Reads (λ x. (x.0.now, x.1.now)) result (context_at bytes.now) }

@@ -21,7 +21,7 @@ use org_fault::Fault;
 use org_splice::Patch;
 use std::alloc::Global;
 
-/// How many bytes stand in front of a record: the gate, and the header behind it. A journal that is
+/// How many bytes stand in front of a record: the gate, and the header after it. A journal that is
 /// shorter has a closed gate.
 pub const FRONT: u64 = 16;
 
@@ -34,7 +34,7 @@ pub enum Found {
     Open(Record, u64),
 }
 
-// The size of the record behind an open gate, and nothing where the gate is closed.
+// The size of the record after an open gate, and nothing where the gate is closed.
 fn size_of<D: Disk>(disk: &mut D, journal: &FileName) -> Result<Option<u64>, FindFault>
     ensures found { D.honest disk.new → FindsSize (D.files disk.old journal.now).content result }
     ensures small { IfOk result (λ found. IfSome found (λ size. front_size + size < 2 ^ 64)) }
@@ -71,7 +71,7 @@ fn size_in(header: &[u8], total: u64) -> Result<Option<u64>, FindFault>
     Ok(Some(size))
 }
 
-// The journal's bytes behind the gate, to the end of a record of this size.
+// The journal's bytes after the gate, to the end of a record of this size.
 fn body_of<D: Disk>(
     alloc: Global,
     disk: &mut D,
@@ -93,7 +93,7 @@ fn body_of<D: Disk>(
     Ok(body)
 }
 
-// The place behind the record that these bytes behind the gate hold. Another byte has room there.
+// The place after the record that these bytes after the gate hold. Another byte has room there.
 fn end_of(body: &[u8]) -> u64
     ensures value { result ≡ length body.now + 1 }
     ensures small { result + 1 < 2 ^ 64 }
@@ -101,7 +101,7 @@ fn end_of(body: &[u8]) -> u64
     body.len() as u64 + 1
 }
 
-// The record behind an open gate, which has this size.
+// The record after an open gate, which has this size.
 fn record_of<D: Disk>(
     alloc: Global,
     disk: &mut D,
@@ -163,7 +163,7 @@ pub fn all_fit<D: Disk>(disk: &mut D, entries: &[Entry]) -> Result<bool, DiskFau
 }
 
 /// Looks at the journal, and changes nothing. `Open` comes exactly where the gate is open and a
-/// well-formed record stands behind it, with that record; `Closed` exactly where the gate is
+/// well-formed record stands after it, with that record; `Closed` exactly where the gate is
 /// closed. Nothing is asked of the files that the record names.
 ///
 /// # Errors

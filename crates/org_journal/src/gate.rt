@@ -18,7 +18,7 @@ const CLOSED: u8 = 0;
 /// The first byte of a journal whose gate is open.
 pub(crate) const OPEN: u8 = 1;
 
-// What `mark` writes behind a record.
+// What `mark` writes after a record.
 const MARK: u8 = 0;
 
 /// Gives a journal that is shorter than a header its gate, closed. At every moment the gate is
@@ -38,8 +38,8 @@ pub fn prepare<D: Disk>(disk: &mut D, journal: &FileName) -> Result<(), DiskFaul
     set_gate(disk, journal, CLOSED)
 }
 
-/// Puts a record's bytes behind the closed gate, on the disk. At every moment the gate is closed,
-/// also where the call fails; bytes that stood behind the new ones stay.
+/// Puts a record's bytes after the closed gate, on the disk. At every moment the gate is closed,
+/// also where the call fails; bytes that stood after the new ones stay.
 ///
 /// # Errors
 ///
@@ -54,7 +54,7 @@ pub fn arm<D: Disk>(disk: &mut D, journal: &FileName, body: &[u8]) -> Result<(),
     disk.sync(journal)
 }
 
-/// Opens the gate, on the disk. Where a record stands behind it, the journal is open then. At every
+/// Opens the gate, on the disk. Where a record stands after it, the journal is open then. At every
 /// moment the journal differs from what it was at its first byte alone, also where the call fails.
 ///
 /// # Errors
@@ -88,7 +88,7 @@ pub fn close_gate<D: Disk>(disk: &mut D, journal: &FileName) -> Result<(), DiskF
     set_gate(disk, journal, CLOSED)
 }
 
-/// Writes 0 behind the record of an open journal, where no reader looks, on the disk. So the
+/// Writes 0 after the record of an open journal, where no reader looks, on the disk. So the
 /// journal changed after the files that its record names, whoever changed those last. At every
 /// moment the gate is open over the same record, also where the call fails.
 ///
@@ -110,7 +110,7 @@ pub fn mark<D: Disk>(disk: &mut D, journal: &FileName, end: u64) -> Result<(), D
     disk.sync(journal)
 }
 
-/// Whether the gate is open, whatever stands behind it.
+/// Whether the gate is open, whatever stands after it.
 ///
 /// # Errors
 ///

@@ -11,7 +11,7 @@ ghost use Rattle.org_journal.specs.declared.record.Entry.{Entry};
 ghost use Rattle.org_journal.specs.declared.record.Version.{Version};
 
 /// The bytes of a well-formed record are read back as that record, in each version and whatever
-/// stands behind them. No bytes begin with two records.
+/// stands after them. No bytes begin with two records.
 pub fn records_read_back()
     ensures read { (version : Version) (entries : List Entry) (rest : List ℕ)
         → IsWellFormed version entries
@@ -20,8 +20,8 @@ pub fn records_read_back()
         → a ≡ b }
 {}
 
-/// Behind an open gate a record that was written recovers to what its entries make of the files;
-/// behind a closed one the files recover to themselves, whatever the journal holds.
+/// After an open gate a record that was written recovers to what its entries make of the files;
+/// after a closed one the files recover to themselves, whatever the journal holds.
 pub fn written_records_recover()
     ensures opened { (version : Version) (entries : List Entry) (rest : List ℕ) (image : Image)
         → IsWellFormed version entries → IsTrue (all_fit entries image)

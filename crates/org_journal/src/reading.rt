@@ -14,7 +14,7 @@ const MOST_ENTRIES: u32 = 512;
 /// The bytes in front of a record, without the gate; the last 8 are the record's size.
 pub(crate) const HEADER: usize = 15;
 
-// The bytes behind the patches of an entry of version 2 or 3.
+// The bytes after the patches of an entry of version 2 or 3.
 fn behind_patches(length: u64, count: u32, bytes: &[u8]) -> Option<&[u8]>
     ensures { Reads (λ rest. rest.now) result
         (behind (patches_at 0 length (count == 1) count bytes.now)) }
@@ -29,7 +29,7 @@ fn behind_patches(length: u64, count: u32, bytes: &[u8]) -> Option<&[u8]>
     Some(rest)
 }
 
-// The name of an entry of version 2 or 3, and the bytes behind the entry.
+// The name of an entry of version 2 or 3, and the bytes after the entry.
 #[tactic(auto, unfolding(crate::specs::Reading::new_entry_at))]
 fn name_of_new_entry_at(version: Version, bytes: &[u8]) -> Option<(&str, &[u8])>
     ensures { Reads (λ x. (x.0.now, x.1.now)) result
@@ -40,7 +40,7 @@ fn name_of_new_entry_at(version: Version, bytes: &[u8]) -> Option<(&str, &[u8])>
     Some((head.name, rest))
 }
 
-// The name of an entry, and the bytes behind the entry.
+// The name of an entry, and the bytes after the entry.
 #[tactic(auto, unfolding(crate::specs::Reading::entry_at))]
 fn name_of_entry_at(version: Version, bytes: &[u8]) -> Option<(&str, &[u8])>
     ensures { Reads (λ x. (x.0.now, x.1.now)) result (name_behind (entry_at version bytes.now)) }
@@ -54,7 +54,7 @@ fn name_of_entry_at(version: Version, bytes: &[u8]) -> Option<(&str, &[u8])>
     }
 }
 
-// The bytes behind the entries.
+// The bytes after the entries.
 fn behind_entries(version: Version, count: u32, bytes: &[u8]) -> Option<&[u8]>
     ensures { Reads (λ rest. rest.now) result (behind (entries_at version count bytes.now)) }
 {
@@ -126,7 +126,7 @@ fn is_record(version: Version, bytes: &[u8]) -> bool
     rest.is_empty() && names_differ(version, count, entries)
 }
 
-/// The version of a journal and the bytes of its record, from the bytes behind the gate.
+/// The version of a journal and the bytes of its record, from the bytes after the gate.
 #[tactic(auto, unfolding(crate::specs::Reading::header_at))]
 pub(crate) fn header_at(bytes: &[u8]) -> Option<(Version, &[u8])>
     ensures { Reads (λ x. (x.0, x.1.now)) result (header_at bytes.now) }
@@ -154,7 +154,7 @@ fn is_journal(bytes: &[u8]) -> bool
     }
 }
 
-/// Whether the bytes behind a journal's gate begin with those of a well-formed record, in one of
+/// Whether the bytes after a journal's gate begin with those of a well-formed record, in one of
 /// the versions. Takes no memory.
 pub fn well_formed(bytes: &[u8]) -> bool
     ensures record { IsTrue result ↔ ((entries : List Entry) × BeginsWith bytes.now entries) }

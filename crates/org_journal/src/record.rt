@@ -66,7 +66,7 @@ pub struct Entry {
     pub length: u64,
     /// What the file was before, which a record of version 3 says.
     pub before: Option<Before>,
-    /// What is applied to it, each patch behind the one before, at most 1,000 in a record.
+    /// What is applied to it, each patch after the one before, at most 1,000 in a record.
     pub patches: Patches,
 }
 

@@ -100,7 +100,7 @@ closes_complete start second duration end minutes s lasts between = grind (arith
 
 -- ---- the line
 
--- what a clock is made of behind its first stamp
+-- what a clock is made of after its first stamp
 from_parts : (start : Moment) (head : ℕ) (text : List ℕ) (clock : Clock) → clock_from start head text ≡ Some clock
     → ((text ≡ []) × (clock ≡ Open (record { start = start; head = head }))) ⊎ ((minutes : ℕ) × (closed_minutes start text ≡ Some minutes) × (clock ≡ Closed minutes))
 from_parts start head [] clock e = inl (refl, sym (same_some (Open (record { start = start; head = head })) clock e))

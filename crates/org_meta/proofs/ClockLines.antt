@@ -10,7 +10,7 @@ use Rattle.org_meta.specs.declared.clock.Clock.{Clock}
 use Rattle.org_meta.specs.Clocks.{behind_mark, behind_some, clock_stamp_at, clock_from, clock_of, head_of}
 use Rattle.std.specs.Prelude.{IfSome}
 
--- what is read from the mark on, from the stamp on, and behind the stamp
+-- what is read from the mark on, from the stamp on, and after the stamp
 abbrev behind_stamp : List ℕ → List ℕ → Moment × ℕ → Option Clock
 behind_stamp body text start = clock_from start.0 (length body - length text + start.1) (drop start.1 text)
 
@@ -46,7 +46,7 @@ pub head_within : (found : Option Clock) (m n : ℕ) → m ≤ n → IfSome foun
 head_within None m n le within = search rules
 head_within (Some clock) m n le within = omega (arith, within)
 
--- the text behind the mark and blanks is a part of the line, and so is its stamp
+-- the text after the mark and blanks is a part of the line, and so is its stamp
 pub text_within : (body front : List ℕ) (after text : ℕ) → front ≡ behind is_blank body → after ≤ length front → text ≤ after → text ≤ length body
 text_within body front after text front_is a b = omega (arith, ap length front_is, length-drop (prefix_len is_blank body) body)
 

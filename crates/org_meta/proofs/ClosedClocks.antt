@@ -169,7 +169,7 @@ open_line_is line r runs =
       is = kept_end is_trailing line ∙ ap (λ (t : List ℕ). t ++ end_of is_trailing line) body_is;
     }
 
--- ---- read again, with something behind it
+-- ---- read again, with something after it
 
 opening_solid : (active : Bool) → is_blank (opening active) ≡ false
 opening_solid true = refl
@@ -433,7 +433,7 @@ pub record NoStar (l : List ℕ) : Type 0 where
 begin_shape : (indentation l gap stamp text : List ℕ) (b : ℕ) → (indentation ++ (b ∷ (l ++ (gap ++ stamp)))) ++ text ≡ indentation ++ (b ∷ (l ++ ((gap ++ stamp) ++ text)))
 begin_shape indentation l gap stamp text b = simp append_assoc
 
--- blanks, and behind them a byte that is no star
+-- blanks, and after them a byte that is no star
 pub begins_plainly : (indentation : List ℕ) (b : ℕ) (more : List ℕ) → list_all is_blank indentation ≡ true → eqb b 42 ≡ false → NoStar (indentation ++ (b ∷ more))
 begins_plainly [] b more all other = record { first = b; others = more; is = refl; other = other }
 begins_plainly (c ∷ cs) b more all other = record { first = c; others = cs ++ (b ∷ more); is = refl; other = blank_no_star c (both (is_blank c) (list_all is_blank cs) all).0 }

@@ -111,7 +111,7 @@ pub drawer_lines : (section : List ℕ) → AllByRecursion IsLine (split (lines_
 drawer_lines section =
     AllByRecursion-take IsLine _ _ (AllByRecursion-drop IsLine (planning_size (lines_of section)) (lines_of section) (lines_of-lines section))
 
--- the lines behind the drawer's first
+-- the lines after the drawer's first
 pub property_lines : (section drawer line rest : List ℕ) → drawer ≡ print_lines (split (lines_of section)).drawer → BeginsWith drawer line rest → lines_of rest ≡ drop 1 (split (lines_of section)).drawer
 property_lines section drawer line rest is b = grind (arith, common_steps, split, part_lines, drawer_lines)
 

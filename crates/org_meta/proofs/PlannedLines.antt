@@ -209,7 +209,7 @@ entry_line e p = both_lines (word_text e.word) _ (word_line e.word) (both_lines 
 entry_with_line : (e : PlanningEntry) (s : StampValue) → FlatEntry e → AllByRecursion FlatPart s.cookies → Flat (entry_with e s)
 entry_with_line e s p all = both_lines (word_text e.word) _ (word_line e.word) (both_lines e.gap _ p.gap (both_lines (stamp_text s) e.after (stamp_line s all) p.after))
 
--- a line that begins, behind blanks, with a word
+-- a line that begins, after blanks, with a word
 word_begins : (indentation : List ℕ) (w : Word) (more : List ℕ) → list_all is_blank indentation ≡ true → NoStar (indentation ++ (word_text w ++ more))
 word_begins indentation Closed more blank = begins_plainly indentation 67 (codes "LOSED:" ++ more) blank refl
 word_begins indentation Deadline more blank = begins_plainly indentation 68 (codes "EADLINE:" ++ more) blank refl

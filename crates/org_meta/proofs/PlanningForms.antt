@@ -100,7 +100,7 @@ word_solid Closed x y = refl
 word_solid Deadline x y = refl
 word_solid Scheduled x y = refl
 
--- what is read behind a word, and behind its blanks
+-- what is read after a word, and after its blanks
 abbrev behind_gap : Word → List ℕ → List ℕ → Option (PlanningEntry × List ℕ)
 behind_gap w gap bytes =
     stamp_at bytes >>= λ r.
@@ -133,7 +133,7 @@ entry_complete e rest is whole =
     ∙ ap (λ (t : List ℕ). made w e.gap e.stamp e.text t (behind is_blank tail)) (front_front is_blank e.after rest is.after_blank whole)
     ∙ ap (made w e.gap e.stamp e.text e.after) (behind_front is_blank e.after rest is.after_blank whole)
 
--- behind an entry stands the next one, or the tail: no blank
+-- after an entry stands the next one, or the tail: no blank
 rest_begins : (es : List PlanningEntry) (tail : List ℕ) → prefix_len is_blank tail ≡ 0 → prefix_len is_blank (entries_text es ++ tail) ≡ 0
 rest_begins [] tail whole = whole
 rest_begins (e ∷ es) tail whole =

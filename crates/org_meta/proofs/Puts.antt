@@ -64,7 +64,7 @@ note_gives e section note slices whole are at removed bytes =
 
 -- ---- a property in its drawer
 
--- putting into the whole is putting into what is left, behind the lines that were passed
+-- putting into the whole is putting into what is left, after the lines that were passed
 pub record PutsLater (name whole text : List ℕ) : Type 0 where
   pub passed : Passed whole text
   pub puts : (line : List ℕ) → put_before_end name line (lines_of whole) ≡ passed.before ++ put_before_end name line (lines_of text)

@@ -30,7 +30,7 @@ solid_word Closed more = refl
 solid_word Deadline more = refl
 solid_word Scheduled more = refl
 
--- what is tested behind the indentation
+-- what is tested after the indentation
 abbrev begins_planning : List ℕ → Bool
 begins_planning body =
     starts_with nat_eq body (codes "CLOSED:") || starts_with nat_eq body (codes "DEADLINE:") || starts_with nat_eq body (codes "SCHEDULED:")

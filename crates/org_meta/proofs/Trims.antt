@@ -48,7 +48,7 @@ behind_step p x l e = let next : 1 + prefix_len p l ≡ suc (prefix_len p l) = o
 pub behind_stop : (p : ℕ → Bool) (x : ℕ) (l : List ℕ) → p x ≡ false → behind p (x ∷ l) ≡ x ∷ l
 behind_stop p x l e = rw e refl
 
--- behind bytes that pass stands what does not begin with one
+-- after bytes that pass stands what does not begin with one
 pub behind_front : (p : ℕ → Bool) (xs ys : List ℕ) → list_all p xs ≡ true → prefix_len p ys ≡ 0 → behind p (xs ++ ys) ≡ ys
 behind_front p xs ys all none = grind (arith, common_steps, prefix_all, drop_at)
 

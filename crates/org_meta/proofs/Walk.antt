@@ -9,7 +9,7 @@ use Rattle.org_splice.proofs.Lines.{print_lines-lines_of, print_lines-append, te
 pub print_lines-terminated : (t : List ℕ) → terminated t ≡ t → print_lines (lines_of t) ≡ t
 print_lines-terminated t is = print_lines-lines_of t ∙ is
 
--- The text is what is left of a whole one behind some lines.
+-- The text is what is left of a whole one after some lines.
 pub record Passed (whole text : List ℕ) : Type 0 where
   pub before : List (List ℕ)
   pub bytes : whole ≡ print_lines before ++ text
@@ -41,7 +41,7 @@ front_behind text n whole =
     sym (print_lines-terminated text whole) ∙ ap print_lines (sym (take-append-drop n (lines_of text)))
     ∙ print_lines-append (take n (lines_of text)) (drop n (lines_of text))
 
--- what comes before the text behind n lines
+-- what comes before the text after n lines
 pub front_lines : (text rest : List ℕ) (n : ℕ) → terminated text ≡ text → rest ≡ behind_lines text n → take (length text - length rest) text ≡ print_lines (take n (lines_of text))
 front_lines text rest n whole is =
     let a = print_lines (take n (lines_of text)) in

@@ -26,7 +26,7 @@ abbrev pub clock_stamp_at : List ℕ → Option (Moment × ℕ)
 clock_stamp_at text =
     stamp_at text >>= λ r. if is_clock_stamp r.0 then Some (start_of r.0, r.1) else None
 
--- at least one byte passes, and those behind them
+-- at least one byte passes, and those after them
 abbrev pub behind_some : (ℕ → Bool) → List ℕ → Option (List ℕ)
 behind_some test text = if is_passing test text then Some (behind test text) else None where
   is_passing : (ℕ → Bool) → List ℕ → Bool
@@ -126,7 +126,7 @@ line_span lines i =
 abbrev pub open_line : List (List ℕ) → Option Span
 open_line lines = option_map (line_span lines) (position is_open lines)
 
--- The line is an open clock behind the lines `before`, and the span is its own.
+-- The line is an open clock after the lines `before`, and the span is its own.
 pub record IsOpenAt (section : List ℕ) (span : Span) (before : List (List ℕ)) (line : List ℕ)
     (after : List (List ℕ)) : Type 0 where
   pub lines : lines_of section ≡ before ++ (line ∷ after)

@@ -3,7 +3,7 @@ use Rattle.std.specs.Prelude.{◌≡◌, ℕ, Bool, IsTrue, List, ◌∷◌, ◌
 use Rattle.std.specs.List.{AllByRecursion}
 use Rattle.org_splice.specs.Lines.{print_lines, IsLine, lines_of}
 
--- The first line of a terminated text, and the text behind it.
+-- The first line of a terminated text, and the text after it.
 pub record BeginsWith (text line rest : List ℕ) : Type 0 where
   pub bytes : text ≡ line ++ 10 ∷ rest
   pub lines : lines_of text ≡ line ∷ lines_of rest

@@ -17,7 +17,7 @@ pub record SectionParts : Type 0 where
 
 -- ---- lines
 
--- the line begins, behind blanks, with `CLOSED:`, `DEADLINE:` or `SCHEDULED:`
+-- the line begins, after blanks, with `CLOSED:`, `DEADLINE:` or `SCHEDULED:`
 abbrev pub is_planning : List ℕ → Bool
 is_planning l =
     let body = behind is_blank l in

@@ -146,7 +146,7 @@ fn closed_minutes(start: Moment, text: &[u8]) -> Option<u64>
     }
 }
 
-/// The clock of a line whose first stamp starts there and ends behind `head` bytes; `text` follows
+/// The clock of a line whose first stamp starts there and ends after `head` bytes; `text` follows
 /// that stamp.
 fn clock_from(start: Moment, head: usize, text: &[u8]) -> Option<Clock>
     ensures value { result ≡ clock_from start head text.now }

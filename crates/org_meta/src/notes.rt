@@ -14,7 +14,7 @@ use org_splice::{Bytes, Edit};
 use org_stamp::Moment;
 use std::alloc::{AllocError, Global};
 
-/// The state in quotes, in 12 columns at least, behind a text.
+/// The state in quotes, in 12 columns at least, after a text.
 fn push_quoted(out: &mut Vec<u8>, before: &[u8], state: &[u8]) -> Result<(), AllocError>
     ensures { OnOk result (out.new.items
         ≡ out.old.items ++ (before.now ++ quoted state.now)) }

@@ -230,7 +230,7 @@ fn replacing(line: &[u8], bytes: Vec<u8>) -> Edit
     }
 }
 
-/// The edit that takes the CLOSED entry away, with the blanks behind it; a planning line left
+/// The edit that takes the CLOSED entry away, with the blanks after it; a planning line left
 /// without entries goes whole. Where there is none, the edit changes nothing.
 ///
 /// # Errors

@@ -16,7 +16,7 @@ begins left x y = pointwise nat_eq (take 2 left) (x ∷ y ∷ [])
 abbrev pub prepend : List ℕ → Halves → Halves
 prepend front halves = record halves { file = front ++ halves.file }
 
--- the value behind `front` is `left`, and the first `::` isn't before it
+-- the value after `front` is `left`, and the first `::` isn't before it
 pub record Cut (value left : List ℕ) : Type 0 where
   pub front : List ℕ
   pub whole : value ≡ front ++ left

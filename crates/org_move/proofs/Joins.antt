@@ -21,7 +21,7 @@ one_more texts k d lt = ap (map read) (take_more texts k d lt) ∙ map-append re
 
 -- ---- joined
 
--- each with the byte behind it
+-- each with the byte after it
 abbrev pub ended : ℕ → List (List ℕ) → List ℕ
 ended b [] = []
 ended b (x ∷ xs) = x ++ b ∷ ended b xs

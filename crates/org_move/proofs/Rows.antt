@@ -37,13 +37,13 @@ down : within (only (codes "S") ∷ only (codes "B") ∷ []) (only (codes "T") �
 unfolding states deep
 down = refl
 
--- from behind to a heading before it, and up
+-- from after to a heading before it, and up
 up : within (only (codes "T") ∷ only (codes "U") ∷ only (codes "V") ∷ []) (only (codes "S") ∷ []) First deep
     ≡ Ok (line (codes "* S") ++ line (codes "** V") ++ line (codes "** B") ++ line (codes "**** C") ++ line (codes "* T") ++ line (codes "** U"))
 unfolding states deep
 up = refl
 
--- below its own parent once more, behind its sibling
+-- below its own parent once more, after its sibling
 children : List ℕ
 children = line (codes "* T") ++ line (codes "** E") ++ line (codes "** X")
 

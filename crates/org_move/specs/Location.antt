@@ -29,11 +29,11 @@ pub record Destination : Type 0 where
 
 -- ---- the value of a text
 
--- the line begins, behind blanks, with `#+ARCHIVE:`; ASCII case doesn't count
+-- the line begins, after blanks, with `#+ARCHIVE:`; ASCII case doesn't count
 abbrev pub is_archive_line : List ℕ → Bool
 is_archive_line l = str_eq_ignore_ascii_case (take 10 (behind is_blank l)) (codes "#+ARCHIVE:")
 
--- what stands behind it, without the blanks round it
+-- what stands after it, without the blanks round it
 abbrev pub value_behind : List ℕ → List ℕ
 value_behind l = trimmed (drop 10 (behind is_blank l))
 
@@ -41,7 +41,7 @@ value_behind l = trimmed (drop 10 (behind is_blank l))
 abbrev pub has_archive_line : List ℕ → Bool
 has_archive_line text = is_some (find is_archive_line (lines_of text))
 
--- what is left of a text behind whole lines, none of which is such a line
+-- what is left of a text after whole lines, none of which is such a line
 pub record IsBehindOthers (text left : List ℕ) : Type 0 where
   pub before : List ℕ
   pub parts : text ≡ before ++ left
@@ -85,7 +85,7 @@ pub record Halves : Type 0 where
 abbrev pub with_byte : ℕ → Halves → Halves
 with_byte b halves = record halves { file = b ∷ halves.file }
 
--- before and behind the first `::`
+-- before and after the first `::`
 abbrev pub halves_of : List ℕ → Option Halves
 halves_of [] = None
 halves_of (b ∷ []) = None

@@ -30,7 +30,7 @@ use std::str;
 // How many bytes `#+ARCHIVE:` has.
 const MARK_SIZE: usize = 10;
 
-/// The first bytes of the line behind its blanks, as many as `#+ARCHIVE:` has, and what follows
+/// The first bytes of the line after its blanks, as many as `#+ARCHIVE:` has, and what follows
 /// them.
 fn mark_and_value(line: &[u8]) -> (&[u8], &[u8])
     ensures mark { result.0.now ≡ take 10 (behind is_blank line.now) }
@@ -40,7 +40,7 @@ fn mark_and_value(line: &[u8]) -> (&[u8], &[u8])
     body.split_at(body.len().min(MARK_SIZE))
 }
 
-/// Whether the line begins, behind blanks, with `#+ARCHIVE:`.
+/// Whether the line begins, after blanks, with `#+ARCHIVE:`.
 fn is_archive_line(line: &[u8]) -> bool
     ensures { result ≡ is_archive_line line.now }
 {
@@ -100,7 +100,7 @@ fn unknown_lines(text: Lines<'_>, front: usize, back: usize) -> (&[u8], &[u8])
     }
 }
 
-/// The first line of the text that begins with `#+ARCHIVE:`, and what is known behind the search.
+/// The first line of the text that begins with `#+ARCHIVE:`, and what is known after the search.
 /// Only the lines of which nothing was known are read.
 fn archive_line(text: Lines<'_>, searched: Searched) -> (Option<&[u8]>, Searched)
     requires { IsSearched has_archive_line searched text.bytes.now }
@@ -148,7 +148,7 @@ fn value_for<'a>(outline: &Outline<'a>, node: Node, searched: &mut Searched) -> 
     value_of_text(Lines { bytes }, searched).unwrap_or(b"%s_archive::")
 }
 
-/// What stands before and behind the first `::`.
+/// What stands before and after the first `::`.
 fn halves(value: &[u8]) -> Option<(&[u8], &[u8])>
     ensures { option_map halves_made result ≡ halves_of value.now }
 {
@@ -259,7 +259,7 @@ fn place(
 /// an archive file"): the nearest nonempty property ARCHIVE of it or a heading above it says so;
 /// else the text's first line that begins with `#+ARCHIVE:`, if it says something; else it is the
 /// top level of the file's archive file. The text is searched for such a line only where it isn't
-/// known to have none. What is known behind the search is noted.
+/// known to have none. What is known after the search is noted.
 ///
 /// # Errors
 ///

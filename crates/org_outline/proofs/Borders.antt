@@ -55,7 +55,7 @@ solid p (b ∷ l) space tab all =
       ])
     ]
 
--- ---- what is behind a run, and before one
+-- ---- what is after a run, and before one
 
 pub begins_behind : (p : ℕ → Bool) (l : List ℕ) → BeginsWithNo p (behind p l)
 begins_behind p [] = refl

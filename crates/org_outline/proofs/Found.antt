@@ -14,7 +14,7 @@ use Rattle.org_outline.specs.Paths.{titled_roots, titled_children, titled_nodes,
 use Rattle.org_outline.proofs.ByNumber.{count-is}
 use Rattle.org_outline.proofs.Taking.{size_of-room}
 
--- the numbers of roots lie before the number behind the forest
+-- the numbers of roots lie before the number after the forest
 roots_in : (states : Keywords) (title : List ℕ) (end i : ℕ) (f : Forest) → i + total f ≤ end → AllByRecursion (λ k. k < end) (titled_roots states title i f)
 roots_in states title end i Empty le = tt
 roots_in states title end i (Tree n r s kids later) le = search (rules, arith, cases_Bool, roots_in states title end (suc i + total kids) later (omega (arith, le)))
@@ -78,7 +78,7 @@ found_in states d path i is =
     let P : ℕ → Type 0 = λ i. i < node_count d in
     IfOk-at_ok P is (below_in states d path None (λ i none. absurd cc))
 
--- the numbers of nodes lie before the number behind them
+-- the numbers of nodes lie before the number after them
 nodes_in : (states : Keywords) (title : List ℕ) (end i : ℕ) (ps : List Placed) → i + length ps ≤ end → AllByRecursion (λ k. k < end) (titled_nodes states title i ps)
 nodes_in states title end i [] le = tt
 nodes_in states title end i (p ∷ ps) le = search (rules, arith, cases_Bool, nodes_in states title end (suc i) ps (omega (arith, le)))

@@ -1,4 +1,4 @@
--- What stands behind the stars of a heading line.
+-- What stands after the stars of a heading line.
 use Rattle.std.proofs.Common.{◌≡◌, ℕ, suc, ◌+◌, ◌<◌, ◌≤◌, List, ◌∷◌, ◌++◌, length, drop, take, get_or, Option, Some, None, sym, ap, subst, ◌∙◌, append_assoc, arith, eq-eqb, refl}
 use Rattle.std.proofs.lemmas.Grind.{common_steps}
 use Rattle.std.specs.Prelude.{replicate}
@@ -15,7 +15,7 @@ use Rattle.org_outline.proofs.Nodes.{heading_read, heading_is}
 use Rattle.org_outline.proofs.Sections.{node-valid, from_node}
 use Rattle.org_splice.proofs.LineWalk.{first_newline}
 
--- the line behind its stars
+-- the line after its stars
 behind : (t : List ℕ) (start level : ℕ) (rest more : List ℕ) → drop start t ≡ heading_line level rest ++ 10 ∷ more → drop (start + level) t ≡ rest ++ 10 ∷ more
 behind t start level rest more e =
     sym (drop-drop level start t) ∙ ap (drop level) (e ∙ append_assoc (replicate level 42) rest (10 ∷ more)) ∙ drop_at (replicate level 42) (rest ++ 10 ∷ more) level (length-replicate level 42)

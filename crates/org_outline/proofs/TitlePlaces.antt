@@ -1,4 +1,4 @@
--- The title of a heading line, or a priority before it, begins_so behind the gap or behind the first
+-- The title of a heading line, or a priority before it, begins_so after the gap or after the first
 -- word after it.
 use Rattle.std.proofs.Common.{rules, ◌≡◌, ℕ, zero, suc, ◌+◌, ◌-◌, ◌<◌, Bool, true, false, ◌&&◌, ◌||◌, eqb, List, [], ◌∷◌, ◌++◌, length, take, drop, refl, sym, ap, subst, ◌∙◌, append_assoc, arith, inl, inr, eq-eqb}
 use Rattle.std.proofs.lemmas.Grind.{common_steps}
@@ -18,7 +18,7 @@ use Rattle.org_outline.specs.Parts.{tags_of, keyword_of, priority_of, after_keyw
 use Rattle.org_headings.specs.Beginnings.{first_place, second_place, beginning_of, may_begin, may_begin_date, beginnings_of, may_have, sought_of}
 use Rattle.org_outline.specs.Paths.{title_of, can_begin}
 
--- ---- the bytes behind those that pass
+-- ---- the bytes after those that pass
 
 -- a byte that doesn't pass ends them
 pub behind-stop : (p : ℕ → Bool) (l : List ℕ) (b : ℕ) (z : List ℕ) → p b ≡ false → behind p (l ++ b ∷ z) ≡ behind p l ++ b ∷ z
@@ -88,14 +88,14 @@ nothing_left [] zero e = refl
 nothing_left [] (suc m) e = refl
 nothing_left (a ∷ l) m e = absurd (omega (arith, e))
 
--- behind the gap, where no keyword begins_so there
+-- after the gap, where no keyword begins_so there
 without_keyword : (states : Keywords) (content z : List ℕ) (m : ℕ) → prefix_len is_blank content ≡ 0 → keyword_of states content ≡ []
     → Begins (left_of (after_keyword states content) m) (content ++ z)
 without_keyword states content z m none no_word =
     let same : after_keyword states content ≡ content = ap (λ w. behind is_blank (drop (length w) content)) no_word ∙ ap (λ n. drop n content) none in
     subst (λ (l : List ℕ). Begins (left_of l m) (content ++ z)) (sym same) (begins content z m none)
 
--- behind the keyword, where one does
+-- after the keyword, where one does
 behind_keyword : (states : Keywords) (content z : List ℕ) (m : ℕ) → keyword_of states content ≡ front is_solid content → 0 < length (left_of (after_keyword states content) m)
     → Begins (left_of (after_keyword states content) m) (behind is_blank (behind is_solid (content ++ z)))
 behind_keyword states content z m word some =

@@ -76,7 +76,7 @@ pub record HasParts (states : Keywords) (rest : List ℕ) (parts : Parts) : Type
   pub gap_whole : BeginsWithNo is_blank (content ++ last)
   pub last_blank : IsTrue (list_all is_trailing last)
   pub last_whole : EndsWithNo is_trailing content
-  -- the content begins with the keyword, and behind its blanks with the priority
+  -- the content begins with the keyword, and after its blanks with the priority
   pub behind_keyword : List ℕ
   pub keyword : Takes (BeginsWithState states content) content parts.keyword behind_keyword
   pub first : List ℕ

@@ -14,7 +14,7 @@ module _ {X : Type 0} where
   at_front false x found rest is = absurd (none-some found is)
 
 module _ {S X : Type 0} (test : X → Bool) (f : S → X) where
-  -- the element behind those among which none meets the test is the first, if it meets it
+  -- the element after those among which none meets the test is the first, if it meets it
   pub first_at : (i : ℕ) (ss : List S) (s : S) (found : X) → i < length ss → s ≡ get_or ss i s → find test (map f (take i ss)) ≡ None
       → find test (f s ∷ []) ≡ Some found → find test (map f ss) ≡ Some found
   first_at i [] s found within is none at = absurd (omega arith)
@@ -44,7 +44,7 @@ module _ {S X : Type 0} (f : S → X) where
       → xs ++ x ∷ [] ≡ map f (take (i + 1) ss)
   mapped_more i ss s xs x within is so_far more = grind (arith, common_steps)
 
--- of two lists, one behind the other
+-- of two lists, one after the other
 module _ {X : Type 0} (test : X → Bool) where
   -- the first of the front is the first of all
   pub first_of_front : (xs ys : List X) (found : X) → find test xs ≡ Some found → find test (xs ++ ys) ≡ Some found
@@ -55,7 +55,7 @@ module _ {X : Type 0} (test : X → Bool) where
       go true later at = at
       go false later at = later at
 
-  -- behind a front that has none, the first is that of the others
+  -- after a front that has none, the first is that of the others
   pub first_behind : (xs ys : List X) → find test xs ≡ None → find test (xs ++ ys) ≡ find test ys
   first_behind [] ys none = refl
   first_behind (x ∷ xs) ys none =

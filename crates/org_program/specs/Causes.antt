@@ -68,7 +68,7 @@ IsCauseOfNames names (BadName name) = first_bad names ≡ Some (string_bytes nam
 IsCauseOfNames names (Open refused.OutOfMemory) = Unit {0}
 IsCauseOfNames names fault = ⊥
 
--- A name that may be reported to share a file in a store with these names, which are few: behind
+-- A name that may be reported to share a file in a store with these names, which are few: after
 -- the first one, in byte order, of theirs, their archive files' and the journal's.
 pub record MayBeShared (names : List (List ℕ)) (name : List ℕ) : Type 0 where
   pub few : AreFew names

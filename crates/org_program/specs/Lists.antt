@@ -5,7 +5,7 @@ use Rattle.org_disk.specs.Names.{IsOrgFile}
 use Rattle.org_outline.specs.States.{Keywords}
 use Rattle.org_program.specs.declared.arguments.Arguments.{Arguments}
 
--- what stands before, between and behind the commas of a list: one text more than it has commas
+-- what stands before, between and after the commas of a list: one text more than it has commas
 abbrev pub between_commas : List ℕ → List (List ℕ)
 between_commas list = slice_split (λ byte. byte == 44) list
 

@@ -112,7 +112,7 @@ module _ {S T : Type 0} (m : Machine S) (n : Machine T) (view : S → T) (same :
   line_by : (old : S) (line out : List ℕ) (new : S) → AnswersLine m old line out new → AnswersLine n (view old) line out (view new)
   line_by old line out new a = (a.0, a.1, read_by old a.0 out new a.2)
 
-  -- .. and what comes behind it
+  -- .. and what comes after it
   leads_by : (group : Group) (next : Next) (old : S) (read : Result Command (Fault BadLine)) (out : List ℕ) (new : S) → ReadLeadsTo group next m old read out new → ReadLeadsTo group next n (view old) read out (view new)
   leads_by (Of size) Line old read out new ran = read_by old read out new ran
   leads_by (Of size) Stop old read out new ran = absurd ran

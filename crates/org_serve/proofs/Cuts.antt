@@ -40,7 +40,7 @@ pub cut-append : (xs more : List ℕ) → cut (xs ++ more) ≡ later (cut xs) mo
 cut-append [] more = refl
 cut-append (b ∷ xs) more = grind (arith, common_steps, cut-append xs more)
 
--- what stands behind the last newline has none
+-- what stands after the last newline has none
 pub rest-free : (xs : List ℕ) → (cut (cut xs).rest).lines ≡ []
 rest-free [] = refl
 rest-free (b ∷ xs) = grind (arith, common_steps, rest-free xs)

@@ -37,7 +37,7 @@ escape-none text x more all none before =
     let stopped : in_front text (unescaped_from true (x ∷ more)) ≡ None = rw none refl in
     sym before ∙ stopped
 
--- behind the last byte
+-- after the last byte
 pub ended-plain : (text field : List ℕ) (i : ℕ) → length field ≤ i → in_front text (unescaped_from false (drop i field)) ≡ unescaped field → unescaped field ≡ Some text
 ended-plain text field i le before =
     let none : drop i field ≡ [] = drop_all i field le in

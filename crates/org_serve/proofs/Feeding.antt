@@ -12,7 +12,7 @@ use Rattle.org_serve.proofs.Cuts.{cut-both, cut-line}
 use Rattle.org_serve.specs.Pipes.{AppendsSome}
 use Rattle.org_serve.proofs.Joins.{Appends-append, Each-one, some_then}
 
--- Some lines of the bytes were run, and rest is left behind a part of a line.
+-- Some lines of the bytes were run, and rest is left after a part of a line.
 pub record Fed {S : Type 0} (group : Group) (m : Machine S) (old : S) (bytes rest : List ℕ) (new : S) (written written' : Option (List ℕ)) (pending : Pending) : Type 0 where
   pub part : List ℕ
   pub ran : List (List ℕ)

@@ -83,7 +83,7 @@ front_all fields n rest line field lt read none is =
     rw (read.front, last, take_more_set fields n field room, map_push (λ s. s.now) (take n fields) field, is) refl in
     ap command_of_fields whole
 
--- where there is a rest behind seven fields, the line has too many
+-- where there is a rest after seven fields, the line has too many
 pub too_many : (fields : Fields) (n : ℕ) (rest line : List ℕ) → 7 ≤ n → Front fields n rest line → command_of line ≡ None
 too_many fields n rest line le read = grind (arith, common_steps, length-slice_split, length-append, length-map, more_than_seven, length-take)
 
@@ -117,7 +117,7 @@ four_fields (a ∷ b ∷ c ∷ []) some few = absurd (omega arith)
 four_fields (a ∷ b ∷ c ∷ e ∷ []) some few = refl
 four_fields (a ∷ b ∷ c ∷ e ∷ f ∷ more) some few = absurd (omega arith)
 
--- A command at a place in a file: the fields behind the word are the file, the place and more.
+-- A command at a place in a file: the fields after the word are the file, the place and more.
 abbrev Within : List ℕ → List ℕ → List ℕ → Fields → Option Command → Type 0
 Within word name place more read = command_of_fields (word ∷ name ∷ place ∷ now_of more) ≡ read
 

@@ -37,7 +37,7 @@ module _ {S : Type 0} (good : S → Type 0) (m : Machine S) where
   honest_read old (Err fault) out new ran here = ((ran.0, ran.1), subst good ran.1 here)
   honest_read old (Ok command) out new ran here = ((ran.0, (ran.1.did here, here), ran.2), ran.1.before here)
 
-  -- .. and what comes behind it
+  -- .. and what comes after it
   honest_leads : (group : Group) (next : Next) (old : S) (read : Result Command (Fault BadLine)) (out : List ℕ) (new : S) → ReadLeadsTo group next Said old read out new → good new
       → ReadLeadsTo group next Sound old read out new × good old
   honest_leads (Of size) Line old read out new ran here = honest_read old read out new ran here

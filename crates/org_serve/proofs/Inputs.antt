@@ -16,7 +16,7 @@ use Rattle.org_serve.proofs.Counting.{read_apart}
 use Rattle.org_serve.proofs.Cuts.{cut-append}
 use Rattle.org_serve.proofs.Joins.{Appends-append, Consumes-append, Each-append, some_then, Appends-none, Consumes-none}
 
--- The input so far was read, its lines are answered, and what stands behind its last newline is
+-- The input so far was read, its lines are answered, and what stands after its last newline is
 -- kept.
 pub record Served {S : Type 0} (group : Group) (m : Machine S) (old new : S) (left left' written written' : Option (List ℕ)) (pending : Pending) : Type 0 where
   pub input : List ℕ
@@ -31,7 +31,7 @@ pub Served-none : {S : Type 0} {group : Group} {m : Machine S} {old : S} {left w
     → Served group m old old left left written written pending
 Served-none {left = left} {written = written} stands = record { input = []; out = []; read = Consumes-none left; passes = (refl, refl); wrote = Appends-none written; stands = stands }
 
--- lines of a piece, behind those of the input before it
+-- lines of a piece, after those of the input before it
 ends_later : {S : Type 0} {group : Group} {m : Machine S} {Last : S → List ℕ → List ℕ → S → Type 0} {old mid new : S} (input piece out more : List ℕ) → PassesAll group m old (cut input).lines out mid
     → (ends : EndsAt group m Last mid (cut ((cut input).rest ++ piece)).lines more new) → EndsAt group m Last old (cut (input ++ piece)).lines (out ++ more) new
 ends_later {group = group} {m = m} {old = old} {mid = mid} input piece out more passes ends = record {

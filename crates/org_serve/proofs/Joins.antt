@@ -41,7 +41,7 @@ pub Each-weaker : {S : Type 0} (P Q : S → List ℕ → List ℕ → S → Type
 Each-weaker P Q weaker old [] out new a = a
 Each-weaker P Q weaker old (line ∷ lines) out new a = (a.0, a.1, a.2, weaker old line a.1 a.0 a.3, a.4, Each-weaker P Q weaker a.0 lines a.2 new a.5)
 
--- a line that something comes behind is answered
+-- a line that something comes after is answered
 read_answers : {S : Type 0} (group : Group) (next : Next) (m : Machine S) (old : S) (read : Result Command (Fault BadLine)) (out : List ℕ) (new : S) → ReadLeadsTo group next m old read out new
     → AnswersRead m old read out new
 read_answers (Of size) Line m old read out new ran = ran
@@ -54,14 +54,14 @@ read_answers Whole Stop m old (Ok command) out new ran = (Err ran.0, ran.1, ran.
 pub line_answers : {S : Type 0} (group : Group) (next : Next) (m : Machine S) (old : S) (line out : List ℕ) (new : S) → LineLeadsTo group next m old line out new → AnswersLine m old line out new
 line_answers group next m old line out new a = (a.0, a.1, read_answers group next m old a.0 out new a.2)
 
--- what comes behind a command that was run
+-- what comes after a command that was run
 pub leads_run : {S : Type 0} (group : Group) (m : Machine S) (old : S) (command : Command) (answer : Result Reply RunFault) (new : S) → m.makes old (Ran command answer) new
     → ReadLeadsTo group (behind group (is_ok answer)) m old (Ok command) (answer_text answer (m.session old).acknowledged (m.session new).acknowledged) new
 leads_run (Of size) m old command answer new made = (answer, made, refl)
 leads_run Whole m old command (Ok reply) new made = (reply, made, refl)
 leads_run Whole m old command (Err fault) new made = (fault, made, refl)
 
--- .. and behind a line that isn't run
+-- .. and after a line that isn't run
 pub leads_unread : {S : Type 0} (group : Group) (m : Machine S) (old : S) (fault : Fault BadLine) → ReadLeadsTo group (behind group false) m old (Err fault) (fault_text fault) old
 leads_unread (Of size) m old fault = (refl, refl)
 leads_unread Whole m old fault = (refl, refl)
@@ -149,7 +149,7 @@ pub on_err : {A E P : Type 0} (r : Result A E) → P → OnErr r P
 on_err (Ok x) held = tt
 on_err (Err e) held = held
 
--- a flush behind a write
+-- a flush after a write
 pub then_flushed : {W A B E F : Type 0} (w : sinks.Ghosts W) {first mid new : W} {result : Result A E} (last : Result B F) {text : List ℕ} {x : A} → result ≡ Ok x
     → Writes w first mid result text → Keeps (w.written mid) (w.written new)
     → OnOk last (w.failures new ≡ w.failures mid) → OnErr last (IsCounted (w.failures mid) (w.failures new)) → Writes w first new last text

@@ -12,7 +12,7 @@ pub refused : {A E : Type 0} (found : Option A) (fault e : E) → Err e ≡ ok_o
 refused None fault e is = refl
 refused (Some x) fault e is = absurd (cc)
 
--- behind a part that is there or isn't
+-- after a part that is there or isn't
 pub behind : {A X : Type 0} (a : Option A) (more : A → Option X) → ((x : A) → more x ≡ None) → option_and_then more a ≡ None
 behind None more none = refl
 behind (Some x) more none = none x

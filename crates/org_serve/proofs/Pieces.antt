@@ -33,7 +33,7 @@ wrote_some old now new pieces k d lt before some =
     sym (flat_map-append (λ (piece : Bor (List ℕ)). piece.now) (take (k + 1) pieces) (drop (k + 1) pieces)) ∙ ap bytes_of (take-append-drop (k + 1) pieces) in
     subst (AppendsSome old new) all (some_first old new (bytes_of (take (k + 1) pieces)) (bytes_of (drop (k + 1) pieces)) first)
 
--- a number, a byte, and what stands behind it
+-- a number, a byte, and what stands after it
 pub number_then : (word digits : List ℕ) (b : ℕ) (text end : List ℕ) → word ++ (digits ++ (b ∷ (text ++ end))) ≡ word ++ digits ++ (b ∷ []) ++ text ++ end
 number_then word digits b text end =
     sym (append_assoc word digits (b ∷ (text ++ end))) ∙ sym (append_assoc (word ++ digits) (b ∷ []) (text ++ end)) ∙ sym (append_assoc (word ++ digits ++ (b ∷ [])) text end)

@@ -68,12 +68,12 @@ module _ {D : Type 0} (g : Ghosts D)
   abbrev Between : StoreView D → StoreView D → Type 0
   Between old new = Passes (g.instant old.disk) (g.instant new.disk) (g.left_since old.disk) (g.left_since new.disk) Target
 
-  -- so many commands were acknowledged at `start`, or accepted behind it as `settle` was run
+  -- so many commands were acknowledged at `start`, or accepted after it as `settle` was run
   pub record IsSettledCount (count : ℕ) : Type 0 where
     pub settled : (count ≡ start.store.session.acknowledged) ⊎ ((mid : Trace D) × SettlesAt Said start lines out later mid × (count ≡ mid.store.session.accepted))
     pub least : start.store.session.acknowledged ≤ count
 
-  -- A state between the two that isn't broken; `ahead` are the lines behind it.
+  -- A state between the two that isn't broken; `ahead` are the lines after it.
   pub record Stands (here : Trace D) (ahead : List (List ℕ)) (more : List ℕ) : Type 0 where
     pub answered : List (List ℕ)
     pub written : List ℕ
@@ -169,7 +169,7 @@ module _ {D : Type 0} (g : Ghosts D)
         target here (line ∷ ahead) more a stands here.store.session.accepted here.store.session.files image (counts_here here.store.session.accepted refl)
         ((lists_here here (line ∷ ahead) more a stands).files stands.sound) (inr (λ name. refl)) held
 
-  -- One line, and what is behind it.
+  -- One line, and what is after it.
   module _ (here : Trace D) (line : List ℕ) (ahead : List (List ℕ)) (more : List ℕ) (a : Answers Said here (line ∷ ahead) more later) (stands : Stands here (line ∷ ahead) more)
       (further : Stands a.0 ahead a.2 → Between a.0.store later.store) where
     honest_mid : g.honest a.0.store.disk

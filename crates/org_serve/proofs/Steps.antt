@@ -17,7 +17,7 @@ use Rattle.org_serve.proofs.Escapes.{HasNoSlash, no_slash-cons, no_slash-escaped
 
 -- ---- the mark
 
--- a title that is escaped has none, so that it is looked for behind it
+-- a title that is escaped has none, so that it is looked for after it
 mark-behind : (at : ℕ) (text tail : List ℕ) → mark_from false at (escaped text ++ tail) ≡ mark_from false (at + length (escaped text)) tail
 mark-behind at [] tail = let here : at ≡ at + 0 = omega arith in ap (λ k. mark_from false k tail) here
 mark-behind at (b ∷ bytes) tail = grind (arith, common_steps, mark-behind (suc (suc at)) bytes tail, mark-behind (suc at) bytes tail)

@@ -41,7 +41,7 @@ if_err_always (Err e) held = held
 pub leaves_as : {m n : ℕ} {s u : ℕ → Image → Type 0} {P Q : Image → Type 0} → LeavesOnly m n s u P → ((image : Image) → P image → Q image) → LeavesOnly m n s u Q
 leaves_as leaves weaker = record { each = λ image left. weaker image (leaves.each image left); passes = passes_as leaves.passes weaker }
 
--- the syncs, and a run behind them
+-- the syncs, and a run after them
 pub leaves_behind : {m n k : ℕ} {s u v : ℕ → Image → Type 0} {P Q R : Image → Type 0} → LeavesOnly m n s u P → LeavesOnly n k u v Q
     → ((image : Image) → P image → R image) → ((image : Image) → Q image → R image) → LeavesOnly m k s v R
 leaves_behind {m} first second early late = grind (arith, common_steps)
@@ -180,7 +180,7 @@ module _ {D : Type 0} (g : Ghosts D)
         (λ image left. inl left)
         (λ h image before. let m = served.began h in inr (as_read (g.files disk) (g.files mid) (own m) (images m) setup.names.items (synced m) outside image before))
 
-  -- what is setup.names.items back of a run behind the syncs
+  -- what is setup.names.items back of a run after the syncs
   module _ {now : D} {end : Result ServeEnd OpenFault} (h : g.honest mid) (later : LeavesDiskOfRun g setup mid now end) where
     still_leaves_disk : LeavesDiskOfRun g setup disk now end
     still_leaves_disk = record {
@@ -219,7 +219,7 @@ module _ {D : Type 0} (g : Ghosts D)
 abbrev pub RunsDisk : {D : Type 0} → Ghosts D → Setup → ℕ → D → D → Result ServeEnd OpenFault → Exchange → Type 0
 RunsDisk g setup max_reads disk now end io = RunsAs g setup max_reads disk now end io (λ end. ServesDisk g setup disk now end io) (LeavesDiskOfRun g setup disk now end)
 
--- the files were synced, and this is said of the run behind that
+-- the files were synced, and this is said of the run after that
 pub runs_synced : {D : Type 0} (g : Ghosts D)
     → ((disk : D) (name : List ℕ) → g.honest disk → IsImage (g.files disk name) (g.files disk name).content)
     → ((disk : D) (t : ℕ) (image : Image) → g.honest disk → t ≤ g.instant disk → AreImages (g.files disk) image → g.left_since disk t image)

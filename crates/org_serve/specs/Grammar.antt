@@ -21,7 +21,7 @@ use Rattle.org_fault.specs.declared.fault.Fault.{Fault}
 use Rattle.org_serve.specs.declared.fault.BadLine.{BadLine}
 use Rattle.org_fault.specs.declared.fault.Fault.TheVariants.{Refused, OutOfMemory}
 
--- what a letter behind a backslash stands for: `\n` a newline, `\t` a tab, `\\` a backslash, `\s` a
+-- what a letter after a backslash stands for: `\n` a newline, `\t` a tab, `\\` a backslash, `\s` a
 -- slash
 abbrev pub escape : ℕ → Option ℕ
 escape b =
@@ -29,7 +29,7 @@ escape b =
     else (if b == 116 then Some 9
     else (if b == 92 then Some 92 else (if b == 115 then Some 47 else None)))
 
--- the bytes that the rest of a field stands for; true behind a backslash
+-- the bytes that the rest of a field stands for; true after a backslash
 abbrev pub unescaped_from : Bool → List ℕ → Option (List ℕ)
 unescaped_from false [] = Some []
 unescaped_from true [] = None
@@ -69,7 +69,7 @@ digits_of most field =
 abbrev pub number_of : List ℕ → Option ℕ
 number_of field = if slice_index field 0 == 48 then None else digits_of 9 field
 
--- where the `#` of the first `\#` stands, at the earliest at `at`; true behind a backslash that
+-- where the `#` of the first `\#` stands, at the earliest at `at`; true after a backslash that
 -- begins an escape
 abbrev pub mark_from : Bool → ℕ → List ℕ → Option ℕ
 mark_from is_escaped at [] = None
@@ -77,7 +77,7 @@ mark_from is_escaped at (b ∷ bytes) =
     if is_escaped && b == 35 then Some at
     else mark_from (not is_escaped && b == 92) (suc at) bytes
 
--- a step with a mark there: its title stands before the mark, its number behind it
+-- a step with a mark there: its title stands before the mark, its number after it
 abbrev pub step_at : List ℕ → Option ℕ → Option Step
 step_at field None =
     option_map (λ title. let step : Step = record { title = title; number = None } in step)

@@ -6,7 +6,7 @@ use Rattle.org_serve.specs.declared.fault.BadLine.{BadLine}
 use Rattle.org_fault.specs.declared.fault.Fault.TheVariants.{Refused, OutOfMemory}
 use Rattle.org_serve.specs.declared.pending.Pending.{Pending}
 
--- the lines of a stream, without their newlines, and what stands behind the last newline
+-- the lines of a stream, without their newlines, and what stands after the last newline
 pub record Cut : Type 0 where
   pub lines : List (List ℕ)
   pub rest : List ℕ
@@ -24,7 +24,7 @@ cut (b ∷ bytes) =
     if b == 10 then record { lines = [] ∷ later.lines; rest = later.rest }
     else onto b later.lines later.rest
 
--- lines, each with its newline, and what stands behind them
+-- lines, each with its newline, and what stands after them
 abbrev pub joined : List (List ℕ) → List ℕ → List ℕ
 joined [] rest = rest
 joined (line ∷ lines) rest = line ++ 10 ∷ joined lines rest

@@ -1,7 +1,7 @@
 -- What a run over synced files promises, in one place: README's six sentences, by their names.
 --
 -- A run is given a disk, opens a store over it, answers lines, and gives the disk back. Its states
--- are the store as it was opened, the store behind each line that was run, and the store at the
+-- are the store as it was opened, the store after each line that was run, and the store at the
 -- end. A state, a `Trace`, has a disk, the session of the store, and a list: at place n stand the
 -- texts of all files after the first n accepted commands. What is said of a state is said where the
 -- disk is honest there: each of its answers was right up to then.

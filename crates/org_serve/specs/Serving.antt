@@ -95,14 +95,14 @@ RefusesRead m old (Err fault) out new = (out ≡ fault_text fault) × (new ≡ o
 RefusesRead m old (Ok command) out new =
     (fault : RunFault) × m.makes old (Ran command (Err fault)) new × (out ≡ fault_line fault)
 
--- what comes behind a line in a store with this group: the next one; or the end, where commands are
+-- what comes after a line in a store with this group: the next one; or the end, where commands are
 -- to be done whole, and the line isn't done
 abbrev pub behind : Group → Bool → Next
 behind (Of size) is_done = Line
 behind Whole true = Line
 behind Whole false = Stop
 
--- what a line was read as is answered so, and this comes behind it
+-- what a line was read as is answered so, and this comes after it
 abbrev pub ReadLeadsTo : {S : Type 0} → Group → Next → Machine S → S
     → Result Command (Fault BadLine)
     → List ℕ → S → Type 0
@@ -122,7 +122,7 @@ abbrev pub AnswersLine : {S : Type 0} → Machine S → S → List ℕ → List 
 AnswersLine m old line out new =
     (read : Result Command (Fault BadLine)) × IsReadAs line read × AnswersRead m old read out new
 
--- .. and this comes behind it
+-- .. and this comes after it
 abbrev pub LineLeadsTo : {S : Type 0} → Group → Next → Machine S → S → List ℕ → List ℕ → S → Type 0
 LineLeadsTo group next m old line out new =
     (read : Result Command (Fault BadLine))
@@ -156,7 +156,7 @@ AnswersEach {S = S} OneLine old (line ∷ lines) out new =
 abbrev pub Answers : {S : Type 0} → Machine S → S → List (List ℕ) → List ℕ → S → Type 0
 Answers m = AnswersEach (AnswersLine m)
 
--- .. and behind the last of them serving goes on
+-- .. and after the last of them serving goes on
 abbrev pub PassesAll : {S : Type 0} → Group → Machine S → S → List (List ℕ) → List ℕ → S → Type 0
 PassesAll group m = AnswersEach (Passes group m)
 
@@ -184,7 +184,7 @@ FeedsAll group m old bytes new output pending =
     × Stands pending (cut bytes).rest
 
 -- Its lines are answered up to one at which serving ends: of the last piece, which has so many
--- bytes, fewer stand behind that line.
+-- bytes, fewer stand after that line.
 abbrev pub FeedsToEnd : {S : Type 0} → Group → Machine S → S → List ℕ → ℕ → S → Output → Type 0
 FeedsToEnd group m old bytes piece new output =
     (out : List ℕ) × (later : List ℕ)
@@ -231,7 +231,7 @@ pub record EndsLine {D W E : Type 0} (g : Ghosts D) (w : sinks.Ghosts W) (group 
 
 -- The end of the input.
 
--- What stands behind the last newline is no line: it is answered so, and not run.
+-- What stands after the last newline is no line: it is answered so, and not run.
 abbrev pub AnswersRest : List ℕ → List ℕ → Type 0
 AnswersRest [] out = out ≡ []
 AnswersRest (b ∷ bytes) out = (out ≡ bad_line) ⊎ (out ≡ no_memory)
@@ -245,7 +245,7 @@ abbrev pub unrefused_end : Session → ServeEnd
 unrefused_end s =
     if nat_lt s.acknowledged s.accepted || s.broken then refused_end s else End
 
--- .. and one of which each line is done, and this stands behind the last newline
+-- .. and one of which each line is done, and this stands after the last newline
 abbrev pub whole_end : List ℕ → Session → ServeEnd
 whole_end [] s = unrefused_end s
 whole_end (b ∷ bytes) s = refused_end s
@@ -284,7 +284,7 @@ abbrev pub FinishesGroups : {S : Type 0} → Machine S → S → ServeEnd → Li
 FinishesGroups m old end out new =
     let s = m.session old in EndsBy m s.broken (nat_lt s.acknowledged s.accepted) old end out new
 
--- Serving ends at the end of an input behind whose last newline this stands. Commands of a group
+-- Serving ends at the end of an input after whose last newline this stands. Commands of a group
 -- are settled then; where they are to be done whole, nothing is.
 abbrev pub Finishes : {S : Type 0} → Group → Machine S → List ℕ → S → ServeEnd → List ℕ → S
     → Type 0
@@ -292,7 +292,7 @@ Finishes (Of size) m rest old end out new = FinishesGroups m old end out new
 Finishes Whole m rest old end out new =
     (end ≡ whole_end rest (m.session old)) × (out ≡ []) × (new ≡ old)
 
--- What stands behind the last newline is answered, and then the end is made.
+-- What stands after the last newline is answered, and then the end is made.
 abbrev pub EndsWith : {S : Type 0} → Group → Machine S → List ℕ → S → ServeEnd → S → Output → Type 0
 EndsWith group m part old end new output =
     (last : List ℕ) × (tail : List ℕ)
@@ -301,7 +301,7 @@ EndsWith group m part old end new output =
     × Adds output (last ++ tail)
 
 -- What is written at the end of the input, where so many commands are acknowledged then: for what
--- stands behind the last newline, and for the settling.
+-- stands after the last newline, and for the settling.
 abbrev pub EndsText : Group → List ℕ → ℕ → List ℕ → Type 0
 EndsText (Of size) rest acknowledged text =
     (last : List ℕ) × (answer : Result (Unit {0}) RunFault)
@@ -340,7 +340,7 @@ abbrev pub most_read : ℕ
 most_read = 4096
 
 -- The input was read up to a line that isn't done, which is the last: the replies to the lines up
--- to that one are what was written, and fewer bytes than one read gives were read behind it.
+-- to that one are what was written, and fewer bytes than one read gives were read after it.
 abbrev pub ServesToEnd : {S : Type 0} → Group → Machine S → S → ServeEnd → S → Exchange → Type 0
 ServesToEnd group m old end new io =
     (input : List ℕ) × (out : List ℕ) × (later : List ℕ)

@@ -36,7 +36,7 @@ pub record Begins (setup : Setup) (files : Image) (begin : Session) : Type 0 whe
       { group = setup.group }
 
 -- The file of this name is none of a run's: it isn't one of a store's with these names, nor the
--- journal, which has these bytes, and no record names it that stands behind an open gate.
+-- journal, which has these bytes, and no record names it that stands after an open gate.
 pub record IsForeign (given : List (List ℕ)) (journal name : List ℕ) : Type 0 where
   pub outside : IsNotStored given name
   pub unconcerned : IsUnconcerned journal name
@@ -53,7 +53,7 @@ pub record ServesOver {D : Type 0} (g : Ghosts D) (setup : Setup) (disk now : D)
     (io : Exchange) : Type 0 where
   pub first : Trace D
   pub last : Trace D
-  -- a disk that is honest behind the opening was so before it
+  -- a disk that is honest after the opening was so before it
   pub began : g.honest first.store.disk → g.honest disk
   -- what a crash had cut short was finished; a closed gate's byte was kept
   pub reopened : g.honest first.store.disk → IsReopened (g.files disk) (g.files first.store.disk)
@@ -94,7 +94,7 @@ module _ {D : Type 0} {g : Ghosts D} {setup : Setup} {disk now : D} {end : Serve
       HoldsSince served.first.store.session (contents (g.files served.first.store.disk)) here later
 
   -- The image recovers to the files after the commands that were acknowledged at the one store, or
-  -- after all that were accepted behind it as `settle` was run: these lines lead from the one to
+  -- after all that were accepted after it as `settle` was run: these lines lead from the one to
   -- the other by these bytes.
   abbrev pub HoldsWhole : (here : Trace D) → List (List ℕ) → List ℕ → (later : Trace D) → Image
       → Type 0

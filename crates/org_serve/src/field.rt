@@ -129,7 +129,7 @@ pub fn file(alloc: Global, field: &[u8]) -> Result<FileName, Fault<BadLine>>
     named(alloc, &name)
 }
 
-// Where the `#` of the first `\#` stands that isn't behind an escaped backslash.
+// Where the `#` of the first `\#` stands that isn't after an escaped backslash.
 fn mark(field: &[u8]) -> Option<usize>
     ensures place { result ≡ mark_from false 0 field.now }
     ensures within { IfSome result (λ at. (1 ≤ at) × (at < length field.now)) }
@@ -163,7 +163,7 @@ fn digits(field: &[u8], most: usize) -> Option<usize>
     Some(number)
 }
 
-// The number that stands behind the mark of a step.
+// The number that stands after the mark of a step.
 fn number(field: &[u8]) -> Option<u32>
     ensures { result ≡ number_of field.now }
 {

@@ -41,7 +41,7 @@ ghost use Rattle.org_serve.specs.Replies.{answer_text, safe_line, reported_safe}
 
 use org_disk::Disk;
 
-/// The lines of any bytes, each with its newline, and what stands behind the last newline are those
+/// The lines of any bytes, each with its newline, and what stands after the last newline are those
 /// bytes; and no line holds a newline, nor does the rest.
 pub fn lines_and_rest_are_the_bytes()
     ensures whole { (bytes : List ℕ) → joined (cut bytes).lines (cut bytes).rest ≡ bytes }
@@ -141,7 +141,7 @@ pub fn every_image_opens<D: Disk>()
         → All (AreSmall first.store.session.names) first.texts → D.honest last.store.disk
         → RunsLines (traces_while_honest D.Disk) first last end io
         → HoldsPrefix first.store.session others last.texts least image → IsOpenable given image }
-    // `IsDurable` of `serve_synced`, behind the opening
+    // `IsDurable` of `serve_synced`, after the opening
     ensures whole { (setup : Setup) (disk now : D) (end : ServeEnd) (io : Exchange)
         (served : ServesOver D.Disk setup disk now end io) (here : Trace D) (least : ℕ)
         (image : Image) → IsIntermediate served here → D.honest here.store.disk

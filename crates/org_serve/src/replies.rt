@@ -17,7 +17,7 @@ use org_fault::Fault;
 use org_store::{Refusal, Reply, RunFault};
 
 /// The most bytes that are written for a command that is done: `ok ` and `safe `, a number of at
-/// most 20 digits behind each, and two newlines.
+/// most 20 digits after each, and two newlines.
 const DONE_BYTES: usize = 50;
 
 /// Writes the answer to a command, and flushes. Before the command, `before` commands were on the

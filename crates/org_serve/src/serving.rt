@@ -28,7 +28,7 @@ use std::alloc::Global;
 // The most bytes of one read.
 const PIECE: usize = 4096;
 
-// What comes behind a line that was answered.
+// What comes after a line that was answered.
 #[derive(Clone, Copy)]
 enum Next {
     // The next line.
@@ -40,7 +40,7 @@ enum Next {
 /// Answers the lines of a reader by a store, in at most this many reads. A line is answered as soon
 /// as its newline was read, whatever pieces the bytes come in. At the end of the input what isn't
 /// settled yet is settled. But where the store's group is whole, nothing is settled then, and a
-/// line that is answered by a refusal or a fault is the last one: no read is made behind it.
+/// line that is answered by a refusal or a fault is the last one: no read is made after it.
 ///
 /// Where it ends with `End`, `Unsettled` or `Device`, and the disk is honest then, the input was
 /// read to its end, and what was written is its transcript; or the group is whole, a line was the
@@ -107,7 +107,7 @@ pub fn serve<D: Disk, R: Source, W: Sink>(
     ServeEnd::Read
 }
 
-// Answers each line that a piece completes, and keeps the rest of it; or stops behind a line.
+// Answers each line that a piece completes, and keeps the rest of it; or stops after a line.
 fn feed<D: Disk, W: Sink>(
     alloc: Global,
     store: &mut Store<D>,
@@ -195,7 +195,7 @@ fn answer_read<D: Disk, W: Sink>(
     }
 }
 
-// What comes behind a line that is done or isn't.
+// What comes after a line that is done or isn't.
 fn behind(group: Group, is_done: bool) -> Next
     ensures { result ≡ behind group is_done }
 {
@@ -273,7 +273,7 @@ fn unrefused_end<D: Disk>(store: &Store<D>) -> ServeEnd
     ServeEnd::End
 }
 
-// Answers what stands behind the last newline.
+// Answers what stands after the last newline.
 fn answer_rest<W: Sink>(pending: &Pending, writer: &mut W) -> Result<(), PipeFault>
     ensures rest { (part : List ℕ) → Stands pending.now part
         → (last : List ℕ) × AnswersRest part last

@@ -18,7 +18,7 @@ begin_shorter size other final place (patch ∷ patches) long rise within begin 
 pub Fit-between : (patches : List (ℕ × List ℕ)) (final size other : ℕ) → Rise 0 patches → last_end 0 patches ≤ final → min size final ≤ other → Fit patches final size → Fit patches final other
 Fit-between patches final size other rise within long fit = grind (arith, common_steps, begin_shorter)
 
--- the sizes don't matter to the patches that begin behind them
+-- the sizes don't matter to the patches that begin after them
 begin_behind : (size other place : ℕ) (patches : List (ℕ × List ℕ)) → size ≤ place → Rise place patches → BeginWithin size place patches → BeginWithin other place patches
 begin_behind size other place [] short rise begin = tt
 begin_behind size other place (patch ∷ patches) short rise begin =

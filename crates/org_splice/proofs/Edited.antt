@@ -30,7 +30,7 @@ module _ (at removed added old_size : ℕ) (within : at + removed ≤ old_size) 
   AreChanged-changed_by ranges are = grind (arith, common_steps, LieApart-cut_at, LieApart-with_range, cut_at, own_rises, own_within, length-with_range, length-cut_at)
 
   -- a position that stays outside the changed ranges is outside them before, and lies before the
-  -- splice, or behind one that keeps the length
+  -- splice, or after one that keeps the length
   pub IsUnchanged-changed_by : (ranges : List Span) (i : ℕ) → AreChanged old_size ranges → i < old_size - removed + added → IsUnchanged (changed_by at removed added (old_size - removed + added) ranges) i
       → ((i < at) ⊎ ((removed ≡ added) × (at + added ≤ i))) × IsUnchanged ranges i
   unfolding own size

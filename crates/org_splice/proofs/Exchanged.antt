@@ -15,7 +15,7 @@ both_true : (a b : Bool) → (a && b) ≡ true → (a ≡ true) × (b ≡ true)
 both_true true b is = (refl, is)
 both_true false b is = absurd (false≢true is)
 
--- The text is what stands before the bytes, these, and what stands behind them.
+-- The text is what stands before the bytes, these, and what stands after them.
 pub record Parts (text : List ℕ) (at : ℕ) (old : List ℕ) : Type 0 where
   pub front : List ℕ
   pub back : List ℕ
@@ -42,7 +42,7 @@ has_there front old back at long =
     let same : bytes_eq old old ≡ true = (bytes_eq-Decides old old).1 refl in
     rw (within, rest, own) same
 
--- what stands behind bytes is had there, whatever they are
+-- what stands after bytes is had there, whatever they are
 pub has_behind : (front back : List ℕ) (k : ℕ) (old : List ℕ) → has_at (front ++ back) (length front + k) old ≡ has_at back k old
 has_behind front back k old =
     let rest : drop (length front + k) (front ++ back) ≡ drop k back = drop-append-add front back k in
@@ -89,7 +89,7 @@ taken_back text at old new made is = elim (cases_Bool (has_at text at old)) [
 
 -- ---- two edits
 
--- the edit behind another, where the other is made first
+-- the edit after another, where the other is made first
 module _ (text : List ℕ) (at : ℕ) (old new : List ℕ) (p : Parts text at old) (k : ℕ) (more other : List ℕ) where
   -- the text with the first edit
   abbrev made : List ℕ
@@ -106,7 +106,7 @@ module _ (text : List ℕ) (at : ℕ) (old new : List ℕ) (p : Parts text at ol
       ap (λ (t : List ℕ). has_at t there more) (split new) ∙ ap (λ (n : ℕ). has_at ((p.front ++ new) ++ p.back) n more) (omega (arith, second, p.long, length-append p.front new)) ∙ has_behind (p.front ++ new) p.back k more in
       back_new ∙ sym back_old
 
--- Two edits of which the first ends before the second begins may be made in either order: the one behind is moved by the difference of the lengths.
+-- Two edits of which the first ends before the second begins may be made in either order: the later one is moved by the difference of the lengths.
 pub apart_commute : (text : List ℕ) (at : ℕ) (old new : List ℕ) (behind : ℕ) (more other : List ℕ) → at + length old ≤ behind
     → replaced_then (replaced text at old new) (behind - length old + length new) more other ≡ replaced_then (replaced text behind more other) at old new
 apart_commute text at old new behind more other apart = elim (cases_Bool (has_at text at old)) [
@@ -133,7 +133,7 @@ apart_commute text at old new behind more other apart = elim (cases_Bool (has_at
     second_is : (q : Parts text behind more) → replaced text behind more other ≡ Some (q.front ++ (other ++ q.back))
     second_is q = ap (λ (t : List ℕ). replaced t behind more other) q.whole ∙ replaced_there q.front more q.back other behind q.long
 
-    -- the second is behind the first by so many bytes
+    -- the second is after the first by so many bytes
     k : ℕ
     k = behind - (at + length old)
 

@@ -17,7 +17,7 @@ pub joined_before : (size : ℕ) (first : Span) (ranges all : List Span) (own ra
     → IsJoinedSoFar size first ranges (all ++ range ∷ []) own rest
 joined_before size first ranges all own range rest before done = grind (arith, common_steps, append_assoc, joined, cond-true, lt-ltb, LieApart-earlier)
 
--- one that lies behind it is at hand then
+-- one that lies after it is at hand then
 pub joined_behind : (size : ℕ) (first : Span) (ranges all : List Span) (own range : Span) (rest : List Span) → own.end < range.start → IsJoinedSoFar size first ranges all own (range ∷ rest)
     → IsJoinedSoFar size first ranges (all ++ own ∷ []) range rest
 joined_behind size first ranges all own range rest behind done = grind (arith, common_steps, append_assoc, joined, joined-apart, cond-false, le-ltb, cond-true, lt-ltb, LieApart-earlier)

@@ -14,7 +14,7 @@ last_end-place place [] rise = omega arith
 last_end-place place (patch ∷ patches) rise = omega (arith, rise.0, last_end-place (end_of patch) patches rise.1)
 
 -- A text that reaches as far as a text of this size and the patches up to this place do. With the
--- patches behind it applied to it, it reaches as far as they do.
+-- patches after it applied to it, it reaches as far as they do.
 pub length-patched_each : (size place : ℕ) (patches : List (ℕ × List ℕ)) (text : List ℕ) → length text ≡ max size place → Rise place patches → BeginWithin size place patches → length (patched_each patches text) ≡ max size (last_end place patches)
 length-patched_each size place [] text long rise begin = long
 length-patched_each size place (patch ∷ patches) text long rise begin =

@@ -71,7 +71,7 @@ module _ (has : List ℕ → Bool) (lines : StandsInLines has) where
       let m = between a b (take e.at t) rest (sym parts ∙ append_assoc (take e.at t) e.bytes (drop (e.at + e.removed) t)) (omega (arith, le, here, length-take-le e.at t within)) in
       known a (m.more ++ drop e.at t) (sym (take-append-drop e.at t) ∙ ap (λ (x : List ℕ). x ++ drop e.at t) m.left ∙ append_assoc a m.more (drop e.at t)) whole here
 
-  -- what ends a terminated text is terminated behind other bytes, too
+  -- what ends a terminated text is terminated after other bytes, too
   end_terminated : (p q c : List ℕ) → terminated (p ++ c) ≡ p ++ c → 0 < length c → terminated (q ++ c) ≡ q ++ c
   end_terminated p q [] whole some = absurd (omega (arith, some))
   end_terminated p q (x ∷ c) whole some =
@@ -100,7 +100,7 @@ module _ (has : List ℕ → Bool) (lines : StandsInLines has) where
   ends_edited front back t e low within high known =
       (front_edited front t e low (omega (arith, within)) known.0, back_edited back t e within high known.1)
 
--- what stays known behind an edit, of the text before it
+-- what stays known after an edit, of the text before it
 pub record Fewer (old : Searched) (front back : ℕ) : Type 0 where
   pub still : (has : List ℕ → Bool) → StandsInLines has → (t : List ℕ) → IsSearched has old t → IsSearched has (Ends front back) t
 
@@ -110,7 +110,7 @@ fewer_none front back = record { still = λ has lines t known. (without_front ha
 pub fewer_ends : (front back less fewer : ℕ) → less ≤ front → fewer ≤ back → Fewer (Ends front back) less fewer
 fewer_ends front back less fewer low high = record { still = λ has lines t known. (front_less has lines front less t low known.0, back_less has lines back fewer t high known.1) }
 
--- where the bytes behind an edit begin, and how many these are
+-- where the bytes after an edit begin, and how many these are
 pub record Stands (e : Edit) (size front back : ℕ) : Type 0 where
   pub low : front ≤ e.at
   pub high : (n : ℕ) → size ≤ n → e.at + e.removed ≤ n → back ≤ n - (e.at + e.removed)

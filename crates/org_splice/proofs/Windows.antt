@@ -19,7 +19,7 @@ use Rattle.org_splice.proofs.Places.{edits_in_place}
 pub AreChanged-wider : (size wider : ℕ) (ranges : List Span) → size ≤ wider → AreChanged size ranges → AreChanged wider ranges
 AreChanged-wider size wider ranges more are = record { apart = LieApart-wider 0 size wider ranges more are.apart; few = are.few }
 
--- what the code has of the changed ranges behind a splice, by parts that are equal
+-- what the code has of the changed ranges after a splice, by parts that are equal
 pub changed_are : (at removed added size : ℕ) (text : List ℕ) (ranges kept new : List Span) → kept ≡ ranges → size ≡ length text - removed + added → new ≡ changed_by at removed added size kept
     → new ≡ changed_by at removed added (length text - removed + added) ranges
 changed_are at removed added size text ranges kept new same long made =

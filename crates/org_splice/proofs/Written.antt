@@ -68,7 +68,7 @@ module _ (bytes : List ℕ) where
   begin-own place other [] apart = tt
   begin-own place other (range ∷ ranges) apart = (omega (arith, apart.1, apart.2), begin-own (range.end + 1) (end_of (patch_of bytes range)) ranges apart.3)
 
-  -- They fit a text of this size if all behind its end is in a range.
+  -- They fit a text of this size if all after its end is in a range.
 
   module _ (size : ℕ) where
     begin-ranges : (place : ℕ) (ranges : List Span) → LieApart place (length bytes) ranges → ((i : ℕ) → place ≤ i → i < length bytes → IsUnchanged ranges i → i < size) → BeginWithin size place (map (patch_of bytes) ranges)

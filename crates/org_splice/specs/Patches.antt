@@ -13,11 +13,11 @@ patched_each (patch ∷ patches) text = patched_each patches (overwritten patch.
 abbrev pub patched : List (ℕ × List ℕ) → ℕ → List ℕ → List ℕ
 patched patches final text = take final (patched_each patches text)
 
--- the place behind a patch
+-- the place after a patch
 abbrev pub end_of : ℕ × List ℕ → ℕ
 end_of patch = patch.0 + length patch.1
 
--- the place behind the last of the patches, and this one where there are none
+-- the place after the last of the patches, and this one where there are none
 abbrev pub last_end : ℕ → List (ℕ × List ℕ) → ℕ
 last_end place [] = place
 last_end place (patch ∷ patches) = last_end (end_of patch) patches
@@ -37,7 +37,7 @@ pub record AreWellFormed (patches : List (ℕ × List ℕ)) (final : ℕ) : Type
   pub full : (length patches ≡ 1) ⊎ AllByRecursion (λ patch. 1 ≤ length patch.1) patches
   pub within : last_end 0 patches ≤ final
 
--- no patch begins behind both the end of a text of this size and the end of the patch before
+-- no patch begins after both the end of a text of this size and the end of the patch before
 abbrev pub BeginWithin : ℕ → ℕ → List (ℕ × List ℕ) → Type 0
 BeginWithin size place [] = Unit {0}
 BeginWithin size place (patch ∷ patches) =

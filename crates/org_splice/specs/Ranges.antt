@@ -21,7 +21,7 @@ abbrev pub IsUnchanged : List Span → ℕ → Type 0
 IsUnchanged [] i = Unit {0}
 IsUnchanged (range ∷ ranges) i = ((i < range.start) ⊎ (range.end ≤ i)) × IsUnchanged ranges i
 
--- the ranges, cut at the end of a text of this size; those that begin there or behind are left out
+-- the ranges, cut at the end of a text of this size; those that begin there or after are left out
 abbrev pub cut_at : ℕ → List Span → List Span
 cut_at size [] = []
 cut_at size (range ∷ ranges) =

@@ -86,7 +86,7 @@ impl Editing {
     }
 
     /// Puts bytes in the place of `removed` bytes from the byte position `at` on. The text is
-    /// changed in place: what stands behind the removed bytes moves once.
+    /// changed in place: what stands after the removed bytes moves once.
     ///
     /// # Errors
     ///
@@ -138,7 +138,7 @@ impl Editing {
         self.splice(edit.at, edit.removed, edit.bytes.as_slice())
     }
 
-    /// Makes edits that lie near one another, one after another: what stands behind them moves
+    /// Makes edits that lie near one another, one after another: what stands after them moves
     /// once. None, with nothing changed, where they lie far apart. The part that was replaced holds
     /// all that they touch.
     ///

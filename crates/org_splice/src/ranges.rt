@@ -96,7 +96,7 @@ fn with_range(
     Ok(all)
 }
 
-/// The changed ranges behind an edit that leaves a text of this size: `removed` bytes from `at` on
+/// The changed ranges after an edit that leaves a text of this size: `removed` bytes from `at` on
 /// gave way to `added` others. They are put into a list that isn't needed any more.
 ///
 /// # Errors

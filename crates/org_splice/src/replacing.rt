@@ -1,4 +1,4 @@
-//! Bytes put in the place of others, in one move of what stands behind them.
+//! Bytes put in the place of others, in one move of what stands after them.
 //!
 //! It is a splice of a vector, without an iterator; nothing is noted of what changed. The tail is
 //! turned by the difference of the lengths, which moves it at once where that is small.

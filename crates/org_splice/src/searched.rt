@@ -1,7 +1,7 @@
-//! What is known of a text behind a search.
+//! What is known of a text after a search.
 //!
 //! What is sought stands in whole lines, as a clock that runs or a line that begins with a word. An
-//! edit leaves the bytes before it and behind it as they were, and so what is known of them. The
+//! edit leaves the bytes before it and after it as they were, and so what is known of them. The
 //! next search reads the lines between.
 ghost use Rattle.std.specs.Prelude.{Bool, List, ℕ};
 ghost use Rattle.org_splice.specs.Searched.{FollowsEdit, IsSearched, StandsInLines, StaysSearched};
@@ -27,7 +27,7 @@ impl Searched {
         Searched::Ends { front: 0, back: 0 }
     }
 
-    /// What is known behind an edit of a text of this size, or of a larger one. It is so of the
+    /// What is known after an edit of a text of this size, or of a larger one. It is so of the
     /// text before the edit, too.
     pub fn behind(self, size: usize, edit: &Edit) -> Searched
         ensures edited { FollowsEdit size edit.now self result }

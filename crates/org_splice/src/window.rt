@@ -1,7 +1,7 @@
 //! Edits that lie near one another, made beside the text that they are of.
 //!
 //! The part of the text that they touch is copied, edited, and then put back at once. What stands
-//! before and behind it doesn't move till then. An edit that reaches beyond the part is found.
+//! before and after it doesn't move till then. An edit that reaches beyond the part is found.
 ghost use Rattle.std.specs.Prelude.{◌≡◌, ◌+◌, ◌-◌, ◌≤◌, ◌∷◌, length, IsTrue, IfOk, IfSome};
 ghost use Rattle.org_splice.specs.Edits.{edited};
 ghost use Rattle.org_splice.specs.Ranges.{AreChanged};
@@ -18,7 +18,7 @@ use std::mem;
 /// How long a part may be that is edited beside its text: it is copied, and kept for an undo.
 pub(crate) const MAX_PART: usize = 16_384;
 
-/// How many bytes before edits, and how many behind them, none of them touches, in a text that has
+/// How many bytes before edits, and how many after them, none of them touches, in a text that has
 /// this size after them.
 #[derive(Clone, Copy)]
 struct Untouched {

@@ -60,7 +60,7 @@ by_months n z old s none sets is =
 
 -- ---- days
 
--- the number of the day that lies so many days behind the library's date
+-- the number of the day that lies so many days after the library's date
 pub days_added : (d : CivilDay) (a start : Date) (n : ℕ) (days e : ℤ) → IsDateOf d a → start ≡ a → days ≡ pos n → e ≡ epoch_day start +ℤ days → e ≡ day_number d +ℤ pos n
 days_added d a start n days e is same count sum = omega (arith, signed_arith, sum, count, ap epoch_day same, same_number d a is)
 

@@ -46,7 +46,7 @@ minutes_moved s n h = grind (arith, common_steps, total_minutes)
 pub later_in : (s : StampValue) (base is : Base) (n : ℕ) (now : Moment) → base ≡ is → IsLater (moved s is n) now → IsLater (moved s base n) now
 later_in s base is n now e h = subst (λ (x : Base). IsLater (moved s x n) now) (sym e) h
 
--- by the day on which it stands, that many base units behind its own
+-- by the day on which it stands, that many base units after its own
 module _ (s : StampValue) (base is : Base) (go : CivilDay → ℕ → CivilDay) (now : Moment) (day : CivilDay) (t : ℤ) (e : base ≡ is) (goes : (n : ℕ) → record s { day = go s.day n } ≡ moved s is n) (from : s.day ≡ day) (time : IsTime s.time) (minute : now.minute < 1440) (target : t ≡ target_of s.time now) where
   there : (n : ℕ) → record s { day = go day n } ≡ moved s base n
   there n = ap (λ d. record s { day = go d n }) (sym from) ∙ goes n ∙ ap (λ x. moved s x n) (sym e)

@@ -44,7 +44,7 @@ pieces_of_parts : (bytes : List ℕ) (ps : List Part) (g : Gathered) → HasPart
 pieces_of_parts bytes ps g h =
     skip g (slice_split is_blank bytes) ∙ ap (runs_with g) (pieces_are bytes (map (λ p. p.run) ps) (has_runs bytes ps h)) ∙ runs_are bytes ps g h
 
--- ---- the bytes behind a date
+-- ---- the bytes after a date
 
 ends_both : (xs ys : List ℕ) → EndsPlain xs → EndsPlain ys → EndsPlain (xs ++ ys)
 ends_both [] ys h k = k

@@ -154,7 +154,7 @@ cookies_parts : (cs : List Part) → AllByRecursion IsCookie cs → HasParts (co
 cookies_parts [] h = refl
 cookies_parts (p ∷ ps) h = (32 ∷ [], cookies_text ps, refl, one_space, h.0.part, cookies_parts ps h.1)
 
--- the parts that are printed behind the day's name
+-- the parts that are printed after the day's name
 time_parts : Option Times → List Part → List Part
 time_parts None cs = cs
 time_parts (Some t) cs = record { run = clock_text t.start ++ end_text t.end; kind = Clock t } ∷ cs

@@ -120,7 +120,7 @@ gathered_said active day ps =
     let found = gives ps nothing s.time s.cookies (omega (arith, h.0.name)) h.0.time h.0.cookies h.0.apart in
     rw (found.1, h.1, h.2) refl)
 
--- ---- the runs of the bytes behind a date
+-- ---- the runs of the bytes after a date
 
 bind_none : {A B : Type 0} (o : Option A) (f : A → Option B) → ((x : A) → f x ≡ None) → (o >>= f) ≡ None
 bind_none None f none = refl

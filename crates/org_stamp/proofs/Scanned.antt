@@ -1,4 +1,4 @@
--- A timestamp behind its opening bracket, by the byte that closes it.
+-- A timestamp after its opening bracket, by the byte that closes it.
 use Rattle.std.proofs.Common.{◌≡◌, ℕ, ◌+◌, ◌==◌, Bool, true, false, Option, None, Some, List, slice_index, take, if◌then◌else◌, eq-eqb, sym, ap, ◌∙◌}
 use Rattle.std.proofs.lemmas.Bool.{ne_eqb}
 use Rattle.org_stamp.specs.Parts.{◌>>=◌}

@@ -30,7 +30,7 @@ is_spaced bytes =
     (length bytes == 0)
     || is_blank (slice_index bytes 0) && not (is_blank (slice_index bytes (length bytes - 1)))
 
--- what stands behind a date: parts, with blanks before each
+-- what stands after a date: parts, with blanks before each
 abbrev pub parts_of_tail : List ℕ → Option (List Part)
 parts_of_tail tail = if is_spaced tail then parts_in (runs_in tail) else None
 
@@ -57,7 +57,7 @@ said_by active day parts =
     Some (record { active = active; day = day; time = time; cookies = cookies }))
     else None
 
--- what stands between the brackets: a date in the first ten bytes, and parts behind it
+-- what stands between the brackets: a date in the first ten bytes, and parts after it
 abbrev pub inside_of : Bool → List ℕ → Option StampValue
 inside_of active inside =
     date_of (take 10 inside) >>= λ day.
@@ -68,7 +68,7 @@ inside_of active inside =
 abbrev pub active_of : ℕ → Option Bool
 active_of b = if b == 60 then Some true else (if b == 91 then Some false else None)
 
--- what stands behind the opening bracket, up to the first closing one, which is of the same kind
+-- what stands after the opening bracket, up to the first closing one, which is of the same kind
 abbrev pub closed_of : Bool → List ℕ → Option ℕ → Option (StampValue × ℕ)
 closed_of active rest None = None
 closed_of active rest (Some at) =

@@ -58,7 +58,7 @@ pieces_with g (run ∷ runs) = piece_with g run >>= λ h. pieces_with h runs
 abbrev pub nothing : Gathered
 nothing = record { named = false; time = None; cookies = [] }
 
--- what the bytes behind the date say: a blank comes first, and none last
+-- what the bytes after the date say: a blank comes first, and none last
 abbrev pub tail_of : List ℕ → Option Gathered
 tail_of tail =
     if length tail == 0 then Some nothing

@@ -100,7 +100,7 @@ is_later_by (Some t) s now = int_lt (minutes_of now) (minutes_of (start_of s))
 abbrev pub is_later : StampValue → Moment → Bool
 is_later s now = is_later_by s.time s now
 
--- the first number from k on of which f is true; the one behind the n that are tried, where it is
+-- the first number from k on of which f is true; the one after the n that are tried, where it is
 -- true of none of them
 unfoldable pub first_from : (ℕ → Bool) → ℕ → ℕ → ℕ
 first_from f zero k = k

@@ -112,7 +112,7 @@ pub record IsCookie (p : Part) : Type 0 where
   pub part : IsPart p
   pub cookie : IsTrue (is_cookie p.kind)
 
--- what may stand behind a date
+-- what may stand after a date
 pub record IsWritable (times : Option Times) (parts : List Part) : Type 0 where
   pub time : IsTime times
   pub cookies : AllByRecursion IsCookie parts

@@ -1,4 +1,4 @@
-//! What stands behind the date of a timestamp: a day's name, a time, a repeater, a delay.
+//! What stands after the date of a timestamp: a day's name, a time, a repeater, a delay.
 //!
 //! Each may stand once, in any order, with blanks between. The bytes of cookies are kept, since
 //! they are printed again as they were.
@@ -120,7 +120,7 @@ fn read_pieces(tail: &[u8]) -> Option<Found<'_>>
     found.add_piece(&tail[start..]).then_some(found)
 }
 
-/// What the bytes behind a date say: nothing, or parts with blanks before each.
+/// What the bytes after a date say: nothing, or parts with blanks before each.
 pub fn read_tail(tail: &[u8]) -> Option<Found<'_>>
     ensures { option_map gathered result ≡ tail_of tail.now }
 {

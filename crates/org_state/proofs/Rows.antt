@@ -30,7 +30,7 @@ Todo state text r = IsTodo states (only (codes "A") ∷ []) state now (tree text
 
 -- ---- the keyword
 
--- it goes with the blanks behind it, and what is left may read as another one
+-- it goes with the blanks after it, and what is left may read as another one
 first_goes : with_keyword states [] (codes " TODO TODO A") ≡ codes " TODO A"
 unfolding states
 first_goes = refl

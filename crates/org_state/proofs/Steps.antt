@@ -27,7 +27,7 @@ use Rattle.org_state.specs.Edits.{rest_start, section_start, moved, RewritesRest
 pub prints : (t : List ℕ) → terminated t ≡ t → print (tree t) ≡ t
 prints t stays_terminated = (tree-is t).prints ∙ stays_terminated
 
--- an edit of the first lines of a text leaves those behind them as they are
+-- an edit of the first lines of a text leaves those after them as they are
 pub gives_in_front : (e : Edit) (front new other : List (List ℕ)) → Rewrites e (print_lines front) new → Rewrites e (print_lines (front ++ other)) (new ++ other)
 gives_in_front e front new other g = grind (arith, common_steps, print_lines-append, length-append, edits_in_place)
 

@@ -19,7 +19,7 @@ pub record Exchanges (old text word bytes : List ℕ) (n : ℕ) : Type 0 where
   pub within : n ≤ length text
   pub gives : bytes ++ drop n text ≡ with_word old word text
 
--- the edit of a rest, where it stands behind the gap
+-- the edit of a rest, where it stands after the gap
 pub keyword_gives : (e : Edit) (states : Keywords) (rest word old text : List ℕ) → old ≡ keyword_in states rest → text ≡ behind is_blank rest → e.at ≡ length (front is_blank rest)
     → Exchanges old text word e.bytes e.removed → RewritesRest e rest (with_keyword states word rest)
 keyword_gives e states rest word old text old_is text_is at ex = grind (arith, common_steps)

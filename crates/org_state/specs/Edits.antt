@@ -7,7 +7,7 @@ use Rattle.org_splice.specs.Edits.{applied}
 use Rattle.org_headings.specs.Text.{heading_line}
 use Rattle.org_outline.specs.Tree.{Document, node_at}
 
--- where the rest of heading i begins in the print, behind its stars
+-- where the rest of heading i begins in the print, after its stars
 abbrev pub rest_start : Document → ℕ → ℕ
 rest_start d i = (node_at d i).at + (node_at d i).node.level
 

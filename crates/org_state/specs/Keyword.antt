@@ -9,13 +9,13 @@ use Rattle.org_outline.specs.Parts.{parts_of}
 abbrev pub is_state : Keywords → List ℕ → Bool
 is_state states word = length word == 0 || has_word states.active word || has_word states.done word
 
--- the state of a heading, by the rest of its line behind the stars; the empty word where it has
+-- the state of a heading, by the rest of its line after the stars; the empty word where it has
 -- none
 abbrev pub keyword_in : Keywords → List ℕ → List ℕ
 keyword_in states rest = (parts_of states rest).keyword
 
 -- a text that begins with the old word, or has none where that is empty, with the new one in its
--- place: a word that is put in has a space behind it, and one that goes takes the blanks behind it
+-- place: a word that is put in has a space after it, and one that goes takes the blanks after it
 -- along
 abbrev pub with_word : List ℕ → List ℕ → List ℕ → List ℕ
 with_word old [] text = behind is_blank (drop (length old) text)

@@ -21,7 +21,7 @@ use Rattle.org_state.specs.Keyword.{is_state, keyword_in, with_keyword}
 
 -- ---- one heading
 
--- what a heading has of its own: the rest of its line, behind the stars, and the lines of its
+-- what a heading has of its own: the rest of its line, after the stars, and the lines of its
 -- section
 pub record Own : Type 0 where
   pub rest : List ℕ

@@ -66,7 +66,7 @@ fn running_among(outline: &Outline<'_>, first: usize, last: usize) -> Option<Run
     None
 }
 
-/// The clock that runs in the text, and what is known behind the search. Only the headings of which
+/// The clock that runs in the text, and what is known after the search. Only the headings of which
 /// nothing was known are read, and one before them. Takes no memory.
 pub fn search(outline: &Outline<'_>, searched: Searched) -> (Option<Running>, Searched)
     requires { IsSearched has_clock searched outline.now.text }

@@ -195,7 +195,7 @@ module _ {D : Type 0} (g : Ghosts D) where
     rises = course.rises;
   }
 
-  -- A run of calls as far as a call at which the disk failed; behind it the disk stays.
+  -- A run of calls as far as a call at which the disk failed; after it the disk stays.
   pub record CourseTo (old new : Trace D) : Type 0 where
     pub last : StoreView D
     pub course : Goes old.store last (Counts new old)

@@ -62,7 +62,7 @@ dirty_stays old new outcome (Ok (Text bytes)) uncounted same = same
 dirty_stays old new outcome (Ok (Time minutes)) uncounted same = same
 dirty_stays old new outcome (Err fault) uncounted same = same
 
--- a call behind one that changed no text, and made no file dirty
+-- a call after one that changed no text, and made no file dirty
 pub dirty_from : {D : Type 0} (old mid new : StoreView D) (outcome : Outcome) (answer : Result Reply RunFault) → mid.session ≡ old.session → mid.dirty ≡ old.dirty → DirtyAfter mid outcome answer new
     → DirtyAfter old outcome answer new
 dirty_from old mid new outcome (Ok (Done n)) session dirty after = rw (session, dirty) at after

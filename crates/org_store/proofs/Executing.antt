@@ -200,7 +200,7 @@ module _ {D : Type 0} (g : Ghosts D) (states : Keywords) (old : OpenFiles D) (ta
         accounts = reads.accounts;
       }
 
-  -- a call behind one that only read
+  -- a call after one that only read
   pub executes_after : {A : Type 0} (mid : OpenFiles D) (planned : Result A RunFault) (x : A) → planned ≡ Ok x → OnlyReads g old mid planned → (outcome later : Outcome)
       → (g.honest mid.disk → (outcome ≡ later) × ((view_over g.files states mid tally).session ≡ before.session)) → (new : StoreView D) (answer : Result Reply RunFault)
       → Executes g (view_over g.files states mid tally) later answer new → Executes g before outcome answer new

@@ -23,7 +23,7 @@ settled_new files states opened tally none = (rw none (λ whole all. refl), λ a
 pub none_counted : 0 ≤ 0
 none_counted = omega arith
 
--- behind a command that was executed
+-- after a command that was executed
 pub executes_sound : {D : Type 0} (g : Ghosts D) (old new : StoreView D) (outcome : Outcome) (answer : Result Reply RunFault) → old.session.acknowledged ≤ old.session.accepted → Executes g old outcome answer new
     → (g.honest old.disk → IsSettled old.session × NoneDirty old) → g.honest new.disk → IsSettled new.session × NoneDirty new
 executes_sound g old new outcome answer ordered executes sound honest = grind (arith, common_steps)

@@ -109,7 +109,7 @@ settles_between {D} g states old new was now answer unedited keeps settles =
     subst (λ (v : StoreView D). SettlesPending g v answer (view_over g.files states new now)) (view_kept g.files states old was unedited)
     (subst (λ (v : StoreView D). SettlesPending g (view_over g.files states (kept old) was) answer v) (view_kept g.files states new now (unedited_behind old new answer keeps unedited)) settles)
 
--- behind it all commands are acknowledged only where their texts are on the disk
+-- after it all commands are acknowledged only where their texts are on the disk
 pub settles_sound : {D : Type 0} (g : Ghosts D) (old new : StoreView D) (answer : Result (Unit {0}) RunFault) → (old.session.acknowledged ≡ old.session.accepted → ⊥) → SettlesPending g old answer new → g.honest new.disk
     → IsSettled new.session × NoneDirty new
 settles_sound g old new (Ok done) pending settles honest = (subst IsSettled (sym (settles.did honest).step.1) (λ sound all. refl), λ all. (settles.did honest).dirty_files)

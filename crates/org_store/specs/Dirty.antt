@@ -19,8 +19,8 @@ abbrev pub Dirties : List (List ℕ) → List (List ℕ) → List (List ℕ) →
 Dirties old names new =
     (name : List ℕ) → is_listed new name ≡ true → is_listed (old ++ names) name ≡ true
 
--- Which files are dirty behind a call of a store that is to do this and got this answer: none where
--- all was settled; behind a command that was accepted at most those of before, and those that it
+-- Which files are dirty after a call of a store that is to do this and got this answer: none where
+-- all was settled; after a command that was accepted at most those of before, and those that it
 -- gives new texts; else those of before.
 abbrev pub DirtyAfter : {D : Type 0} → StoreView D → Outcome → Result Reply RunFault → StoreView D
     → Type 0

@@ -50,7 +50,7 @@ pub record StaysWhereNeedless {D A : Type 0} (Asks : Type 0) (old : StoreView D)
   pub unneeded : Asks → old.dirty ≡ [] → new.disk ≡ old.disk
 
 -- When a store is broken, whatever its disk does: Broken is answered exactly where it was so
--- before, and behind the call it is so where it was or where Device is answered.
+-- before, and after the call it is so where it was or where Device is answered.
 pub record SaysBroken {A : Type 0} (old : Session) (answer : Result A RunFault) (new : Session)
     : Type 0 where
   pub before : IsErrOf answer Broken ↔ IsTrue old.broken

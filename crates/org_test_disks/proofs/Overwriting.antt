@@ -1,10 +1,10 @@
--- Bytes written over a content in place, behind which those that reach past its end were put.
+-- Bytes written over a content in place, after which those that reach past its end were put.
 use Rattle.std.proofs.Common.{◌≡◌, ℕ, ◌+◌, ◌-◌, ◌≤◌, min, List, ◌++◌, length, take, drop, ⊎_elim, arith}
 use Rattle.std.proofs.lemmas.Grind.{common_steps}
 use Rattle.std.proofs.lemmas.Bool.{cases_lt}
 
 module _ (from : ℕ) (bytes old : List ℕ) (start inside : ℕ) (starts : start ≡ min from (length old)) (within : inside ≡ min (length bytes) (length old - start)) where
-  -- what the bytes leave of the content behind them
+  -- what the bytes leave of the content after them
   abbrev after : List ℕ
   after = drop (from + length bytes) old
 

@@ -104,7 +104,7 @@ const LONG: &[Long] = &[
     // Each of 2^19 initial texts has three bytes, and one more of the line before it than the last
     // one had.
     ("%i", LARGE / 2, "b\nb", 1, Made::Length(137_440_264_192)),
-    // Two bytes more behind each newline.
+    // Two bytes more after each newline.
     ("> %i", 1, "\n", LARGE, Made::Length(3_145_730)),
 ];
 

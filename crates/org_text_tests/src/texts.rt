@@ -352,7 +352,7 @@ fn go_on(rt: &impl Abort, alloc: Global, states: &States, texts: &mut Texts, ste
     }
 }
 
-/// Goes through steps, behind those that come before them, with texts of their own.
+/// Goes through steps, after those that come before them, with texts of their own.
 fn assert_goes(rt: &(impl Abort + AllocGlobal), before: &[Step], steps: &[Step]) {
     let alloc = rt.alloc();
     let states = states(rt, alloc);

@@ -50,7 +50,7 @@ module _ {X : Type 0} where
       let rest = map_changed p f name d es i old w (omega (arith, within)) here (λ j less. before (suc j) (omega (arith, less))) at is in
       rw first (ap (λ (l : List (List ℕ × Y)). valued p e ∷ l) rest)
 
-  -- a part of each value, with one more value behind the others
+  -- a part of each value, with one more value after the others
   pub map_more : {Y : Type 0} (p : X → Y) (es new : List (List ℕ × X)) (name : List ℕ) (x : X) (y : Y) → new ≡ es ++ (name, x) ∷ [] → p x ≡ y
       → map (valued p) new ≡ map (valued p) es ++ (name, y) ∷ []
   map_more {Y = Y} p es new name x y made is =

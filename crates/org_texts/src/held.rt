@@ -97,7 +97,7 @@ impl Held {
         Ok(())
     }
 
-    /// Makes edits, one after another, in place; what stands behind edits that lie near one another
+    /// Makes edits, one after another, in place; what stands after edits that lie near one another
     /// moves once. The headings follow, where the text stays terminated.
     ///
     /// # Errors
@@ -133,7 +133,7 @@ impl Held {
         Ok(true)
     }
 
-    // `apply` of the edits behind the first.
+    // `apply` of the edits after the first.
     fn apply_each(&mut self, edits: &[Edit]) -> Result<(), AllocError>
         requires { LieIn edits.now self.old.text.bytes }
         ensures text { OnOk result (self.new.text ≡ spliced_each edits.now self.old.text) }

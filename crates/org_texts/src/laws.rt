@@ -43,7 +43,7 @@ pub fn held_files_stay()
         → StandOver files (with_text own (files own) set) }
 {}
 
-/// Behind a commit the texts are their files.
+/// After a commit the texts are their files.
 pub fn settled_texts_are_files()
     ensures over { (set : TextSet) (files : List ℕ → List ℕ) (name : List ℕ)
         → held_over (settled_set set) files name ≡ held_over set files name }

@@ -73,14 +73,14 @@ impl Model for Edits {
 }
 
 impl Edits {
-    /// An edit, and those behind it. Takes no memory.
+    /// An edit, and those after it. Takes no memory.
     pub fn new(first: Edit, rest: Vec<Edit>) -> Edits
         ensures { result.items ≡ first ∷ rest.items }
     {
         Edits { first, rest }
     }
 
-    /// The first edit, and those behind it.
+    /// The first edit, and those after it.
     pub fn parts(&self) -> (&Edit, &[Edit])
         ensures { self.now.items ≡ result.0.now ∷ result.1.now }
     {

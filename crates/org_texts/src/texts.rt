@@ -283,7 +283,7 @@ fn is_among(names: &IndexSet<FileName>, name: &FileName) -> bool
     names.contains(name)
 }
 
-/// Puts a name behind the others, if it isn't there. `AllocError` leaves them as they are.
+/// Puts a name after the others, if it isn't there. `AllocError` leaves them as they are.
 fn mark(names: &mut IndexSet<FileName>, name: &FileName) -> Result<(), AllocError>
     ensures ok { OnOk result (names.new.keys ≡ with_name name.now names.old.keys) }
     ensures err { OnErr result (names.new.keys ≡ names.old.keys) }
@@ -294,7 +294,7 @@ fn mark(names: &mut IndexSet<FileName>, name: &FileName) -> Result<(), AllocErro
     add(names, name)
 }
 
-/// Puts a name behind the others, where it isn't. `AllocError` leaves them as they are.
+/// Puts a name after the others, where it isn't. `AllocError` leaves them as they are.
 #[cold]
 #[inline(never)]
 fn add(names: &mut IndexSet<FileName>, name: &FileName) -> Result<(), AllocError>

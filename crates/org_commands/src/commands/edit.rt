@@ -54,7 +54,7 @@ fn ends_line(bytes: &[u8]) -> bool
     }
 }
 
-/// Whether it is an edit of lines: the last byte of the text is a newline, and behind the edit too.
+/// Whether it is an edit of lines: the last byte of the text is a newline, and after the edit too.
 fn edits_lines(text: &[u8], edit: &Splice) -> bool
     requires { edit.now.at + edit.now.removed ≤ length text.now }
     ensures before { IsTrue result → terminated text.now ≡ text.now }

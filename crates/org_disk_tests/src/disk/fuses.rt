@@ -8,7 +8,7 @@ use org_test_disks::{Fuse, MemoryDisk};
 use std::alloc::Global;
 use std::process::Abort;
 
-// Whether a fuse over a disk without files passes so many of the six calls, and no call behind
+// Whether a fuse over a disk without files passes so many of the six calls, and no call after
 // them, and the file then holds this text.
 fn blows(rt: &impl Abort, alloc: Global, k: u64, held: &str) -> bool {
     let name = name_of(rt, alloc, "a.org");

@@ -53,7 +53,7 @@ const CRASHES: &[Crash] = &[
         2,
         ["XYc", "abcdef", "XYcdef", "XYcdef", "--c---"],
     ),
-    // a write with a cut behind it
+    // a write with a cut after it
     (
         Calls::WriteCut,
         1,

@@ -11,7 +11,7 @@ fn with_letters(rt: &impl Abort, alloc: Global, letters: usize, end: &str) -> St
     text
 }
 
-// Whether so many letters and this behind them are the name of a file.
+// Whether so many letters and this after them are the name of a file.
 fn is_accepted(rt: &impl Abort, alloc: Global, letters: usize, end: &str) -> bool {
     let text = with_letters(rt, alloc, letters, end);
     let text = text.as_str();
@@ -49,7 +49,7 @@ fn accepted_names(rt: HostRuntime) {
     }
 }
 
-// Whether this is the archive file of inbox.org, comes behind it, and neither is the other.
+// Whether this is the archive file of inbox.org, comes after it, and neither is the other.
 fn is_archive_of(archive: &FileName, inbox: &FileName) -> bool {
     archive.as_str() == "inbox.org_archive"
         && archive.is_archive()

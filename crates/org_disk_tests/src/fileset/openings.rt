@@ -22,7 +22,7 @@ const GATES: &[(u8, u8, &[u8])] = &[
     (0xff, 0xff, b"* TO"),
 ];
 
-// The journal after an opening, which leaves 0 behind the record that it ends.
+// The journal after an opening, which leaves 0 after the record that it ends.
 fn after_opening(rt: &impl Abort, alloc: Global, gate: u8, after: u8) -> Vec<u8> {
     let mark: &[u8] = if gate == 1 { &[0] } else { &[] };
     let mut journal = Vec::from_slice(alloc, &with_gate(after)).expect(rt, "memory");

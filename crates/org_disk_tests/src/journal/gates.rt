@@ -66,7 +66,7 @@ const LATE: &[(usize, &[u8])] = &[(37, &[1, 0, 0, 0, 0, 0, 0, 0, 17])];
 // The final length is past the end of the patch, and of the file or not.
 const LONG: &[(usize, &[u8])] = &[(45, &[17])];
 
-// A gate, the bytes behind it, the text of inbox.org, and what is said of them.
+// A gate, the bytes after it, the text of inbox.org, and what is said of them.
 static ROWS: &[(u8, Body, &[u8], Answer)] = &[
     (1, (&OLD, ALL, &[], b""), b"", Answer::Capture),
     (1, (&NEW, ALL, &[], b""), b"", Answer::Capture),
@@ -124,7 +124,7 @@ fn journals_on_a_disk(rt: HostRuntime) {
     }
 }
 
-// A body behind an open gate, as a commit leaves it until its files are written.
+// A body after an open gate, as a commit leaves it until its files are written.
 fn open<D: Disk>(disk: &mut D, journal: &FileName, body: &[u8]) -> Result<(), DiskFault>
     requires { journal.now ≡ journal_name }
     ensures stable { D.honest disk.new → OnOk result (IsStable (D.files disk.new journal_name)) }

@@ -9,7 +9,7 @@ use std::process::Abort;
 
 // What bytes are.
 enum Record {
-    // the capture's, also with others behind them
+    // the capture's, also with others after them
     Capture,
     // a well formed one
     Formed,
@@ -17,11 +17,11 @@ enum Record {
     Written(&'static [u8]),
     // no well formed one
     Unformed,
-    // none, also with one byte more behind them
+    // none, also with one byte more after them
     Malformed,
 }
 
-// The entry of the capture in version 1, as it stands behind the number of entries.
+// The entry of the capture in version 1, as it stands after the number of entries.
 const ENTRY: &[u8] =
     b"\0\x09inbox.org\0\0\0\0\0\0\0\0\0\0\0\0\0\0\0\x10\0\0\0\0\0\0\0\x10* TODO Call Ann\n";
 

@@ -70,7 +70,7 @@ pub fn calls_of_opening(rt: &(impl Abort + AllocGlobal), disk: &MemoryDisk) -> u
     calls(rt, image(rt, disk), 1, b"")
 }
 
-// A crash at each call of an opening behind its syncs leaves what the disk recovered to.
+// A crash at each call of an opening after its syncs leaves what the disk recovered to.
 fn crash_each_opening(rt: &(impl Abort + AllocGlobal), disk: &MemoryDisk, step: &Step, done: u64) {
     for number in ways(SYNCS)..ways(calls_of_opening(rt, disk)) {
         let again = done_stopped(rt, image(rt, disk), way(number), step);
@@ -94,7 +94,7 @@ fn crash(rt: &(impl Abort + AllocGlobal), group: u32, step: &Step, number: u64) 
     drop(left);
 }
 
-// Crashes in each way behind the syncs. Where no call is stopped all lines are done.
+// Crashes in each way after the syncs. Where no call is stopped all lines are done.
 fn crash_in_each_way(rt: &(impl Abort + AllocGlobal), group: u32, step: &Step) {
     let lines = step.lines.as_bytes();
     let disk = disk_of(run(rt, files(rt, step), group, lines));

@@ -14,7 +14,7 @@ use std::process::Abort;
 use std::test::Fail;
 
 // In groups of which size the lines of a step are settled; the step, and lines that follow it; how
-// many calls all these make behind the opening; and what is answered where one of these fails, one
+// many calls all these make after the opening; and what is answered where one of these fails, one
 // of two.
 type Failed = (u32, &'static Step, &'static str, u64, [&'static str; 2]);
 
@@ -116,7 +116,7 @@ fn each_failed_call(rt: HostRuntime) {
     fail_each(&rt, CAPTURED);
 }
 
-// How many calls a step of one line and a settling make behind the opening, and such steps.
+// How many calls a step of one line and a settling make after the opening, and such steps.
 type Settled = (u64, &'static [&'static Step]);
 
 // The line of each step is settled alone.

@@ -17,11 +17,11 @@ const GATE: u64 = 7;
 // and tries the journal and both; the record is written and synced, and the gate is the tenth call.
 const ARCHIVE_GATE: u64 = 10;
 
-// Behind the gate's sync the source is asked for its length and cut, since its patch has no bytes;
+// After the gate's sync the source is asked for its length and cut, since its patch has no bytes;
 // then the archive file's patch is written.
 const ARCHIVE_FILE: u64 = 14;
 
-// What a crash at this call behind the opening leaves, as the lines of a step are served.
+// What a crash at this call after the opening leaves, as the lines of a step are served.
 fn left_behind(
     rt: &(impl Abort + AllocGlobal),
     step: &Step,

@@ -7,7 +7,7 @@ use org_serve::ServeEnd;
 use org_test_disks::MemoryDisk;
 use std::process::Abort;
 
-// What is left of the disk where the input breaks off behind these lines, so that nothing is
+// What is left of the disk where the input breaks off after these lines, so that nothing is
 // settled at its end.
 fn broken_off(rt: &(impl Abort + AllocGlobal), lines: &str, written: &str) -> MemoryDisk {
     let mut reader = in_pieces(lines, 4096, 2);

@@ -80,7 +80,7 @@ pub const ACROSS: &Step = &Step {
     ],
 };
 
-// The last line of the source has no newline, and the source comes behind the target in the order
+// The last line of the source has no newline, and the source comes after the target in the order
 // of names.
 pub const BACK: &Step = &Step {
     a: "* T\n** K\n",
@@ -180,7 +180,7 @@ pub const TO_THE_ARCHIVE: &Step = &Step {
     ],
 };
 
-// Neither file ends in a newline, the archive comes behind the source in the order of names, and
+// Neither file ends in a newline, the archive comes after the source in the order of names, and
 // its heading is made.
 pub const TO_ANOTHER_FILE: &Step = &Step {
     a: "#+ARCHIVE: b.org::* Old\n* A\n** B",

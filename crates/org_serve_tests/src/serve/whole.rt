@@ -25,7 +25,7 @@ const TWO_EDITS: &str = "edit\ta.org\t4\tx\\n\t\nedit\tb.org\t4\t\tx\\n\n";
 
 const EDITS_SETTLED: &str = "edit\ta.org\t4\tx\\n\t\nedit\tb.org\t4\t\tx\\n\nsettle\n";
 
-// The second of them is refused, and a settling stands behind it.
+// The second of them is refused, and a settling stands after it.
 const EDIT_REFUSED: &str = "edit\ta.org\t4\tx\\n\t\nedit\tb.org\t4\ty\tx\\n\nsettle\n";
 
 const MOVED_ACROSS: &str = "refile\ta.org\tA\\#2\tb.org\tT\\#2\tlast\nsettle\n";
@@ -79,7 +79,7 @@ fn crash(rt: &(impl Abort + AllocGlobal), row: &(&Step, &str, &str), all: u64, n
     drop(left);
 }
 
-// It crashes at each call behind the syncs.
+// It crashes at each call after the syncs.
 fn crash_at_each_call(rt: &(impl Abort + AllocGlobal), row: &(&Step, &str, &str), all: u64) {
     for number in ways(SYNCS)..ways(calls_of(rt, row.0, row.1)) {
         crash(rt, row, all, number);
@@ -100,7 +100,7 @@ fn inputs_given_up_crashed(rt: HostRuntime) {
     }
 }
 
-// A call of the disk fails: a line says so, and nothing is read behind it.
+// A call of the disk fails: a line says so, and nothing is read after it.
 fn fail(rt: &(impl Abort + AllocGlobal), row: &(&Step, &str, &str), call: u64) {
     let (step, lines, _) = row;
     let mut disk = files(rt, step);

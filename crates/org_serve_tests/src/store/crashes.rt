@@ -61,7 +61,7 @@ fn crashed(rt: &(impl Abort + AllocGlobal), group: u32, at: (u64, Outcome)) -> (
     (acknowledged, accepted, done_in(rt, left, CAPTURED))
 }
 
-// Crashes the two captures at each of so many calls behind the opening, in each way: what is left
+// Crashes the two captures at each of so many calls after the opening, in each way: what is left
 // is one of the states between those that were acknowledged and those that were accepted. After all
 // calls both are there.
 fn crash_each_call(rt: &(impl Abort + AllocGlobal), group: u32, calls: u64) {

@@ -8,7 +8,7 @@ use org_store::{RunFault, Store};
 use org_test_disks::MemoryDisk;
 use std::process::Abort;
 
-// The texts as before the capture, and behind it.
+// The texts as before the capture, and after it.
 const CAPTURED: &Step = &Step {
     a: "* A\n",
     b: "",
@@ -20,7 +20,7 @@ const CAPTURED: &Step = &Step {
     ],
 };
 
-// A store over a disk of which this call behind the opening of the store fails.
+// A store over a disk of which this call after the opening of the store fails.
 fn failing(rt: &(impl Abort + AllocGlobal), call: u64) -> Store<MemoryDisk> {
     let mut disk = two(rt, CAPTURED.a, CAPTURED.b);
     disk.fail_at(calls_of_opening(rt).saturating_add(call));
@@ -77,7 +77,7 @@ fn go_well(rt: &(impl Abort + AllocGlobal)) {
 
 // A capture reads a length and a text, and tries the journal and its file. It writes the record and
 // opens the gate, tries the file again, asks for its length, writes it, asks for its length again,
-// and closes the gate, with a sync behind each of the four writes. Then it tries the file a last
+// and closes the gate, with a sync after each of the four writes. Then it tries the file a last
 // time.
 #[test]
 fn a_failing_device(rt: HostRuntime) {

@@ -13,7 +13,7 @@ use std::alloc::Global;
 use std::process::Abort;
 
 /// Of a heading its level, its subtree and its section, the number of its parent, how many headings
-/// its subtree has, and what stands behind its stars.
+/// its subtree has, and what stands after its stars.
 type Heading<'a> = (usize, Range, Range, Option<usize>, usize, &'a [u8]);
 
 /// Where something starts and ends.
@@ -28,7 +28,7 @@ enum Fact {
     /// The gap, the keyword, the priority, the title and the tags of the first heading, parted by
     /// `|`.
     Parts(&'static str),
-    /// The title of a heading of which this stands behind the stars.
+    /// The title of a heading of which this stands after the stars.
     Titled(&'static str, &'static str),
     /// The level of the heading that a line is, if it is one.
     Level(&'static str, Option<usize>),

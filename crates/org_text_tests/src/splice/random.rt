@@ -16,7 +16,7 @@ fn below(state: &mut u64, bound: usize) -> usize
     (*state >> 40) as usize % bound
 }
 
-/// Writes bytes over a text, from a place on, or behind it where it ends before that place.
+/// Writes bytes over a text, from a place on, or after it where it ends before that place.
 fn write(rt: &impl Abort, text: &mut Vec<u8>, from: usize, bytes: &[u8]) {
     let from = from.min(text.len());
     let (over, added) = bytes.split_at(bytes.len().min(text.len() - from));

@@ -192,7 +192,7 @@ const NEAR: &[Step] = &[
     Step::Near((6, 1, b"D"), &[(2, 1, b"C")], true),
     Step::Is(true, b"* C\n* D\n", &[(2, b"C"), (6, b"D")]),
     Step::After(Call::Undo, false, b"* A\n* B\n", NONE),
-    // The places of later edits are those of the text behind the first.
+    // The places of later edits are those of the text after the first.
     Step::Near((2, 1, b"CC"), &[(7, 1, b"DDD"), (0, 1, b"**")], true),
     Step::Is(true, b"** CC\n* DDD\n", &[(0, b"** CC\n* DDD\n")]),
     Step::After(Call::Undo, false, b"* A\n* B\n", NONE),

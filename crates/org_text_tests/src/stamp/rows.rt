@@ -154,7 +154,7 @@ fn becomes(rt: &impl Abort, alloc: Global, given: &str, now: &str, wanted: &str)
     }
 }
 
-/// Whether a timestamp becomes at each of these moments what stands behind it.
+/// Whether a timestamp becomes at each of these moments what stands after it.
 fn is_repeated(rt: &impl Abort, alloc: Global, given: &str, moments: &str) -> bool {
     for row in moments.split("; at ") {
         let (now, wanted) = row.split_once(": ").expect(rt, "a moment and a timestamp");

@@ -25,7 +25,7 @@ written g c ended =
     (gate_tried d entries disk c.try_all.new.disk same (c.requires.gate honest)) c.args.body.now c.requires.body c.arm.new.disk c.open_gate.new.disk (Ok tt)
     (c.arm.ensures.any_moment armed) (c.in_ok-arm.ensures.puts armed) (c.open_gate.ensures.put.any_moment ended) (c.in_ok-open_gate.ensures.put.puts ended))
 
--- .. and behind it the files are as they were
+-- .. and after it the files are as they were
 tried_again : (g : Over) (c : In_ok-try_again g) → (g.D.Disk.honest c.open_gate.new.disk → WritesRecord g.D.Disk c.args.entries.now c.args.disk.now c.open_gate.new.disk (Ok tt))
     → g.D.Disk.honest c.try_again.new.disk → WritesRecord g.D.Disk c.args.entries.now c.args.disk.now c.try_again.new.disk (Ok tt)
 tried_again g c record_written ended =

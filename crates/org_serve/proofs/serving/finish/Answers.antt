@@ -13,7 +13,7 @@ unsettled : {S : Type 0} (group : Group) (m : Machine S) (old : S) → MayHaveSe
 unsettled (Of size) m old = inl refl
 unsettled Whole m old = refl
 
--- some was written of what stands behind the last newline
+-- some was written of what stands after the last newline
 some_rest : (group : Group) (part last : List ℕ) (acknowledged : ℕ) (old new : Option (List ℕ)) → AnswersRest part last → AppendsSome old new last
     → (text : List ℕ) × EndsText group part acknowledged text × AppendsSome old new text
 some_rest (Of size) part last acknowledged old new rest some =

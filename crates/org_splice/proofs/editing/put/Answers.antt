@@ -19,7 +19,7 @@ same_text bytes were ranges e = ap (λ (b : List ℕ). text_of_parts b ranges) e
 pub returns-in_err-replace-clause-back : goal.returns-in_err-replace-clause-back
 returns-in_err-replace-clause-back c = grind (arith, common_steps, same_text, AreUndos-wider)
 
--- the text and its changed ranges behind it
+-- the text and its changed ranges after it
 put_in : (c : goal.Else-is_err) → text_of_parts c.replace.new.text.items c.replace-old_changed.new.dest.items ≡ text_of_parts (edited c.args.at c.args.removed c.args.bytes.now c.args.text.now.items) c.args.new_changed.items
 put_in c =
     ap (λ (b : List ℕ). text_of_parts b c.replace-old_changed.new.dest.items) c.in_ok-replace.ensures.ok

@@ -57,7 +57,7 @@ module _ {D X : Type 0} (texts : D → Image) (states : Keywords) (old new : Ope
   session_read unbroken fine breaks names same before = session_still texts states old new tally names same
       (λ name. ap (λ (s : TextSet). held_over s (texts new.disk) name) before ∙ ap (λ (f : Image). held_over old.held.before f name) same) (set_whole result old.broken new.broken unbroken fine breaks)
 
-  -- the same where there was no memory behind it
+  -- the same where there was no memory after it
   reads_memory : answer ≡ Err OutOfMemory → old.broken ≡ false → (IsErrOf result set.Device → ⊥) → IsTrue new.broken ↔ (IsTrue old.broken ⊎ IsErrOf result set.Device) → new.names ≡ old.names → texts new.disk ≡ texts old.disk
       → new.held.before ≡ old.held.before → Reads (session_over texts states old tally) answer (session_over texts states new tally)
   reads_memory given unbroken fine breaks names same before = subst (λ (r : Result (Unit {0}) RunFault). Reads (session_over texts states old tally) r (session_over texts states new tally)) (sym given)

@@ -8,7 +8,7 @@ use Rattle.org_disk.proofs.Back.{before_write}
 use Rattle.org_disk.proofs.Images.{only_image, stable_is}
 use Rattle.org_disk_tests.proofs.disk.fuses.write_sync_write.Goals as goal
 
--- what was written first and synced, a write behind it leaves
+-- what was written first and synced, a write after it leaves
 stays : (first second text image : List ℕ) → IsImage (write (length first) second (stable (overwritten 0 first text))) image → take (length first) image ≡ first
 stays first second text image is =
     let content : List ℕ = overwritten 0 first text in

@@ -33,7 +33,7 @@ returns-then-first-len-clause-ok c =
     (λ is. appended_now _ _ _ _ _ _ _ _ _ _ _ c.requires small (c.line_start-from.ensures.within, c.line_start-from.ensures.begins) c.line_end-to.ensures.within c.line_end-to.ensures.ends
     (c.as_slice.ensures.value ∙ c.self.view_is) refl c.starts_before-first.ensures.count (c.if-first-len.true ∙ c.len.ensures ∙ held.ok.0 ∙ ap (λ (l : List Heading). length l) c.self.view_is) is) c.append.ensures.ok
 
--- what was put behind no headings
+-- what was put after no headings
 behind_none : (all held found : List Heading) → all ≡ held ++ found → held ≡ [] → all ≡ found
 behind_none all held found is none = is ∙ ap (λ hs. hs ++ found) none
 

@@ -11,7 +11,7 @@ use Rattle.org_texts.proofs.Values.{map_more}
 use Rattle.org_texts.proofs.texts.Texts.hold.Goals as goal
 use Rattle.org_texts.proofs.texts.Texts.hold.Goals.{In_ok-insert}
 
--- the text stands behind the others
+-- the text stands after the others
 made : (c : In_ok-insert) → c.insert.new.self.entries ≡ c.self.inside.held.entries ++ (c.args.name, c.new.result) ∷ []
 made c =
     let es = c.self.inside.held.entries in
