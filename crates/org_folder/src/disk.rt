@@ -17,9 +17,10 @@ use std::alloc::Global;
 /// The files of a folder, as a disk over the calls of a system. An absent file and an empty one are
 /// the same: a file is made by its first write, and none is ever removed or renamed. A write of no
 /// bytes is one too; it fails where the file can't be written, or where another program is seen to
-/// have changed it. Where a file isn't there, the next call on it doesn't look again. A file stays
-/// open from its first use on; the first sync of a file also puts its entry in the folder on the
-/// device. A call of the system that fails, and want of memory, is a counted failure.
+/// have changed it. So does a length that is asked for while the journal's gate is open. Where a
+/// file isn't there, the next call on it doesn't look again. A file stays open from its first use
+/// on; the first sync of a file also puts its entry in the folder on the device. A call of the
+/// system that fails, and want of memory, is a counted failure.
 ///
 /// Its files are those that the record of its calls stands for. It is an honest disk as long as
 /// each answer in that record was right, and a wrong one ends it for good; no contract says that a

@@ -163,7 +163,8 @@ pub trait System {
         ensures entry { IfOk result (λ opened. IsFalse opened.is_entered) }
         ensures made { history self.new ≡ Made name.now (is_ok result) ∷ history self.old };
 
-    /// The length of a file in bytes.
+    /// The length of a file in bytes. While the files of a record are being written, it fails where
+    /// another program is seen to have written this one since these calls looked at it.
     fn length(&mut self, opened: &Opened<Self::File>) -> Result<u64, DiskFault>
         ensures ok { IfOk result (λ n.
             history self.new ≡ Length opened.now.name n ∷ history self.old) }

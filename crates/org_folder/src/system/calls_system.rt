@@ -55,6 +55,8 @@ pub struct CallsSystem<C: Calls, S: Start> {
     journal: Option<Times>,
     // more than those whom it is for may use the journal
     is_wide: bool,
+    // the journal's gate was read or left open: the files of its record are being written
+    is_open: bool,
     pub(crate) log: Record,
     start: PhantomData<S>,
     ghost failing: { IsFalse has_failed → IsFalse (has_failed_in log.events) },
@@ -80,6 +82,7 @@ impl<C: Calls + Drop, S: Start> CallsSystem<C, S> {
             unchanged: None,
             journal: None,
             is_wide: false,
+            is_open: false,
             log: Record::new(),
             start: PhantomData,
         }
@@ -95,6 +98,17 @@ impl<C: Calls + Drop, S: Start> CallsSystem<C, S> {
         if is_due && self.is_wide && is_journal(&opened.name) {
             self.is_wide = false;
             narrow(&mut self.calls, &opened.handle);
+        }
+    }
+
+    // Notes whether the gate is open, where it was read or is written.
+    fn note_gate(&mut self, opened: &Opened<C::File>, from: u64, bytes: &[u8])
+        ensures calls { self.new.calls ≡ self.old.calls }
+        ensures log { self.new.log ≡ self.old.log }
+        ensures failed { self.new.has_failed ≡ self.old.has_failed }
+    {
+        if from == 0 && is_journal(&opened.name) {
+            self.is_open = bytes.first() == Some(&OPEN);
         }
     }
 
@@ -252,19 +266,37 @@ fn sync_folder_of<C: Calls>(calls: &mut C, name: &FileName) -> io::Result<()>
     calls.sync(&folder)
 }
 
+// Notes how a write leaves a file: as long as it was, or to where the bytes end.
+fn note_write<F>(opened: &Opened<F>, from: u64, bytes: &[u8], is_written: bool) {
+    let before = opened.seen.get();
+    opened.seen.set(if is_written {
+        before.written_to(from.saturating_add(bytes.len() as u64))
+    } else {
+        before.left(None)
+    });
+}
+
 fn cut_off<C: Calls>(calls: &mut C, opened: &Opened<C::File>, to: u64) -> io::Result<()>
     ensures { CutsOff opened.now.name to (C.made calls.old) (C.made calls.new) (is_ok result) }
 {
+    let before = opened.seen.get();
+    opened.seen.set(before.left(None));
     calls.truncate(&opened.handle, to)?;
-    measured(calls, opened)?;
+    opened.seen.set(before.left(Some(to)));
+    measured(calls, opened, true)?;
     Ok(())
 }
 
-// The length of a file; what the system says of it is kept for the next try.
-fn measured<C: Calls>(calls: &mut C, opened: &Opened<C::File>) -> io::Result<u64>
+// The length of a file; what the system says of it is kept for the next try. While it is being
+// written for a record, it has to be as the calls so far left it: else another program wrote it
+// since, and the next try would take that for our own work.
+fn measured<C: Calls>(calls: &mut C, opened: &Opened<C::File>, is_written: bool) -> io::Result<u64>
     ensures { OnlyAsks (C.made calls.old) (C.made calls.new) }
 {
     let status = calls.file_stat(&opened.handle)?;
+    if is_written {
+        only_same(opened, &status)?;
+    }
     opened.seen.set(Seen::of(&status));
     Ok(status.length)
 }
@@ -352,7 +384,7 @@ impl<C: Calls + Drop, S: Start> System for CallsSystem<C, S> {
     }
 
     fn length(&mut self, opened: &Opened<C::File>) -> Result<u64, DiskFault> {
-        let length = answered(measured(&mut self.calls, opened))?;
+        let length = answered(measured(&mut self.calls, opened, self.is_open))?;
         self.log.note_file(Call::Length(length), &opened.name, &[]);
         Ok(length)
     }
@@ -364,7 +396,8 @@ impl<C: Calls + Drop, S: Start> System for CallsSystem<C, S> {
         into: &mut [u8],
     ) -> Result<(), DiskFault> {
         answered(self.calls.read(&opened.handle, from, into))?;
-        self.narrow(opened, from == 0 && into.first() != Some(&OPEN));
+        self.note_gate(opened, from, into);
+        self.narrow(opened, from == 0 && !self.is_open);
         self.log.note_file(Call::Read(from), &opened.name, into);
         Ok(())
     }
@@ -381,9 +414,10 @@ impl<C: Calls + Drop, S: Start> System for CallsSystem<C, S> {
                 .note_file(Call::Write(from, answer.is_ok()), &opened.name, bytes);
             return answer;
         }
-        opened.seen.set(opened.seen.get().written());
+        self.note_gate(opened, from, bytes);
         self.narrow(opened, true);
         let answer = answered(self.calls.write(&opened.handle, from, bytes));
+        note_write(opened, from, bytes, answer.is_ok());
         self.log
             .note_file(Call::Write(from, answer.is_ok()), &opened.name, bytes);
         answer

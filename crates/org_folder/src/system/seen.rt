@@ -1,19 +1,15 @@
 //! What the system said of a file, by which a change that another program makes is noticed.
 use crate::calls::{Status, Time};
 
-/// Which file it was, and how it was left as far as that was asked.
+/// Which file it was, and how it was left as far as that is known.
 #[derive(Clone, Copy)]
 pub(super) struct Seen {
     device: u64,
     number: u64,
-    left: Option<Left>,
-}
-
-// How a file was left: its length, and the time of its last change.
-#[derive(Clone, Copy)]
-struct Left {
-    length: u64,
-    modified: Time,
+    // not known once a write or a cut has failed
+    length: Option<u64>,
+    // not known after a write or a cut of our own
+    modified: Option<Time>,
 }
 
 impl Seen {
@@ -21,31 +17,41 @@ impl Seen {
         Seen {
             device: status.device,
             number: status.number,
-            left: Some(Left {
-                length: status.length,
-                modified: status.modified,
-            }),
+            length: Some(status.length),
+            modified: Some(status.modified),
         }
     }
 
-    // The same file after a write of our own, after which the system wasn't asked again.
-    pub(super) fn written(&self) -> Seen {
+    // The same file after a write or a cut of our own, after which the system wasn't asked again.
+    pub(super) fn left(&self, length: Option<u64>) -> Seen {
         Seen {
             device: self.device,
             number: self.number,
-            left: None,
+            length,
+            modified: None,
+        }
+    }
+
+    // The same file after a write of our own which ends there.
+    pub(super) fn written_to(&self, end: u64) -> Seen {
+        match self.length {
+            Some(length) if length > end => self.left(Some(length)),
+            Some(_) => self.left(Some(end)),
+            None => self.left(None),
         }
     }
 
     // Whether this is the same file, left as it was.
     pub(super) fn is_still(&self, now: &Seen) -> bool {
-        let is_left = match (&self.left, &now.left) {
-            (Some(left), Some(now)) => {
-                left.length == now.length && left.modified.is(&now.modified)
-            }
+        let is_as_long = match (self.length, now.length) {
+            (Some(before), Some(now)) => before == now,
             _ => true,
         };
-        is_left && self.device == now.device && self.number == now.number
+        let is_unmodified = match (&self.modified, &now.modified) {
+            (Some(before), Some(now)) => before.is(now),
+            _ => true,
+        };
+        is_as_long && is_unmodified && self.device == now.device && self.number == now.number
     }
 }
 

@@ -15,8 +15,8 @@ invariant_of-self-2 g c =
     let some : c.args.bytes.now ≡ [] → ⊥ = λ none. search rules in
     record {
       failing = λ none. subst (λ (es : List Event). IsFalse (has_failed es)) (sym c.note_file-2.ensures) (c.narrow.new.self.failing none);
-      accounts = wrote opened.name path c.args.from c.args.bytes.now c.is_ok-2.result did c.narrow.new.self.log.events c.note_file-2.new.self.events mid mid new some opened.reached
-          (c.is_ok-2.ensures.value ∙ c.answered-answer-2.ensures.ok) c.note_file-2.ensures c.write.ensures refl c.narrow.new.self.accounts;
+      accounts = wrote opened.name path c.args.from c.args.bytes.now c.is_ok-3.result did c.narrow.new.self.log.events c.note_file-2.new.self.events mid mid new some opened.reached
+          (c.is_ok-3.ensures.value ∙ c.answered-answer-2.ensures.ok) c.note_file-2.ensures c.write.ensures refl c.narrow.new.self.accounts;
       modes = wrote_modes c.args.from did path c.args.bytes.now mid new c.write.ensures c.narrow.new.self.modes;
       synced = wrote_synced c.narrow.new.self.is_synced c.args.from did path c.args.bytes.now mid new c.write.ensures c.narrow.new.self.synced;
     }
