@@ -1,7 +1,6 @@
 -- Files that are tried after an opened gate, which is closed where a try fails.
-use Rattle.std.proofs.Common.{◌≡◌, ◌≢◌, ◌≤◌, ℕ, List, ◌∷◌, length, drop, Result, Ok, Err, IsErr, sym, ◌∙◌, ap, subst, arith, true, false, inl, inr}
+use Rattle.std.proofs.Common.{◌≡◌, ◌≤◌, ℕ, List, length, drop, Result, Ok, Err, IsErr, sym, ◌∙◌, ap, subst, arith, true, false, inl}
 use Rattle.std.proofs.lemmas.Grind.{common_steps}
-use Rattle.std.proofs.lemmas.Bool.{cases_Bool}
 use Rattle.org_disk.specs.declared.disk.Disk.{Ghosts}
 use Rattle.org_disk.specs.declared.disk.DiskFault.{DiskFault}
 use Rattle.org_disk.specs.CountsFailures.{CountsFailures, LooksOver, PassesOver}
@@ -10,10 +9,8 @@ use Rattle.org_disk.specs.Names.{journal_name}
 use Rattle.org_disk.proofs.Images.{only_image}
 use Rattle.org_disk.proofs.Moments.{Image, leaves_only, passes_as, passes_then}
 use Rattle.org_journal.specs.declared.record.Entry.{Entry}
-use Rattle.org_journal.specs.Gate.{front_size, is_open, LeavesBody, Puts}
-use Rattle.org_journal.specs.Reading.{journal_at}
-use Rattle.org_journal.specs.Recovered.{contents, replayed}
-use Rattle.org_fileset.specs.Replay.{AreApplicableTo, CommitsEntriesOver, IsAtRest, IsBeforeOrAfter, IsOpenOver}
+use Rattle.org_journal.specs.Gate.{front_size, LeavesBody, Puts}
+use Rattle.org_fileset.specs.Replay.{AreApplicableTo, CommitsEntriesOver, IsOpenOver}
 use Rattle.org_fileset.specs.Writes.{IsUnwritten, TriesAgainOver, TriesOver}
 use Rattle.org_fileset.proofs.OpenGate.{on_ok_never, open_long}
 use Rattle.org_fileset.proofs.Commits.{WritesRecord, at_rest_recovers, stands_open}

@@ -29,7 +29,7 @@ out_before : (place : ℕ) (patches : List (ℕ × List ℕ)) (i : ℕ) → Rise
 out_before place [] i rise lt = tt
 out_before place (p ∷ patches) i rise lt = (inl lt, all_after (end_of p) patches i rise.1 (omega (arith, lt)))
 
-out_after : (place : ℕ) (patches : List (ℕ × List ℕ)) (i : ℕ) → Rise place patches → last_end place patches ≤ i → patch.IsOutside patches i
+pub out_after : (place : ℕ) (patches : List (ℕ × List ℕ)) (i : ℕ) → Rise place patches → last_end place patches ≤ i → patch.IsOutside patches i
 out_after place [] i rise le = tt
 out_after place (p ∷ patches) i rise le = (inr (omega (arith, le, last_end-place (end_of p) patches rise.1)), out_after (end_of p) patches i rise.1 le)
 

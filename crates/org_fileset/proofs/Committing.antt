@@ -28,7 +28,7 @@ use Rattle.org_journal.specs.Recovered.{Image, contents, replayed}
 use Rattle.org_journal.specs.Reading.{journal_at}
 use Rattle.org_splice.specs.Patches.{last_end}
 use Rattle.org_journal.specs.Left.{first_from}
-use Rattle.org_fileset.specs.Entries.{AreEntriesOf, HasRecordOf, before_of, changed}
+use Rattle.org_fileset.specs.Entries.{AreEntriesOf, HasRecordOf, SaySizes, before_of, changed}
 use Rattle.org_fileset.specs.Replay.{IsBeforeOrAfter, IsCommitted, CommitsEntriesOver, CommitsOver}
 use Rattle.org_fileset.specs.Set.{CommitsSet, Opened}
 use Rattle.org_fileset.specs.Writes.{IsOther, IsUnwritten}
@@ -142,17 +142,17 @@ changes_formed names changes entries are distinct some each few named small =
     nonempty (change ∷ changes) some = omega arith
 
 -- the record's files are the changed ones
-pub with_or_without : (changes : List Change) (entries : List Entry) (files : Image) → AreEntriesOf changes entries → AllByRecursion (λ (change : Change). IsEditOf (files change.0) change.1) changes
-    → (image : Image) → IsBeforeOrAfter files (replayed entries files) image → IsBeforeOrAfter files (changed changes files) image
-with_or_without changes entries files are edits image (inl before) = inl before
-with_or_without changes entries files are edits image (inr after) = inr (recovers_as (replayed entries files) (changed changes files) image (λ name not. changes_made changes entries files name are edits) after)
+pub with_or_without : (changes : List Change) (entries : List Entry) (files : Image) → AreEntriesOf changes entries → SaySizes (λ n. length (files n)) entries
+    → AllByRecursion (λ (change : Change). IsEditOf (files change.0) change.1) changes → (image : Image) → IsBeforeOrAfter files (replayed entries files) image → IsBeforeOrAfter files (changed changes files) image
+with_or_without changes entries files are says edits image (inl before) = inl before
+with_or_without changes entries files are says edits image (inr after) = inr (recovers_as (replayed entries files) (changed changes files) image (λ name not. changes_made changes entries files name are says edits) after)
 
 -- the calls of the commit
-pub changes_left : (changes : List Change) (entries : List Entry) (files : Image) (m n : ℕ) (past since : ℕ → Image → Type 0) → AreEntriesOf changes entries
+pub changes_left : (changes : List Change) (entries : List Entry) (files : Image) (m n : ℕ) (past since : ℕ → Image → Type 0) → AreEntriesOf changes entries → SaySizes (λ n. length (files n)) entries
     → AllByRecursion (λ (change : Change). IsEditOf (files change.0) change.1) changes → LeavesOnly m n past since (IsBeforeOrAfter files (replayed entries files)) → LeavesOnly m n past since (IsBeforeOrAfter files (changed changes files))
-changes_left changes entries files m n past since are edits left = record {
-  each = λ image at. with_or_without changes entries files are edits image (left.each image at);
-  passes = passes_as left.passes (with_or_without changes entries files are edits);
+changes_left changes entries files m n past since are says edits left = record {
+  each = λ image at. with_or_without changes entries files are says edits image (left.each image at);
+  passes = passes_as left.passes (with_or_without changes entries files are says edits);
 }
 
 -- no call of the disk, and no change
@@ -167,29 +167,29 @@ commits_none g after Alone disk r now done = record {
 
 -- the commit of the record is one of the changes
 pub commits_changes : {D A E B F : Type 0} (g : Ghosts D) (changes : List Change) (entries : List Entry) (old new : D)
-    (r : Result A E) (s : Result B F) → (changes ≡ [] → ⊥) → AreEntriesOf changes entries → AllByRecursion (λ (change : Change). IsEditOf (contents (g.files old) change.0) change.1) changes
+    (r : Result A E) (s : Result B F) → (changes ≡ [] → ⊥) → AreEntriesOf changes entries → SaySizes (λ n. length (contents (g.files old) n)) entries → AllByRecursion (λ (change : Change). IsEditOf (contents (g.files old) change.0) change.1) changes
     → CommitsOver g (replayed entries (contents (g.files old))) (IsUnwritten entries) old new r → OnOk s (IsCommitted (replayed entries (contents (g.files old))) (g.files old) (g.files new))
     → CommitsOver g (changed changes (contents (g.files old))) (IsOther (keys_of changes)) old new s
-commits_changes g changes entries old new r s some are edits commits done = record {
+commits_changes g changes entries old new r s some are says edits commits done = record {
   done = on_ok_weaker s (λ made. record {
-    made = λ name not. made.made name not ∙ changes_made changes entries (contents (g.files old)) name are edits;
+    made = λ name not. made.made name not ∙ changes_made changes entries (contents (g.files old)) name are says edits;
     rest = made.rest;
   }) done;
-  any_moment = λ rest. changes_left changes entries (contents (g.files old)) (g.instant old) (g.instant new) (g.left_since old) (g.left_since new) are edits (commits.any_moment rest);
+  any_moment = λ rest. changes_left changes entries (contents (g.files old)) (g.instant old) (g.instant new) (g.left_since old) (g.left_since new) are says edits (commits.any_moment rest);
   recoverable = commits.recoverable;
   alone = alone_fewer g (IsOther (keys_of changes)) (IsUnwritten entries) old new commits.alone (λ name other. others_unwritten changes entries name are some other);
 }
 
 -- .. as it was written
 pub commits_record : {D : Type 0} (g : Ghosts D) (changes : List Change) (entries record_entries : List Entry) (old new : D) (r : Result (Unit {0}) DiskFault) (s : Result (Unit {0}) SetFault) → (changes ≡ [] → ⊥) → AreEntriesOf changes entries
-    → record_entries ≡ entries → All (λ (change : Change). IsEditOf (contents (g.files old) change.0) change.1) changes → CommitsEntriesOver g record_entries old new r
+    → SaySizes (λ n. length (contents (g.files old) n)) entries → record_entries ≡ entries → All (λ (change : Change). IsEditOf (contents (g.files old) change.0) change.1) changes → CommitsEntriesOver g record_entries old new r
     → (CommitsOver g (replayed entries (contents (g.files old))) (IsUnwritten entries) old new r → OnOk s (IsCommitted (replayed entries (contents (g.files old))) (g.files old) (g.files new)))
     → CommitsOver g (changed changes (contents (g.files old))) (IsOther (keys_of changes)) old new s
-commits_record g changes entries record_entries old new r s some are same edits commits done =
+commits_record g changes entries record_entries old new r s some are says same edits commits done =
     let files = contents (g.files old) in
     let made : CommitsOver g (replayed entries files) (IsUnwritten entries) old new r =
     subst (λ (l : List Entry). CommitsOver {A = Unit {0}} {E = DiskFault} g (replayed l files) (IsUnwritten l) old new r) same commits.commits in
-    commits_changes g changes entries old new r s some are (all_edits files changes edits) made (done made)
+    commits_changes g changes entries old new r s some are says (all_edits files changes edits) made (done made)
 
 -- what a commit leaves in the journal
 pub has_record : (changes : List Change) (entries : List Entry) (journal : List ℕ) → AreEntriesOf changes entries → journal_at (drop 1 journal) ≡ Some entries → HasRecordOf changes journal

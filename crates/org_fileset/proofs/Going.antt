@@ -6,7 +6,7 @@ use Rattle.org_disk.specs.CountsFailures.{CountsFailures}
 use Rattle.org_disk.proofs.Accounting.{accounts_none, accounts_then}
 use Rattle.org_journal.specs.declared.record.Entry.{Entry}
 use Rattle.org_journal.specs.Record.{is_named}
-use Rattle.org_fileset.specs.Replay.{AreApplicable, AppliesPatchesOver, TakesOver}
+use Rattle.org_fileset.specs.Replay.{AreApplicable, AppliesOver, TakesOver}
 use Rattle.org_fileset.specs.Writes.{LeavesAlone}
 use Rattle.org_fileset.proofs.Replaying.{entry_takes, replays_none, replays_entry}
 use Rattle.org_fileset.proofs.Writes.{alone_none, alone_entry}
@@ -34,7 +34,7 @@ goes_none g entries disk = record {
 module _ {D : Type 0} (g : Ghosts D) (entries : List Entry) (i : ℕ) {entry : Entry} {old mid : D} (is : slice_get entries i ≡ Some entry)
     (can : g.honest old → AreApplicable entries) (sofar : GoesOn g entries old mid) where
   -- calls on the file of one more
-  pub calls_on : (new : D) → (g.honest new → g.honest mid) → (g.honest new → AppliesPatchesOver g entry mid new) → (g.honest new → LeavesAlone g (λ other. other ≢ entry.name) mid new)
+  pub calls_on : (new : D) → (g.honest new → g.honest mid) → (g.honest new → AppliesOver g entry mid new) → (g.honest new → LeavesAlone g (λ other. other ≢ entry.name) mid new)
       → CallsOn g entries old new
   calls_on new back applies alone = record {
     replays = λ honest stable texts takes.
@@ -45,5 +45,5 @@ module _ {D : Type 0} (g : Ghosts D) (entries : List Entry) (i : ℕ) {entry : E
   }
 
   -- .. none of which failed
-  pub goes_on : (new : D) → CountsFailures g mid new ⊥ → (g.honest new → AppliesPatchesOver g entry mid new) → (g.honest new → LeavesAlone g (λ other. other ≢ entry.name) mid new) → GoesOn g entries old new
+  pub goes_on : (new : D) → CountsFailures g mid new ⊥ → (g.honest new → AppliesOver g entry mid new) → (g.honest new → LeavesAlone g (λ other. other ≢ entry.name) mid new) → GoesOn g entries old new
   goes_on new fine applies alone = record { accounts = accounts_then sofar.accounts fine; calls = calls_on new fine.was_honest applies alone }

@@ -17,8 +17,8 @@ use Rattle.org_splice.specs.declared.patch.Patch.{Patch}
 use Rattle.org_journal.specs.Gate.{is_open}
 use Rattle.org_journal.specs.Reading.{journal_at}
 use Rattle.org_journal.specs.Record.{is_named}
-use Rattle.org_journal.specs.Recovered.{Image, RecoversTo, all_fit, contents}
-use Rattle.org_fileset.specs.Replay.{EachPatchedTo, TakesTo, AreApplicable, EachTakes, IsOpenOver}
+use Rattle.org_journal.specs.Recovered.{Image, RecoversTo, all_fit, contents, may_cut}
+use Rattle.org_fileset.specs.Replay.{EachMadeBy, IsMadeBy, TakesTo, AreApplicable, EachTakes, IsOpenOver}
 use Rattle.org_fileset.specs.Laws.{IsOpenFor, KeepsTexts}
 use Rattle.org_fileset.proofs.Patching.{may_leave, takes_write, takes_cut}
 use Rattle.org_fileset.proofs.Takes.{entry-TakesTo, named_apart, applicable_at}
@@ -63,14 +63,14 @@ module _ (entries : List Entry) (texts : Image) (files : List ℕ → FileState)
   takes = subst (λ (t : Image). EachTakes entries t files) is.same_texts (open_takes files own entries applicable over fit is.over_record)
 
   -- of its file the entry makes one text, whatever a crash leaves of it
-  pub here : EachPatchedTo (pairs_of entry.patches) entry.length (texts entry.name) (files entry.name)
+  pub here : EachMadeBy entry (texts entry.name) (files entry.name)
   here = entry_takes entries texts files member.0 entry applicable at takes
 
   pub formed_here : AreWellFormed (pairs_of entry.patches) entry.length
   formed_here = (applicable_at entries member.0 entry applicable.each at).patches
 
   -- a call that keeps it so
-  module _ (effect : FileState → FileState) (after : EachPatchedTo (pairs_of entry.patches) entry.length (texts entry.name) (effect (files entry.name))) where
+  module _ (effect : FileState → FileState) (after : EachMadeBy entry (texts entry.name) (effect (files entry.name))) where
     apart : entry.name ≢ journal_name
     apart = not_journal entries member.0 entry applicable at
 
@@ -118,17 +118,17 @@ keeps_write entries texts files entry patch is own member among within =
     (takes_write (files entry.name) among.0 patch.from patch.bytes (formed_here entries texts files is own entry member) found within (own entry.name) (here entries texts files is own entry member))
 
 pub keeps_cut : (entries : List Entry) (texts : Image) (files : List ℕ → FileState) (entry : Entry) → IsOpenFor entries texts files → AreImages files (contents files)
-    → Contains entries entry → entry.length ≤ length (contents files entry.name) → KeepsTexts (cut entry.length) entry.name entries texts files
-keeps_cut entries texts files entry is own member within =
+    → Contains entries entry → may_cut entry.before entry.length ≡ true → entry.length ≤ length (contents files entry.name) → KeepsTexts (cut entry.length) entry.name entries texts files
+keeps_cut entries texts files entry is own member cuts within =
     keeps entries texts files is own entry member (cut entry.length)
-    (takes_cut (files entry.name) (formed_here entries texts files is own entry member) within (own entry.name) (here entries texts files is own entry member))
+    (takes_cut (files entry.name) (formed_here entries texts files is own entry member) cuts within (own entry.name) (here entries texts files is own entry member))
 
 pub keeps_sync : (entries : List Entry) (texts : Image) (files : List ℕ → FileState) (entry : Entry) → IsOpenFor entries texts files → AreImages files (contents files)
     → Contains entries entry → KeepsTexts sync entry.name entries texts files
 keeps_sync entries texts files entry is own member =
     let now = here entries texts files is own entry member in
     keeps entries texts files is own entry member sync
-    (λ text image. subst (λ (t : List ℕ). PatchedTo (pairs_of entry.patches) entry.length t (texts entry.name)) (sym (only_image (stable_is (files entry.name).content) text image))
+    (λ text image. subst (λ (t : List ℕ). IsMadeBy entry t (texts entry.name)) (sym (only_image (stable_is (files entry.name).content) text image))
     (now (files entry.name).content (own entry.name)))
 
 -- Each file by itself

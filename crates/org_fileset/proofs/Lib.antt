@@ -18,6 +18,8 @@ mod Changes
 mod Noted
 mod Contexts
 mod Allowed
+mod Always
+mod Made
 mod Recorded
 pub mod Recovering
 mod Reopening

@@ -1,19 +1,22 @@
 -- The lengths that a set keeps are those of its files, also after a read and a commit.
 use Rattle.std.proofs.Common.{◌≡◌, ◌≢◌, ◌⊎◌, ◌+◌, ◌++◌, ◌<◌, ◌≤◌, ℕ, zero, suc, true, false, List, [], ◌∷◌, length, take, drop, get_or, set, inl, inr, refl, sym, ◌∙◌, ap, subst, arith, add-one, drop-cons}
 use Rattle.std.proofs.lemmas.List.{append-nil, drop_all, get_or_default, take_all}
-use Rattle.std.specs.Prelude.{if◌then◌else◌, slice_get, Some}
+use Rattle.std.specs.Prelude.{if◌then◌else◌, slice_get, IsSomeAnd, Option, Some, None}
 use Rattle.std.specs.List.{AllByRecursion, Contains}
 use Rattle.std.specs.Str.{bytes_eq}
 use Rattle.org_disk.specs.Disk.{FileState}
 use Rattle.org_disk.specs.Names.{journal_name}
 use Rattle.org_disk.proofs.Names.{name_cases}
-use Rattle.org_splice.specs.Texts.{pairs_of}
-use Rattle.org_splice.proofs.Patching.{length-patched}
+use Rattle.org_splice.specs.Texts.{EditedText}
+use Rattle.org_journal.specs.declared.record.Before.{Before}
 use Rattle.org_journal.specs.declared.record.Entry.{Entry}
 use Rattle.org_journal.specs.Record.{is_named}
 use Rattle.org_journal.specs.Recovered.{Image, SameFiles, contents, replayed}
+use Rattle.org_fileset.specs.Entries.{AreEntriesOf, SaySizes}
 use Rattle.org_fileset.specs.Lengths.{AreLengths, length_of, with_length, with_lengths}
 use Rattle.org_fileset.specs.Replay.{AreApplicableTo}
+use Rattle.org_fileset.proofs.Made.{length-made}
+use Rattle.org_fileset.proofs.Recorded.{said_kept}
 use Rattle.org_fileset.proofs.Recovers.{replayed-entry, replayed-other}
 use Rattle.org_fileset.proofs.Takes.{applicable_at}
 
@@ -30,6 +33,26 @@ length_known (x ∷ names) (l ∷ lengths) files name are at = elim (name_cases 
     later apart (suc k, within, is) = (k, omega arith, is)
 length_known [] (l ∷ lengths) files name are at = absurd are
 length_known (x ∷ names) [] files name are at = absurd are
+
+-- the entries of a commit say how long their files are
+pub says_lengths : (names : List (List ℕ)) (lengths : List ℕ) (files : Image) (changes : List (List ℕ × EditedText)) (entries : List Entry) → AreLengths names lengths files → AreEntriesOf changes entries
+    → AllByRecursion (λ (change : List ℕ × EditedText). Contains names change.0) changes → SaySizes (length_of names lengths) entries → SaySizes (λ n. length (files n)) entries
+says_lengths names lengths files [] [] known are named says = tt
+says_lengths names lengths files (change ∷ changes) (entry ∷ entries) known are named says = (go entry.before says.0, says_lengths names lengths files changes entries known are.1 named.1 says.1)
+  where
+    is : length_of names lengths entry.name ≡ length (files entry.name)
+    is = length_known names lengths files entry.name known (subst (λ (n : List ℕ). Contains names n) (sym are.0.name) named.0)
+
+    go : (before : Option Before) → IsSomeAnd before (λ b. b.length ≡ length_of names lengths entry.name) → IsSomeAnd before (λ b. b.length ≡ length (files entry.name))
+    go None says = absurd says
+    go (Some before) says = says ∙ is
+says_lengths names lengths files [] (entry ∷ entries) known are named says = absurd are
+says_lengths names lengths files (change ∷ changes) [] known are named says = absurd are
+
+said_at : (sizes : List ℕ → ℕ) (entries : List Entry) (i : ℕ) (entry : Entry) → SaySizes sizes entries → slice_get entries i ≡ Some entry → IsSomeAnd entry.before (λ b. b.length ≡ sizes entry.name)
+said_at sizes [] i entry says is = absurd (cc)
+said_at sizes (first ∷ entries) zero entry says is = let one : first ≡ entry = cc in subst (λ (e : Entry). IsSomeAnd e.before (λ b. b.length ≡ sizes e.name)) one says.0
+said_at sizes (first ∷ entries) (suc i) entry says is = said_at sizes entries i entry says.1 is
 
 -- one file has this length now, and the others are as long as they were
 pub noted : (names : List (List ℕ)) (lengths : List ℕ) (files new : Image) (name : List ℕ) (size : ℕ) → AreLengths names lengths files → size ≡ length (new name)
@@ -85,13 +108,14 @@ all_noted (entry ∷ entries) names lengths files new are each others =
 
 -- after a commit of these entries
 pub lengths_after : (names : List (List ℕ)) (lengths : List ℕ) (entries : List Entry) (old new : List ℕ → FileState) → AllByRecursion (λ name. name ≢ journal_name) names
-    → AreApplicableTo entries old → AreLengths names lengths (contents old) → SameFiles (contents new) (replayed entries (contents old)) → AreLengths names (with_lengths names lengths entries) (contents new)
-lengths_after names lengths entries old new each can are made =
+    → AreApplicableTo entries old → SaySizes (λ n. length (contents old n)) entries → AreLengths names lengths (contents old) → SameFiles (contents new) (replayed entries (contents old)) → AreLengths names (with_lengths names lengths entries) (contents new)
+lengths_after names lengths entries old new each can says are made =
     let texts = replayed entries (contents old) in
     let among = all_noted entries names lengths (contents old) texts are (λ i entry is.
     let own = applicable_at entries i entry can.applicable.each is in
     let takes = replayed-entry entries (contents old) i entry can.applicable can.fits is in
-    sym (ap length (sym takes.makes) ∙ length-patched (pairs_of entry.patches) entry.length (contents old entry.name) own.patches.rise takes.fit))
+    let size = length (contents old entry.name) in
+    sym (length-made entry own.patches (contents old entry.name) (texts entry.name) takes ∙ said_kept entry.before entry.length size (said_at (λ n. length (contents old n)) entries i entry says is)))
     (λ name none. ap length (sym (replayed-other entries (contents old) name can.fits none))) in
     swap names (with_lengths names lengths entries) each among
   where
@@ -240,9 +264,9 @@ module _ (names given : List (List ℕ)) (items was now : List ℕ) (len : ℕ) 
 
   -- after a commit
   pub commit_noted : (entries : List Entry) (old new : List ℕ → FileState) → now ≡ with_lengths given was entries → AllByRecursion (λ name. name ≢ journal_name) names → AreApplicableTo entries old
-      → AreLengths names items (contents old) → SameFiles (contents new) (replayed entries (contents old)) → AreLengths names (take len (now ++ drop (length now) items)) (contents new)
-  commit_noted entries old new made each can are done =
+      → SaySizes (λ n. length (contents old n)) entries → AreLengths names items (contents old) → SameFiles (contents new) (replayed entries (contents old)) → AreLengths names (take len (now ++ drop (length now) items)) (contents new)
+  commit_noted entries old new made each can says are done =
       let here : now ≡ with_lengths names items entries =
       made ∙ ap (λ (n : List (List ℕ)). with_lengths n was entries) names_are ∙ ap (λ (l : List ℕ). with_lengths names l entries) items_are in
       let back = written_back len items now long (ap length here ∙ length-with_all names items entries) in
-      subst (λ (l : List ℕ). AreLengths names l (contents new)) (sym (back ∙ here)) (lengths_after names items entries old new each can are done)
+      subst (λ (l : List ℕ). AreLengths names l (contents new)) (sym (back ∙ here)) (lengths_after names items entries old new each can says are done)

@@ -1,6 +1,6 @@
 -- The record of a set of changes fits its files, and makes the changed texts of them.
-use Rattle.std.proofs.Common.{◌≡◌, ◌≢◌, inl, inr, ⊎_elim, ◌≤◌, ℕ, List, [], ◌∷◌, length, true, false, not, refl, sym, ◌∙◌, ap, subst, arith}
-use Rattle.std.specs.Prelude.{IsTrue}
+use Rattle.std.proofs.Common.{◌≡◌, ◌≢◌, inl, inr, ⊎_elim, ◌≤◌, ℕ, List, [], ◌∷◌, length, true, false, not, Option, Some, None, refl, sym, ◌∙◌, ap, subst, arith}
+use Rattle.std.specs.Prelude.{IsSomeAnd, IsTrue}
 use Rattle.std.specs.List.{AllByRecursion, IsDistinct}
 use Rattle.std.specs.Map.{keys_of}
 use Rattle.std.specs.Str.{bytes_eq}
@@ -10,11 +10,13 @@ use Rattle.org_disk.specs.Names.{is_file_name, journal_name}
 use Rattle.org_disk.proofs.Names.{name_cases, same_name}
 use Rattle.org_splice.specs.Patches.{PatchedTo, patched}
 use Rattle.org_splice.specs.Texts.{EditedText, IsEditOf, pairs_of}
+use Rattle.org_journal.specs.declared.record.Before.{Before}
 use Rattle.org_journal.specs.declared.record.Entry.{Entry}
 use Rattle.org_journal.specs.declared.record.Version.TheVariants.{Two}
 use Rattle.org_journal.specs.Record.{is_named, names_differ, greatest_length}
-use Rattle.org_journal.specs.Recovered.{Image, fits, all_fit, replayed}
-use Rattle.org_fileset.specs.Entries.{IsEntryOf, AreEntriesOf, changed}
+use Rattle.org_journal.specs.Recovered.{Image, fits, all_fit, kept_by, made_by, replayed}
+use Rattle.org_journal.proofs.Cutting.{kept_short}
+use Rattle.org_fileset.specs.Entries.{IsEntryOf, AreEntriesOf, SaySizes, changed}
 use Rattle.org_fileset.specs.Replay.{IsApplicable, AreApplicable}
 use Rattle.org_fileset.proofs.Recovers.{fits-true}
 
@@ -79,19 +81,29 @@ changes_fit (change ∷ changes) (entry ∷ entries) files are edits =
 changes_fit [] (entry ∷ entries) files are edits = absurd are
 changes_fit (change ∷ changes) [] files are edits = absurd are
 
+-- an entry that says how long its file is gets the final length
+pub said_kept : (before : Option Before) (final size : ℕ) → IsSomeAnd before (λ b. b.length ≡ size) → kept_by before final size ≡ final
+said_kept None final size says = absurd says
+said_kept (Some before) final size says = kept_short before final size (omega (arith, says))
+
+-- and makes the changed text
+change_made : (change : Change) (entry : Entry) (text : List ℕ) → IsEntryOf change entry → IsEditOf text change.1 → IsSomeAnd entry.before (λ b. b.length ≡ length text) → made_by entry text ≡ change.1.bytes
+change_made change entry text is edit says = ap (λ (n : ℕ). patched (pairs_of entry.patches) n text) (said_kept entry.before entry.length (length text) says) ∙ (is.makes text edit).makes
+
 -- the record makes the changed texts
-pub changes_made : (changes : List Change) (entries : List Entry) (files : Image) (name : List ℕ) → AreEntriesOf changes entries → AllByRecursion (λ (change : Change). IsEditOf (files change.0) change.1) changes
-    → replayed entries files name ≡ changed changes files name
-changes_made [] [] files name are edits = refl
-changes_made (change ∷ changes) (entry ∷ entries) files name are edits = elim (name_cases change.0 name) [
+pub changes_made : (changes : List Change) (entries : List Entry) (files : Image) (name : List ℕ) → AreEntriesOf changes entries → SaySizes (λ n. length (files n)) entries
+    → AllByRecursion (λ (change : Change). IsEditOf (files change.0) change.1) changes → replayed entries files name ≡ changed changes files name
+changes_made [] [] files name are says edits = refl
+changes_made (change ∷ changes) (entry ∷ entries) files name are says edits = elim (name_cases change.0 name) [
   | inl same ↦
       let e : bytes_eq entry.name name ≡ true = ap (λ (n : List ℕ). bytes_eq n name) are.0.name ∙ same.1 in
       let f : bytes_eq change.0 name ≡ true = same.1 in
-      rw (e, f) (ap (λ (n : List ℕ). patched (pairs_of entry.patches) entry.length (files n)) (sym same.0) ∙ (are.0.makes (files change.0) edits.0).makes)
+      rw (e, f) (ap (λ (n : List ℕ). made_by entry (files n)) (sym same.0)
+      ∙ change_made change entry (files change.0) are.0 edits.0 (subst (λ (n : List ℕ). IsSomeAnd entry.before (λ b. b.length ≡ length (files n))) are.0.name says.0))
   | inr other ↦
       let e : bytes_eq entry.name name ≡ false = ap (λ (n : List ℕ). bytes_eq n name) are.0.name ∙ other.1 in
       let f : bytes_eq change.0 name ≡ false = other.1 in
-      rw (e, f) (changes_made changes entries files name are.1 edits.1)
+      rw (e, f) (changes_made changes entries files name are.1 says.1 edits.1)
 ]
-changes_made [] (entry ∷ entries) files name are edits = absurd are
-changes_made (change ∷ changes) [] files name are edits = absurd are
+changes_made [] (entry ∷ entries) files name are says edits = absurd are
+changes_made (change ∷ changes) [] files name are says edits = absurd are

@@ -6,14 +6,14 @@ use Rattle.std.specs.Str.{bytes_eq}
 use Rattle.std.proofs.lemmas.Bool.{cases_Bool, and_parts, and_from, le-leb, leb-true, MatchBool-at_true, MatchBool-at_false}
 use Rattle.org_disk.specs.Names.{journal_name}
 use Rattle.org_disk.proofs.Names.{name_cases}
-use Rattle.org_splice.specs.Patches.{end_of, last_end, BeginWithin, Fit, PatchedTo, patched}
+use Rattle.org_splice.specs.Patches.{end_of, last_end, BeginWithin, Fit}
 use Rattle.org_splice.specs.Texts.{pairs_of}
 use Rattle.org_journal.specs.declared.record.Entry.{Entry}
 use Rattle.org_journal.specs.Gate.{is_open}
 use Rattle.org_journal.specs.Reading.{journal_at}
 use Rattle.org_journal.specs.Record.{is_named}
-use Rattle.org_journal.specs.Recovered.{Image, begins_within, fits, all_fit, replayed, recovered, SameFiles, RecoversTo}
-use Rattle.org_fileset.specs.Replay.{TakesTo, AreApplicable}
+use Rattle.org_journal.specs.Recovered.{Image, begins_within, fits, all_fit, made_by, replayed, recovered, SameFiles, RecoversTo}
+use Rattle.org_fileset.specs.Replay.{IsMadeBy, TakesTo, AreApplicable}
 use Rattle.org_fileset.proofs.Takes.{TakesTo-entry, TakesTo-other}
 use Rattle.org_fileset.proofs.Replaying.{not_journal}
 use Rattle.std.specs.Prelude.{slice_get}
@@ -41,8 +41,8 @@ true-fits patches final size is = grind (arith, common_steps, and_parts, true-be
 pub replayed-takes : (entries : List Entry) (image : Image) (name to : List ℕ) → TakesTo entries name (image name) to → replayed entries image name ≡ to
 replayed-takes [] image name to takes = takes
 replayed-takes (entry ∷ entries) image name to takes = elim (cases_Bool (bytes_eq entry.name name)) [
-  | inl same ↦ rw same (MatchBool-at_true (PatchedTo (pairs_of entry.patches) entry.length (image name) to) (TakesTo entries name (image name) to) same takes).makes
-  | inr other ↦ rw other (replayed-takes entries image name to (MatchBool-at_false (PatchedTo (pairs_of entry.patches) entry.length (image name) to) (TakesTo entries name (image name) to) other takes))
+  | inl same ↦ rw same (MatchBool-at_true (IsMadeBy entry (image name) to) (TakesTo entries name (image name) to) same takes).makes
+  | inr other ↦ rw other (replayed-takes entries image name to (MatchBool-at_false (IsMadeBy entry (image name) to) (TakesTo entries name (image name) to) other takes))
 ]
 
 -- and the other way, where each entry fits its file
@@ -53,15 +53,15 @@ takes-replayed (entry ∷ entries) image name to fit is =
     elim (name_cases entry.name name) [
       | inl same ↦
           let t : bytes_eq entry.name name ≡ true = same.1 in
-          let made : patched (pairs_of entry.patches) entry.length (image name) ≡ to =
-          sym (ap (λ (b : Bool). if b then patched (pairs_of entry.patches) entry.length (image name) else replayed entries image name) t) ∙ is in
+          let made : made_by entry (image name) ≡ to =
+          sym (ap (λ (b : Bool). if b then made_by entry (image name) else replayed entries image name) t) ∙ is in
           let fit_here : Fit (pairs_of entry.patches) entry.length (length (image name)) =
           subst (λ (n : List ℕ). Fit (pairs_of entry.patches) entry.length (length (image n))) same.0 (true-fits (pairs_of entry.patches) entry.length (length (image entry.name)) parts.0) in
           rw t (record { fit = fit_here; makes = made })
       | inr other ↦
           let f : bytes_eq entry.name name ≡ false = other.1 in
           let rest : replayed entries image name ≡ to =
-          sym (ap (λ (b : Bool). if b then patched (pairs_of entry.patches) entry.length (image name) else replayed entries image name) f) ∙ is in
+          sym (ap (λ (b : Bool). if b then made_by entry (image name) else replayed entries image name) f) ∙ is in
           rw f (takes-replayed entries image name to parts.1 rest)
     ]
 
@@ -95,7 +95,7 @@ open_recovers entries texts image opened found stand name not = grind (arith, co
 
 -- what the record makes of the file of an entry is what the entry makes
 pub replayed-entry : (entries : List Entry) (image : Image) (i : ℕ) (entry : Entry) → AreApplicable entries → all_fit entries image ≡ true → slice_get entries i ≡ Some entry
-    → PatchedTo (pairs_of entry.patches) entry.length (image entry.name) (replayed entries image entry.name)
+    → IsMadeBy entry (image entry.name) (replayed entries image entry.name)
 replayed-entry entries image i entry applicable fit is =
     TakesTo-entry entries i entry (image entry.name) (replayed entries image entry.name) applicable.apart is (takes-replayed entries image entry.name (replayed entries image entry.name) fit refl)
 

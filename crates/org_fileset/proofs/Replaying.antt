@@ -1,5 +1,5 @@
 -- How a run of calls goes on that applies a record to its files.
-use Rattle.std.proofs.Common.{rules, ◌≡◌, ◌≢◌, inl, inr, ℕ, zero, suc, ◌+◌, ◌<◌, ◌≤◌, List, [], ◌∷◌, length, Bool, true, false, not, Result, Some, refl, sym, ◌∙◌, ap, subst, arith}
+use Rattle.std.proofs.Common.{◌≡◌, ◌≢◌, inl, inr, ℕ, zero, suc, ◌+◌, ◌<◌, ◌≤◌, List, [], ◌∷◌, length, Bool, true, false, not, Result, Some, refl, sym, ◌∙◌, ap, subst, arith}
 use Rattle.std.proofs.lemmas.Grind.{common_steps}
 use Rattle.std.specs.Prelude.{slice_get, ◌||◌}
 use Rattle.std.specs.Str.{bytes_eq}
@@ -11,11 +11,10 @@ use Rattle.org_disk.specs.declared.disk.DiskFault.{DiskFault}
 use Rattle.org_disk.proofs.Images.{only_image, stable_is}
 use Rattle.org_disk.proofs.Moments.{passes_then, passes_none}
 use Rattle.org_disk.proofs.Names.{name_cases}
-use Rattle.org_splice.specs.Texts.{pairs_of}
 use Rattle.org_journal.specs.declared.record.Entry.{Entry}
 use Rattle.org_journal.specs.Record.{is_named, names_differ}
 use Rattle.org_journal.specs.Recovered.{Image, contents}
-use Rattle.org_fileset.specs.Replay.{EachPatchedTo, AppliesPatches, TakesTo, AreApplicable, EachTakes, Replays, LeavesTaking}
+use Rattle.org_fileset.specs.Replay.{EachMadeBy, IsMadeBy, Applies, TakesTo, AreApplicable, EachTakes, Replays, LeavesTaking}
 use Rattle.org_fileset.proofs.Patching.{applies_none, applies_call}
 use Rattle.org_fileset.proofs.Takes.{TakesTo-entry, entry-TakesTo, named_apart, journal_unnamed}
 
@@ -23,9 +22,9 @@ use Rattle.org_fileset.proofs.Takes.{TakesTo-entry, entry-TakesTo, named_apart, 
 pub not_journal : (entries : List Entry) (i : ℕ) (entry : Entry) → AreApplicable entries → slice_get entries i ≡ Some entry → entry.name ≢ journal_name
 not_journal entries i entry applicable is = λ same. named_apart entries i entry journal_name (journal_unnamed entries applicable.each) is (sym same)
 
--- whatever a crash leaves of an entry's file takes its patches
+-- of whatever a crash leaves of its file an entry makes one text
 pub entry_takes : (entries : List Entry) (texts : Image) (files : List ℕ → FileState) (i : ℕ) (entry : Entry) → AreApplicable entries → slice_get entries i ≡ Some entry
-    → EachTakes entries texts files → EachPatchedTo (pairs_of entry.patches) entry.length (texts entry.name) (files entry.name)
+    → EachTakes entries texts files → EachMadeBy entry (texts entry.name) (files entry.name)
 entry_takes entries texts files i entry applicable is takes text image =
     TakesTo-entry entries i entry text (texts entry.name) applicable.apart is (takes.each entry.name (not_journal entries i entry applicable is) text image)
 
@@ -39,7 +38,7 @@ replays_none {entries} {texts} m s files takes = record {
 -- calls on the file of one entry
 pub replays_entry : {entries : List Entry} {texts : Image} {m n k : ℕ} {s u v : ℕ → Image → Type 0} {old mid new : List ℕ → FileState} (i : ℕ) (entry : Entry)
     → AreApplicable entries → slice_get entries i ≡ Some entry → IsStable (old journal_name)
-    → Replays entries texts m n s u old mid → AppliesPatches (pairs_of entry.patches) entry.length entry.name (texts entry.name) n k u v mid new → Replays entries texts m k s v old new
+    → Replays entries texts m n s u old mid → Applies entry (texts entry.name) n k u v mid new → Replays entries texts m k s v old new
 replays_entry {entries} {texts} {old = old} {mid = mid} {new = new} i entry applicable is stable sofar applies = record {
   any_moment = passes_then sofar.any_moment applies.any_moment (λ image left. record {
     same_journal = only_image stable (image journal_name) (subst (λ f. IsImage f (image journal_name)) (sofar.others journal_name none) (left.others journal_name (λ same. apart (sym same))));
@@ -66,10 +65,13 @@ replays_entry {entries} {texts} {old = old} {mid = mid} {new = new} i entry appl
     none = journal_unnamed entries applicable.each
 
 -- a sync of the file of one entry
-pub applies_sync : {patches : List (ℕ × List ℕ)} {final : ℕ} {name to : List ℕ} {m n : ℕ} {s u : ℕ → Image → Type 0} {old new : List ℕ → FileState} (r : Result (Unit {0}) DiskFault)
-    → EachPatchedTo patches final to (old name) → IsImage (old name) (old name).content → Changes sync name old new r → Passes m n s u (AreLeftBy sync name old)
-    → AppliesPatches patches final name to m n s u old new
-applies_sync {patches} {final} {name} {to} {m = m} {s = s} {old = old} r takes own changes time = search (rules, arith, applies_call, applies_none, only_image, stable_is)
+pub applies_sync : {entry : Entry} {to : List ℕ} {m n : ℕ} {s u : ℕ → Image → Type 0} {old new : List ℕ → FileState} (r : Result (Unit {0}) DiskFault)
+    → EachMadeBy entry to (old entry.name) → IsImage (old entry.name) (old entry.name).content → Changes sync entry.name old new r → Passes m n s u (AreLeftBy sync entry.name old)
+    → Applies entry to m n s u old new
+applies_sync {entry} {to} {m = m} {s = s} {old = old} r takes own changes time =
+    applies_call sync r (applies_none m s old takes)
+    (λ text image. subst (λ (t : List ℕ). IsMadeBy entry t to) (sym (only_image (stable_is (old entry.name).content) text image)) (takes (old entry.name).content own))
+    changes time
 
 -- the entries up to one have their texts
 abbrev pub HaveTexts : List Entry → Image → ℕ → (List ℕ → FileState) → Type 0

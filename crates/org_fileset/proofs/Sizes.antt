@@ -1,5 +1,5 @@
 -- What an opening says of the journal and of the sizes of its files.
-use Rattle.std.proofs.Common.{arith, ◌≡◌, ℕ, List, Err, Result, None, refl, sym, subst, Ok}
+use Rattle.std.proofs.Common.{arith, ◌≡◌, ℕ, List, Err, Result, sym, subst, Ok}
 use Rattle.std.proofs.lemmas.Grind.{common_steps}
 use Rattle.std.specs.Prelude.{IsErrAnd, IsErrOf}
 use Rattle.org_journal.specs.Recovered.{Image, contents}

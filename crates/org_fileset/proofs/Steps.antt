@@ -68,14 +68,12 @@ all_applied items patches k final text now same done applied =
     let enough : length (pairs_of patches) ≤ k = omega (arith, done, long, ap length same) in
     ap (λ (l : List ℕ). take final l) (applied ∙ ap (λ (l : List (ℕ × List ℕ)). patched_each l text) (take_all k (pairs_of patches) enough))
 
--- all of them written to a text that wasn't longer than the final one
-pub short_applied : (items patches : List Patch) (k final : ℕ) (text now : List ℕ) → AreWellFormed (pairs_of patches) final → Fit (pairs_of patches) final (length text) → items ≡ patches → length items ≤ k
-    → now ≡ patched_each (take k (pairs_of patches)) text → length text ≤ final → length now ≤ final
-short_applied items patches k final text now formed fit same done applied short =
+-- all of them written: how long the text is then
+pub length_applied : (items patches : List Patch) (k final : ℕ) (text now : List ℕ) → AreWellFormed (pairs_of patches) final → Fit (pairs_of patches) final (length text) → items ≡ patches → length items ≤ k
+    → now ≡ patched_each (take k (pairs_of patches)) text → length now ≡ max (length text) (last_end 0 (pairs_of patches))
+length_applied items patches k final text now formed fit same done applied =
     let pair : Patch → ℕ × List ℕ = λ p. (p.from, p.bytes) in
     let long : length (map pair patches) ≡ length patches = length-map patches pair in
     let enough : length (pairs_of patches) ≤ k = omega (arith, done, long, ap length same) in
-    let whole = ap length (applied ∙ ap (λ (l : List (ℕ × List ℕ)). patched_each l text) (take_all k (pairs_of patches) enough)) in
-    let ends : length (patched_each (pairs_of patches) text) ≡ max (length text) (last_end 0 (pairs_of patches)) =
-    length-patched_each (length text) 0 (pairs_of patches) text (omega arith) formed.rise fit.begin in
-    omega (arith, whole, ends, formed.within, short)
+    ap length (applied ∙ ap (λ (l : List (ℕ × List ℕ)). patched_each l text) (take_all k (pairs_of patches) enough))
+    ∙ length-patched_each (length text) 0 (pairs_of patches) text (omega arith) formed.rise fit.begin

@@ -7,11 +7,9 @@ use Rattle.std.specs.Str.{bytes_eq}
 use Rattle.std.proofs.lemmas.Bool.{and_parts, not-true, true≢false, false≢true, MatchBool-at_true, MatchBool-at_false}
 use Rattle.org_disk.specs.Names.{journal_name}
 use Rattle.org_disk.proofs.Names.{name_cases, same_name}
-use Rattle.org_splice.specs.Patches.{PatchedTo}
-use Rattle.org_splice.specs.Texts.{pairs_of}
 use Rattle.org_journal.specs.declared.record.Entry.{Entry}
 use Rattle.org_journal.specs.Record.{is_named, names_differ}
-use Rattle.org_fileset.specs.Replay.{TakesTo, IsApplicable}
+use Rattle.org_fileset.specs.Replay.{IsMadeBy, TakesTo, IsApplicable}
 
 or_false : (a b : Bool) → (a || b) ≡ false → (a ≡ false) × (b ≡ false)
 or_false true b is = absurd (true≢false is)
@@ -22,7 +20,7 @@ pub TakesTo-other : (entries : List Entry) (name text to : List ℕ) → is_name
 TakesTo-other [] name text to none takes = takes
 TakesTo-other (entry ∷ entries) name text to none takes =
     let parts = or_false (bytes_eq entry.name name) (is_named name entries) none in
-    TakesTo-other entries name text to parts.1 (MatchBool-at_false (PatchedTo (pairs_of entry.patches) entry.length text to) (TakesTo entries name text to) parts.0 takes)
+    TakesTo-other entries name text to parts.1 (MatchBool-at_false (IsMadeBy entry text to) (TakesTo entries name text to) parts.0 takes)
 
 -- a name that no entry has isn't this entry's
 pub named_apart : (entries : List Entry) (i : ℕ) (entry : Entry) (name : List ℕ) → is_named name entries ≡ false → slice_get entries i ≡ Some entry → name ≢ entry.name
@@ -37,16 +35,16 @@ later_name first entries i entry differ is = grind (arith, common_steps, and_par
 
 -- of the file that an entry names, the record makes what the entry makes
 pub TakesTo-entry : (entries : List Entry) (i : ℕ) (entry : Entry) (text to : List ℕ) → names_differ entries ≡ true → slice_get entries i ≡ Some entry
-    → TakesTo entries entry.name text to → PatchedTo (pairs_of entry.patches) entry.length text to
+    → TakesTo entries entry.name text to → IsMadeBy entry text to
 TakesTo-entry [] i entry text to differ is takes = absurd (cc)
 TakesTo-entry (first ∷ entries) zero entry text to differ is takes = grind (arith, common_steps, same_name, MatchBool-at_true)
 TakesTo-entry (first ∷ entries) (suc i) entry text to differ is takes =
     let other = later_name first entries i entry differ is in
     TakesTo-entry entries i entry text to (and_parts (not (is_named first.name entries)) (names_differ entries) differ).1 is
-    (MatchBool-at_false (PatchedTo (pairs_of first.patches) first.length text to) (TakesTo entries entry.name text to) other takes)
+    (MatchBool-at_false (IsMadeBy first text to) (TakesTo entries entry.name text to) other takes)
 
 pub entry-TakesTo : (entries : List Entry) (i : ℕ) (entry : Entry) (text to : List ℕ) → names_differ entries ≡ true → slice_get entries i ≡ Some entry
-    → PatchedTo (pairs_of entry.patches) entry.length text to → TakesTo entries entry.name text to
+    → IsMadeBy entry text to → TakesTo entries entry.name text to
 entry-TakesTo [] i entry text to differ is applies = absurd (cc)
 entry-TakesTo (first ∷ entries) zero entry text to differ is applies = grind (arith, common_steps, same_name)
 entry-TakesTo (first ∷ entries) (suc i) entry text to differ is applies = grind (arith, common_steps, later_name, and_parts, entry-TakesTo entries i entry text to (and_parts (not (is_named first.name entries)) (names_differ entries) differ).1 is applies)

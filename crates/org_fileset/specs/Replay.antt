@@ -1,6 +1,6 @@
 -- Files to which a record is being applied: whatever a crash leaves of them, the record makes the
 -- same texts of it.
-use Rattle.std.specs.Prelude.{◌≡◌, ◌≢◌, ◌⊎◌, ℕ, ◌^◌, ◌<◌, ◌≤◌, List, [], ◌∷◌, length, drop, Some, Result, OnOk, MatchBool, IsTrue, IsFalse}
+use Rattle.std.specs.Prelude.{◌≡◌, ◌≢◌, ◌⊎◌, ℕ, ◌^◌, ◌<◌, ◌≤◌, List, [], ◌∷◌, length, drop, Option, Some, None, Result, OnOk, MatchBool, IsTrue, IsFalse}
 use Rattle.org_disk.specs.declared.disk.Disk.{Ghosts}
 use Rattle.std.specs.List.{AllByRecursion}
 use Rattle.std.specs.Str.{bytes_eq}
@@ -8,42 +8,47 @@ use Rattle.org_disk.specs.Disk.{FileState, IsImage, IsStable, Passes}
 use Rattle.org_disk.specs.CountsFailures.{PassesOver, LeavesOver}
 use Rattle.org_disk.specs.Names.{journal_name, is_file_name}
 use Rattle.org_disk.specs.declared.disk.DiskFault.{DiskFault}
-use Rattle.org_splice.specs.Patches.{AreWellFormed, Fit, PatchedTo}
+use Rattle.org_splice.specs.Patches.{AreWellFormed, Fit}
 use Rattle.org_splice.specs.Texts.{pairs_of}
+use Rattle.org_journal.specs.declared.record.Before.{Before}
 use Rattle.org_journal.specs.declared.record.Entry.{Entry}
 use Rattle.org_journal.specs.declared.record.Version.TheVariants.{Two}
 use Rattle.org_journal.specs.Record.{is_named, names_differ, greatest_length}
 use Rattle.org_journal.specs.Gate.{is_open, HasClosedGate}
 use Rattle.org_journal.specs.Reading.{journal_at}
-use Rattle.org_journal.specs.Recovered.{Image, SameFiles, RecoversTo, IsRecoverable, all_fit, contents, replayed}
+use Rattle.org_journal.specs.Recovered.{Image, SameFiles, RecoversTo, IsRecoverable, all_fit, contents, made_by, replayed}
 use Rattle.org_fileset.specs.Writes.{LeavesAlone, IsUnwritten}
 
--- whatever a crash leaves of the file takes the patches to this text
-abbrev pub EachPatchedTo : List (ℕ × List ℕ) → ℕ → List ℕ → FileState → Type 0
-EachPatchedTo patches final to file =
-    (text : List ℕ) → IsImage file text → PatchedTo patches final text to
+-- the entry fits this text, and makes that one of it
+pub record IsMadeBy (entry : Entry) (text to : List ℕ) : Type 0 where
+  pub fit : Fit (pairs_of entry.patches) entry.length (length text)
+  pub makes : made_by entry text ≡ to
 
--- what is left: a text of this file that takes the patches to `to`, and an image of each other file
-pub record LeavesPatched (patches : List (ℕ × List ℕ)) (final : ℕ) (name to : List ℕ)
-    (files : List ℕ → FileState) (image : Image) : Type 0 where
-  pub here : PatchedTo patches final (image name) to
-  pub others : (other : List ℕ) → other ≢ name → IsImage (files other) (image other)
+-- the entry makes this text of whatever a crash leaves of the file
+abbrev pub EachMadeBy : Entry → List ℕ → FileState → Type 0
+EachMadeBy entry to file = (text : List ℕ) → IsImage file text → IsMadeBy entry text to
 
--- Calls that apply patches to one file, all of them or some: at each moment, and now, what a crash
--- leaves of the file takes the patches to the same text.
-pub record AppliesPatches (patches : List (ℕ × List ℕ)) (final : ℕ) (name to : List ℕ)
-    (before now : ℕ) (past since : ℕ → Image → Type 0) (old new : List ℕ → FileState) : Type 0 where
-  pub any_moment : Passes before now past since (LeavesPatched patches final name to old)
-  pub takes : EachPatchedTo patches final to (new name)
-  pub others : (other : List ℕ) → other ≢ name → new other ≡ old other
+-- what is left: a text of the entry's file of which the entry makes `to`, and an image of each
+-- other file
+pub record LeavesMaking (entry : Entry) (to : List ℕ) (files : List ℕ → FileState) (image : Image)
+    : Type 0 where
+  pub here : IsMadeBy entry (image entry.name) to
+  pub others : (other : List ℕ) → other ≢ entry.name → IsImage (files other) (image other)
+
+-- Calls that apply an entry to its file, all of it or a part: at each moment, and now, the entry
+-- makes the same text of what a crash leaves of the file.
+pub record Applies (entry : Entry) (to : List ℕ) (before now : ℕ) (past since : ℕ → Image → Type 0)
+    (old new : List ℕ → FileState) : Type 0 where
+  pub any_moment : Passes before now past since (LeavesMaking entry to old)
+  pub takes : EachMadeBy entry to (new entry.name)
+  pub others : (other : List ℕ) → other ≢ entry.name → new other ≡ old other
 
 -- the record makes `to` of this text of the file with that name; what it doesn't name stays as it
 -- is
 abbrev pub TakesTo : List Entry → List ℕ → List ℕ → List ℕ → Type 0
 TakesTo [] name text to = text ≡ to
 TakesTo (entry ∷ entries) name text to =
-    MatchBool (bytes_eq entry.name name) (PatchedTo (pairs_of entry.patches) entry.length text to)
-    (TakesTo entries name text to)
+    MatchBool (bytes_eq entry.name name) (IsMadeBy entry text to) (TakesTo entries name text to)
 
 -- an entry that can be applied to a file which it fits
 pub record IsApplicable (entry : Entry) : Type 0 where
@@ -59,6 +64,11 @@ pub record AreApplicable (entries : List Entry) : Type 0 where
 pub record AreApplicableTo (entries : List Entry) (files : List ℕ → FileState) : Type 0 where
   pub applicable : AreApplicable entries
   pub fits : IsTrue (all_fit entries (contents files))
+
+-- how long a file was before its entry was made: as the entry says, or as it is
+abbrev pub length_before : Option Before → (size : ℕ) → ℕ
+length_before None size = size
+length_before (Some before) size = before.length
 
 -- The entry's patches can be applied to a file of these bytes, which they fit.
 pub record CanPatch (entry : Entry) (bytes : List ℕ) : Type 0 where
@@ -168,12 +178,11 @@ pub record CommitsEntriesOver {D : Type 0} (g : Ghosts D) (entries : List Entry)
 
 -- Calls over a disk that apply an entry to its file, all of it or a part: at each moment, and now,
 -- the entry makes the same text of whatever a crash leaves of the file, if it did so at the start.
-abbrev pub AppliesPatchesOver : {D : Type 0} → Ghosts D → Entry → D → D → Type 0
-AppliesPatchesOver g entry old new =
-    (to : List ℕ)
-    → EachPatchedTo (pairs_of entry.patches) entry.length to (g.files old entry.name)
-    → AppliesPatches (pairs_of entry.patches) entry.length entry.name to (g.instant old)
-    (g.instant new) (g.left_since old) (g.left_since new) (g.files old) (g.files new)
+abbrev pub AppliesOver : {D : Type 0} → Ghosts D → Entry → D → D → Type 0
+AppliesOver g entry old new =
+    (to : List ℕ) → EachMadeBy entry to (g.files old entry.name)
+    → Applies entry to (g.instant old) (g.instant new) (g.left_since old) (g.left_since new)
+    (g.files old) (g.files new)
 
 -- The same of a record and its files, if the journal is on the disk.
 abbrev pub TakesOver : {D : Type 0} → Ghosts D → List Entry → D → D → Type 0

@@ -2,14 +2,12 @@
 //!
 //! Each step may be stopped and done again: a record makes the same text of whatever a crash left
 //! of its file. Nothing here looks at the journal.
-ghost use Rattle.std.specs.Prelude.{◌≡◌, ◌≢◌, ◌+◌, ◌^◌, ◌<◌, ◌≤◌, List, ℕ, length, IsFalse, OnOk, IsErr};
+ghost use Rattle.std.specs.Prelude.{◌≡◌, ◌≢◌, ◌+◌, ◌^◌, ◌<◌, ◌≤◌, List, ℕ, length, IfOk, IsFalse, OnOk, IsErr};
 ghost use Rattle.org_disk.specs.Disk.{AreLeftBy, Changes, IsStable, write};
-ghost use Rattle.org_disk.specs.CountsFailures.{CountsFailures, PassesOver};
-ghost use Rattle.org_splice.specs.Patches.{patched};
-ghost use Rattle.org_splice.specs.Texts.{pairs_of};
+ghost use Rattle.org_disk.specs.CountsFailures.{CountsFailures, Looks, PassesOver};
 ghost use Rattle.org_journal.specs.Record.{is_named};
-ghost use Rattle.org_journal.specs.Recovered.{contents, replayed};
-ghost use Rattle.org_fileset.specs.Replay.{AreApplicable, AreApplicableTo, CanPatch, AppliesPatchesOver, TakesOver};
+ghost use Rattle.org_journal.specs.Recovered.{contents, made_by, replayed};
+ghost use Rattle.org_fileset.specs.Replay.{AreApplicable, AreApplicableTo, CanPatch, AppliesOver, TakesOver, length_before};
 ghost use Rattle.org_fileset.specs.Writes.{LeavesAlone};
 
 use org_disk::{Disk, DiskFault, FileName};
@@ -34,26 +32,40 @@ fn write_patch<D: Disk>(disk: &mut D, name: &FileName, patch: &Patch) -> Result<
     disk.write_at(name, patch.from, patch.bytes.as_slice())
 }
 
-/// Applies an entry's patches to its file, and cuts it to the entry's length where it was longer
-/// before. What the file got meanwhile, past its end, is another program's, and isn't cut off.
-/// Before, within and after it, also where it fails, the entry makes the same text of whatever a
-/// crash leaves of the file.
+/// Applies an entry's patches to its file, and cuts it to the entry's length if it was longer than
+/// that before its entry was made; an entry of version 1 or 2 doesn't say so, and the file is asked.
+/// What another program put past the end of a file that was no longer isn't cut off. Before, within
+/// and after it, also where it fails, the entry makes the same text of whatever a crash leaves of
+/// the file.
 ///
 /// # Errors
 ///
 /// `DiskFault`: a call of the disk failed.
 pub fn apply_entry<D: Disk>(disk: &mut D, entry: &Entry) -> Result<(), DiskFault>
     requires { D.honest disk.old → CanPatch entry.now (D.files disk.old entry.now.name).content }
-    ensures applies { D.honest disk.new → AppliesPatchesOver D.Disk entry.now disk.old disk.new }
+    ensures applies { D.honest disk.new → AppliesOver D.Disk entry.now disk.old disk.new }
     ensures content { OnOk result (D.honest disk.new → (D.files disk.new entry.now.name).content
-        ≡ patched (pairs_of entry.now.patches) entry.now.length
-        (D.files disk.old entry.now.name).content) }
+        ≡ made_by entry.now (D.files disk.old entry.now.name).content) }
     ensures alone { D.honest disk.new → LeavesAlone D.Disk
         (λ other. other ≢ entry.now.name) disk.old disk.new }
     ensures accounts { CountsFailures D.Disk disk.old disk.new (IsErr result) }
 {
-    let before = disk.length(&entry.name)?;
+    let before = length_before(disk, entry)?;
     apply_patches(disk, entry, before)
+}
+
+// How long the file of an entry was before: as the entry says, or as it is.
+fn length_before<D: Disk>(disk: &mut D, entry: &Entry) -> Result<u64, DiskFault>
+    ensures length { IfOk result (λ n. D.honest disk.new
+        → n ≡ length_before entry.now.before
+        (length (D.files disk.old entry.now.name).content)) }
+    ensures looks { Looks D.Disk disk.old disk.new }
+    ensures accounts { CountsFailures D.Disk disk.old disk.new (IsErr result) }
+{
+    match &entry.before {
+        Some(before) => Ok(before.length),
+        None => disk.length(&entry.name),
+    }
 }
 
 // Applies an entry's patches to its file, which had so many bytes before. The length that is asked
@@ -61,12 +73,11 @@ pub fn apply_entry<D: Disk>(disk: &mut D, entry: &Entry) -> Result<(), DiskFault
 fn apply_patches<D: Disk>(disk: &mut D, entry: &Entry, before: u64) -> Result<(), DiskFault>
     requires can { D.honest disk.old
         → CanPatch entry.now (D.files disk.old entry.now.name).content }
-    requires before { D.honest disk.old
-        → before ≡ length (D.files disk.old entry.now.name).content }
-    ensures applies { D.honest disk.new → AppliesPatchesOver D.Disk entry.now disk.old disk.new }
+    requires before { D.honest disk.old → before ≡ length_before entry.now.before
+        (length (D.files disk.old entry.now.name).content) }
+    ensures applies { D.honest disk.new → AppliesOver D.Disk entry.now disk.old disk.new }
     ensures content { OnOk result (D.honest disk.new → (D.files disk.new entry.now.name).content
-        ≡ patched (pairs_of entry.now.patches) entry.now.length
-        (D.files disk.old entry.now.name).content) }
+        ≡ made_by entry.now (D.files disk.old entry.now.name).content) }
     ensures alone { D.honest disk.new → LeavesAlone D.Disk
         (λ other. other ≢ entry.now.name) disk.old disk.new }
     ensures accounts { CountsFailures D.Disk disk.old disk.new (IsErr result) }

@@ -1,20 +1,21 @@
 //! The laws of applying records to files, for all values.
 //!
 //! Each is the contract of a function with nothing to do.
-ghost use Rattle.std.specs.Prelude.{◌≡◌, ◌≤◌, ◌⊎◌, List, ℕ, Some, length, slice_get, IsSomeAnd, IsTrue};
+ghost use Rattle.std.specs.Prelude.{◌≡◌, ◌≤◌, ◌+◌, ◌⊎◌, List, ℕ, Some, length, drop, slice_get, IsSomeAnd, IsFalse, IsTrue};
 ghost use Rattle.std.specs.List.{Contains};
 ghost use Rattle.org_disk.specs.CountsFailures.{LeavesOver};
 ghost use Rattle.org_disk.specs.Disk.{FileState, IsImage, IsStable, AreImages, write, cut, sync};
-ghost use Rattle.org_splice.specs.Patches.{AreWellFormed, Fit, PatchedTo, IsPartlyPatched, patched};
+ghost use Rattle.org_splice.specs.Patches.{AreWellFormed, Fit, PatchedTo, IsPartlyPatched, last_end, patched};
 ghost use Rattle.org_splice.specs.Texts.{EditedText, IsEditOf, pairs_of};
+ghost use Rattle.org_journal.specs.declared.record.Before.{Before};
 ghost use Rattle.org_journal.specs.declared.record.Entry.{Entry};
 ghost use Rattle.org_splice.specs.declared.patch.Patch.{Patch};
-ghost use Rattle.org_journal.specs.Recovered.{Image, RecoversTo, SameFiles, recovered, contents};
+ghost use Rattle.org_journal.specs.Recovered.{Image, RecoversTo, SameFiles, recovered, contents, made_by, may_cut};
 ghost use Rattle.org_journal.specs.Left.{is_left};
 ghost use Rattle.org_fileset.specs.Entries.{IsEntryOf, changed};
 ghost use Rattle.org_fileset.specs.Left.{StaysLeftBy};
 ghost use Rattle.org_fileset.specs.Recovery.{IsReopened, RecoversAsBefore};
-ghost use Rattle.org_fileset.specs.Replay.{IsAtRest, IsBeforeOrAfter, IsCommitted, RestsOn, files_on};
+ghost use Rattle.org_fileset.specs.Replay.{IsAtRest, IsBeforeOrAfter, IsCommitted, IsMadeBy, RestsOn, files_on};
 ghost use Rattle.org_fileset.specs.Laws.{AllStable, AreAtRest, AreOtherFiles, IsOpenFor, IsBetween, IsFound, KeepsTexts, IsEachOldOrNew};
 
 use org_disk::Disk;
@@ -30,6 +31,20 @@ pub fn applied_twice_as_once()
         → AreWellFormed patches final → Fit patches final (length text)
         → IsPartlyPatched patches final text part
         → PatchedTo patches final part (patched patches final text) }
+    // The same of an entry, whether or not it may cut its file.
+    ensures entry { (entry : Entry) (text : List ℕ)
+        → AreWellFormed (pairs_of entry.patches) entry.length
+        → Fit (pairs_of entry.patches) entry.length (length text)
+        → IsMadeBy entry (made_by entry text) (made_by entry text) }
+{}
+
+/// An entry that may not cut its file leaves all that the file has past the final length.
+pub fn longer_files_keep_their_end()
+    ensures { (entry : Entry) (text : List ℕ)
+        → AreWellFormed (pairs_of entry.patches) entry.length
+        → Fit (pairs_of entry.patches) entry.length (length text)
+        → IsFalse (may_cut entry.before entry.length)
+        → drop entry.length (made_by entry text) ≡ drop entry.length text }
 {}
 
 /// Each of the calls that apply an entry to its file, made while the journal stands open with the
@@ -43,10 +58,11 @@ pub fn calls_keep_texts()
         → Contains entries entry → Contains entry.patches patch
         → patch.from ≤ length (contents files entry.name)
         → KeepsTexts (write patch.from patch.bytes) entry.name entries texts files }
-    // a cut of the entry's file to the entry's length
+    // a cut of the entry's file to the entry's length, where the entry may cut it
     ensures cut { (entries : List Entry) (texts : Image) (files : List ℕ → FileState)
         (entry : Entry) → IsOpenFor entries texts files → AreImages files (contents files)
-        → Contains entries entry → entry.length ≤ length (contents files entry.name)
+        → Contains entries entry → IsTrue (may_cut entry.before entry.length)
+        → entry.length ≤ length (contents files entry.name)
         → KeepsTexts (cut entry.length) entry.name entries texts files }
     // a sync of the entry's file
     ensures sync { (entries : List Entry) (texts : Image) (files : List ℕ → FileState)
@@ -54,14 +70,22 @@ pub fn calls_keep_texts()
         → Contains entries entry → KeepsTexts sync entry.name entries texts files }
 {}
 
-/// No file that a crash leaves of a commit is found to be changed, as far as its bytes go. The entry
-/// that a commit makes of a file says what it was; and the calls that apply the entry, a write of a
-/// patch, a cut to the final length and a sync, leave nothing of it but what the entry allows. After
-/// a call that failed, or within one, a crash leaves what it leaves before or after the call.
+/// No file that a crash leaves of a commit is found to be changed, as far as its bytes go, nor one
+/// that a crash leaves of an opening which goes on with it. The entry that a commit makes of a file
+/// says what it was; and the calls that apply the entry, a write of a patch, a cut to the final
+/// length and a sync, leave nothing of it but what the entry allows. After a call that failed, or
+/// within one, a crash leaves what it leaves before or after the call.
 pub fn crashed_files_are_left()
     ensures begin { (change : List ℕ × EditedText) (entry : Entry) (file : FileState)
         → IsEntryOf change entry → IsStable file → IsEditOf file.content change.1
         → IsSomeAnd entry.before (λ before. before.length ≡ length file.content)
+        → StaysLeftBy entry file }
+    // what an opening begins with: each image of the file is as a crash may have left it
+    ensures found { (entry : Entry) (before : Before) (file : FileState)
+        → entry.before ≡ Some before
+        → last_end 0 (pairs_of entry.patches) + length before.trailing ≤ entry.length
+        → IsImage file file.content
+        → ((text : List ℕ) → IsImage file text → IsTrue (is_left entry text))
         → StaysLeftBy entry file }
     ensures write { (entry : Entry) (file : FileState) (k from : ℕ) (bytes : List ℕ)
         → AreWellFormed (pairs_of entry.patches) entry.length

@@ -12,4 +12,5 @@ pub mod Fitting
 pub mod Accounted
 pub mod ReadBack
 pub mod Ends
+pub mod Cutting
 mod Vectors

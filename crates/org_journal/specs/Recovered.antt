@@ -1,12 +1,13 @@
 -- What an image of a disk recovers to: with an open gate, what the journal's record makes of the
 -- files; else the files themselves. And when a disk is recoverable.
-use Rattle.std.specs.Prelude.{◌≡◌, ◌≢◌, ◌⊎◌, ℕ, Bool, true, ◌&&◌, IsTrue, IsFalse, nat_le, max, List, [], ◌∷◌, length, drop, Option, Some, None, IsSomeAnd, if◌then◌else◌}
+use Rattle.std.specs.Prelude.{◌≡◌, ◌≢◌, ◌⊎◌, ℕ, Bool, true, ◌&&◌, IsTrue, IsFalse, nat_le, nat_lt, max, List, [], ◌∷◌, length, drop, Option, Some, None, IsSomeAnd, if◌then◌else◌}
 use Rattle.std.specs.List.{list_all}
 use Rattle.std.specs.Str.{bytes_eq}
 use Rattle.org_disk.specs.Disk.{FileState, IsImage, IsStable, AreImages}
 use Rattle.org_disk.specs.Names.{journal_name}
 use Rattle.org_splice.specs.Patches.{end_of, last_end, patched}
 use Rattle.org_splice.specs.Texts.{pairs_of}
+use Rattle.org_journal.specs.declared.record.Before.{Before}
 use Rattle.org_journal.specs.declared.record.Entry.{Entry}
 use Rattle.org_journal.specs.Gate.{is_open}
 use Rattle.org_journal.specs.Record.{is_named}
@@ -33,12 +34,27 @@ all_fit entries image =
     list_all (λ entry. fits (pairs_of entry.patches) entry.length
     (length (image entry.name))) entries
 
+-- A replay may cut a file to its final length: it was longer before, or its entry doesn't say how
+-- long it was.
+abbrev pub may_cut : Option Before → (final : ℕ) → Bool
+may_cut None final = true
+may_cut (Some before) final = nat_lt final before.length
+
+-- how many bytes a replay keeps of a file of this size: where it doesn't cut, what another program
+-- put after the end stays
+abbrev pub kept_by : Option Before → (final size : ℕ) → ℕ
+kept_by before final size = if may_cut before final then final else max final size
+
+-- what an entry makes of a text
+abbrev pub made_by : Entry → List ℕ → List ℕ
+made_by entry text = patched (pairs_of entry.patches)
+    (kept_by entry.before entry.length (length text)) text
+
 -- the files that entries make of these: each has its patches applied to it
 abbrev pub replayed : List Entry → Image → Image
 replayed [] image name = image name
 replayed (entry ∷ entries) image name =
-    if bytes_eq entry.name name then patched (pairs_of entry.patches) entry.length (image name)
-    else replayed entries image name
+    if bytes_eq entry.name name then made_by entry (image name) else replayed entries image name
 
 -- what an image recovers to; nothing where its journal is bad
 abbrev pub recovered : Image → Option Image

@@ -1,9 +1,9 @@
 use Rattle.std.proofs.Common.{length, refl, sym, ◌∙◌, ap, subst, arith}
 use Rattle.std.proofs.lemmas.Option.{slice_get_read}
 use Rattle.org_disk.specs.Disk.{FileState}
-use Rattle.org_splice.specs.Patches.{Fit, patched}
+use Rattle.org_splice.specs.Patches.{Fit}
 use Rattle.org_splice.specs.Texts.{pairs_of}
-use Rattle.org_journal.specs.Recovered.{contents, replayed}
+use Rattle.org_journal.specs.Recovered.{contents, made_by, replayed}
 use Rattle.org_fileset.proofs.Going.{goes_none, calls_on, goes_on}
 use Rattle.org_fileset.proofs.Takes.{applicable_at}
 use Rattle.org_fileset.proofs.Recovers.{replayed-entry, replayed-other}
@@ -62,7 +62,7 @@ loop-entry-preserved g c =
           let can = c.requires (sofar.goes.accounts.was_honest (back ended)) in
           let applies = replayed-entry c.args.entries.now (contents old) i entry can.applicable can.fits is in
           texts_more c.args.entries.now (replayed c.args.entries.now (contents old)) i entry mid (g.D.Disk.files c.apply_entry.new.disk) is
-          (c.in_ok-apply_entry.ensures.content ended ∙ ap (λ (f : FileState). patched (pairs_of entry.patches) entry.length f.content) (sofar.untouched (back ended) i entry (omega arith) is) ∙ applies.makes)
+          (c.in_ok-apply_entry.ensures.content ended ∙ ap (λ (f : FileState). made_by entry f.content) (sofar.untouched (back ended) i entry (omega arith) is) ∙ applies.makes)
           (c.apply_entry.ensures.alone ended).same (sofar.have (back ended));
       untouched = λ ended.
           untouched_more c.args.entries.now i entry old mid (g.D.Disk.files c.apply_entry.new.disk) (c.requires (sofar.goes.accounts.was_honest (back ended))).applicable is (c.apply_entry.ensures.alone ended).same (sofar.untouched (back ended));

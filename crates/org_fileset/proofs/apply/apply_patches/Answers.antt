@@ -1,12 +1,15 @@
-use Rattle.std.proofs.Common.{◌≢◌, ◌≤◌, ◌+◌, ℕ, List, length, take, refl, sym, ◌∙◌, ap, subst, arith}
+use Rattle.std.proofs.Common.{◌≡◌, ◌≢◌, ◌≤◌, ◌+◌, ℕ, List, length, take, refl, sym, ◌∙◌, ap, subst, arith, true}
 use Rattle.std.proofs.lemmas.List.{take_all}
 use Rattle.org_splice.proofs.Failing.{not_ok}
 use Rattle.org_disk.specs.Disk.{FileState, write}
 use Rattle.org_splice.specs.Texts.{pairs_of}
-use Rattle.org_fileset.specs.Replay.{AppliesPatchesOver}
+use Rattle.org_splice.specs.Patches.{last_end, patched}
+use Rattle.org_journal.specs.Recovered.{kept_by, may_cut}
+use Rattle.org_fileset.specs.Replay.{AppliesOver}
 use Rattle.org_fileset.specs.Writes.{LeavesAlone}
 use Rattle.org_fileset.proofs.Patching.{applies_none, applies_read, applies_write, applies_cut}
-use Rattle.org_fileset.proofs.Steps.{pair_at, patched_each-more, next_within, next_small, all_applied, short_applied}
+use Rattle.org_fileset.proofs.Made.{kept_cut, kept_long, longer_cut, shorter_kept}
+use Rattle.org_fileset.proofs.Steps.{pair_at, patched_each-more, next_within, next_small, all_applied, length_applied}
 use Rattle.org_disk.proofs.Accounting.{accounts_none, accounts_then, accounts_ok, accounts_call, accounts_call_ok}
 use Rattle.org_journal.proofs.Accounted.{accounts_failed, accounts_fine_test}
 use Rattle.org_fileset.proofs.Writes.{alone_none, alone_looked, alone_more}
@@ -90,13 +93,19 @@ cut-requires g c honest =
     let within : c.args.entry.now.length ≤ length (g.D.Disk.files c.loop-patch.disk name).content = omega (arith, c.in_ok-length.ensures.value honest) in
     subst (λ (f : List ℕ → FileState). c.args.entry.now.length ≤ length (f name).content) (sym (c.length.ensures.looks honest).same) within
 
--- .. and the file is cut
-cut_applies : (g : Over) (c : After-cut g) → g.D.Disk.honest c.cut.new.self → AppliesPatchesOver g.D.Disk c.args.entry.now c.args.disk.now c.cut.new.self
+-- the file was longer before
+cuts : (g : Over) (c : After-cut g) → g.D.Disk.honest c.loop-patch.disk → may_cut c.args.entry.now.before c.args.entry.now.length ≡ true
+cuts g c h =
+    longer_cut c.args.entry.now.before c.args.entry.now.length c.args.before (length (g.D.Disk.files c.args.disk.now c.args.entry.now.name).content)
+    (c.requires.before (c.loop-patch.invariant.accounts.was_honest h)) (omega (arith, c.if-before-entry.true))
+
+-- .. and is cut
+cut_applies : (g : Over) (c : After-cut g) → g.D.Disk.honest c.cut.new.self → AppliesOver g.D.Disk c.args.entry.now c.args.disk.now c.cut.new.self
 cut_applies g c ended to takes =
     let back = c.cut.ensures.accounts.was_honest ended in
     let h = c.length.ensures.accounts.was_honest back in
     let within : c.args.entry.now.length ≤ length (g.D.Disk.files c.loop-patch.disk c.args.entry.now.name).content = omega (arith, c.in_ok-length.ensures.value back) in
-    applies_cut c.cut.result (c.requires.can (c.loop-patch.invariant.accounts.was_honest h)).formed within (g.met.D.Disk.content_is_image c.length.new.self c.args.entry.now.name back) (c.loop-patch.invariant.applies h to takes)
+    applies_cut c.cut.result (c.requires.can (c.loop-patch.invariant.accounts.was_honest h)).formed (cuts g c h) within (g.met.D.Disk.content_is_image c.length.new.self c.args.entry.now.name back) (c.loop-patch.invariant.applies h to takes)
     (c.length.ensures.looks back).same (c.length.ensures.looks back).time (c.cut.ensures.effect ended) (c.cut.ensures.time ended)
 
 cut_alone : (g : Over) (c : After-cut g) → g.D.Disk.honest c.cut.new.self → LeavesAlone g.D.Disk (λ other. other ≢ c.args.entry.now.name) c.args.disk.now c.cut.new.self
@@ -164,37 +173,42 @@ pub returns-in_ok-cut-clause-content : goal.returns-in_ok-cut-clause-content
 returns-in_ok-cut-clause-content g c ended =
     let sofar = c.loop-patch.invariant in
     let h1 = c.cut.ensures.accounts.was_honest ended in
-    let name = c.args.entry.now.name in
-    let final = c.args.entry.now.length in
+    let h = c.length.ensures.accounts.was_honest h1 in
+    let entry = c.args.entry.now in
+    let old = (g.D.Disk.files c.args.disk.now entry.name).content in
     ap (λ (f : FileState). f.content) (c.in_ok-cut.ensures.effect ended).ok
-    ∙ ap (λ (f : List ℕ → FileState). take final (f name).content) (c.length.ensures.looks h1).same
-    ∙ all_applied c.as_slice-patch-items.result.now c.args.entry.now.patches c.loop-patch.patch-index final (g.D.Disk.files c.args.disk.now name).content
-    (g.D.Disk.files c.loop-patch.disk name).content c.as_slice-patch-items.ensures c.loop-patch-test.false (sofar.content (c.length.ensures.accounts.was_honest h1))
+    ∙ ap (λ (f : List ℕ → FileState). take entry.length (f entry.name).content) (c.length.ensures.looks h1).same
+    ∙ all_applied c.as_slice-patch-items.result.now entry.patches c.loop-patch.patch-index entry.length old
+    (g.D.Disk.files c.loop-patch.disk entry.name).content c.as_slice-patch-items.ensures c.loop-patch-test.false (sofar.content h)
+    ∙ ap (λ (n : ℕ). patched (pairs_of entry.patches) n old) (sym (kept_cut entry.before entry.length (length old) (cuts g (goal.at.returns-in_ok-cut-clause-content g c).After-cut h)))
 
--- the file ends where the entry has it end: it wasn't longer before, or isn't now
-ends_short : (g : Over) (c : After-length g) → g.D.Disk.honest c.length.new.self → c.args.before ≤ c.args.entry.now.length → length (g.D.Disk.files c.loop-patch.disk c.args.entry.now.name).content ≤ c.args.entry.now.length
-ends_short g c ended shorter =
+-- nothing is cut off
+kept_whole : (g : Over) (c : After-length g) → g.D.Disk.honest c.length.new.self → c.args.before ≤ c.args.entry.now.length
+    → length (g.D.Disk.files c.loop-patch.disk c.args.entry.now.name).content ≤ kept_by c.args.entry.now.before c.args.entry.now.length (length (g.D.Disk.files c.args.disk.now c.args.entry.now.name).content)
+kept_whole g c ended shorter =
     let sofar = c.loop-patch.invariant in
     let h = c.length.ensures.accounts.was_honest ended in
     let first = sofar.accounts.was_honest h in
     let can = c.requires.can first in
-    let name = c.args.entry.now.name in
-    let old = (g.D.Disk.files c.args.disk.now name).content in
-    let short : length old ≤ c.args.entry.now.length = omega (arith, shorter, c.requires.before first) in
-    short_applied c.as_slice-patch-items.result.now c.args.entry.now.patches c.loop-patch.patch-index c.args.entry.now.length old
-    (g.D.Disk.files c.loop-patch.disk name).content can.formed can.fits c.as_slice-patch-items.ensures c.loop-patch-test.false (sofar.content h) short
+    let entry = c.args.entry.now in
+    let old = (g.D.Disk.files c.args.disk.now entry.name).content in
+    let long = length_applied c.as_slice-patch-items.result.now entry.patches c.loop-patch.patch-index entry.length old
+    (g.D.Disk.files c.loop-patch.disk entry.name).content can.formed can.fits c.as_slice-patch-items.ensures c.loop-patch-test.false (sofar.content h) in
+    omega (arith, long, shorter_kept entry.before entry.length c.args.before (length old) (last_end 0 (pairs_of entry.patches)) (c.requires.before first) shorter can.formed.within)
 
 pub returns-else-before-entry-clause-content : goal.returns-else-before-entry-clause-content
 returns-else-before-entry-clause-content g c ended =
     let sofar = c.loop-patch.invariant in
-    let name = c.args.entry.now.name in
-    let final = c.args.entry.now.length in
-    let now = (g.D.Disk.files c.loop-patch.disk name).content in
-    let short : length now ≤ final = elim c.else-before-entry.branch [
-      | else-before-entry-via-then-before-entry+else-length-entry w ↦ omega (arith, w.if-length-entry.false, c.in_ok-length.ensures.value ended)
-      | else-before-entry-via-else-before-entry w ↦ ends_short g (goal.at.returns-else-before-entry-clause-content g c).After-length ended (omega (arith, w.if-before-entry.false))
+    let h = c.length.ensures.accounts.was_honest ended in
+    let entry = c.args.entry.now in
+    let old = (g.D.Disk.files c.args.disk.now entry.name).content in
+    let now = (g.D.Disk.files c.loop-patch.disk entry.name).content in
+    let keeps = kept_by entry.before entry.length (length old) in
+    let short : length now ≤ keeps = elim c.else-before-entry.branch [
+      | else-before-entry-via-then-before-entry+else-length-entry w ↦
+          omega (arith, w.if-length-entry.false, c.in_ok-length.ensures.value ended, kept_long entry (c.requires.can (sofar.accounts.was_honest h)).formed old)
+      | else-before-entry-via-else-before-entry w ↦ kept_whole g (goal.at.returns-else-before-entry-clause-content g c).After-length ended (omega (arith, w.if-before-entry.false))
     ] in
-    ap (λ (f : List ℕ → FileState). (f name).content) (c.length.ensures.looks ended).same
-    ∙ sym (take_all final now short)
-    ∙ all_applied c.as_slice-patch-items.result.now c.args.entry.now.patches c.loop-patch.patch-index final (g.D.Disk.files c.args.disk.now name).content
-    now c.as_slice-patch-items.ensures c.loop-patch-test.false (sofar.content (c.length.ensures.accounts.was_honest ended))
+    ap (λ (f : List ℕ → FileState). (f entry.name).content) (c.length.ensures.looks ended).same
+    ∙ sym (take_all keeps now short)
+    ∙ all_applied c.as_slice-patch-items.result.now entry.patches c.loop-patch.patch-index keeps old now c.as_slice-patch-items.ensures c.loop-patch-test.false (sofar.content h)

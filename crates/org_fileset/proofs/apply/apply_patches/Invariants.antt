@@ -2,7 +2,7 @@ use Rattle.std.proofs.Common.{◌≡◌, ◌≢◌, take}
 use Rattle.org_disk.specs.CountsFailures.{CountsFailures}
 use Rattle.org_splice.specs.Patches.{patched_each}
 use Rattle.org_splice.specs.Texts.{pairs_of}
-use Rattle.org_fileset.specs.Replay.{AppliesPatchesOver}
+use Rattle.org_fileset.specs.Replay.{AppliesOver}
 use Rattle.org_fileset.specs.Writes.{LeavesAlone}
 use Rattle.org_fileset.proofs.apply.apply_patches.Given as goal
 
@@ -15,5 +15,5 @@ invariant-loop-patch g l =
       accounts : CountsFailures disk l.fn.disk l.disk ⊥;
       content : disk.honest l.disk → (disk.files l.disk l.entry.name).content ≡ patched_each (take l.patch-index patches) (disk.files l.fn.disk l.entry.name).content;
       alone : disk.honest l.disk → LeavesAlone disk (λ other. other ≢ l.entry.name) l.fn.disk l.disk;
-      applies : disk.honest l.disk → AppliesPatchesOver disk l.entry l.fn.disk l.disk;
+      applies : disk.honest l.disk → AppliesOver disk l.entry l.fn.disk l.disk;
     }

@@ -1,4 +1,3 @@
-use Rattle.std.proofs.Common.{ℕ, List}
 use Rattle.org_disk.specs.CountsFailures.{CountsFailures, LooksOver}
 use Rattle.org_fileset.proofs.recover.check_standing.Given as goal
 

@@ -1,10 +1,9 @@
 use Rattle.std.proofs.Common.{List, ℕ, Ok, Err, ap, sym, subst, ◌∙◌}
 use Rattle.org_disk.specs.Disk.{FileState, IsStable}
 use Rattle.org_disk.specs.Names.{journal_name}
-use Rattle.org_disk.proofs.Accounting.{accounts_then, accounts_fine}
-use Rattle.org_journal.proofs.Accounted.{accounts_after, accounts_passed, accounts_reported}
+use Rattle.org_journal.proofs.Accounted.{accounts_after, accounts_passed}
 use Rattle.org_journal.specs.Finding.{Finds}
-use Rattle.org_journal.specs.Recovered.{Image, contents}
+use Rattle.org_journal.specs.Recovered.{contents}
 use Rattle.org_fileset.specs.Looking.{IsLookedAt}
 use Rattle.org_fileset.proofs.Accounted.{accounts_opened}
 use Rattle.org_fileset.proofs.Sets.{passed_never}

@@ -1,6 +1,8 @@
 use Rattle.std.proofs.Common.{◌≡◌, ℕ, List, [], Option, Some, Ok, Err, length, refl, sym, ◌∙◌, ap, subst, arith}
 use Rattle.std.specs.Map.{keys_of}
+use Rattle.std.specs.List.{Contains}
 use Rattle.std.proofs.lemmas.List.{nil_from_length}
+use Rattle.std.proofs.lemmas.List.Elements.{recursion_from_All}
 use Rattle.org_splice.specs.Texts.{EditedText}
 use Rattle.org_disk.specs.Names.{journal_name}
 use Rattle.org_journal.specs.declared.record.Entry.{Entry}
@@ -8,12 +10,12 @@ use Rattle.org_journal.specs.declared.record.Version.TheVariants.{Three}
 use Rattle.org_journal.specs.Record.{BeginsWith, IsWellFormed, journal_bytes}
 use Rattle.org_journal.specs.Recovered.{contents}
 use Rattle.org_journal.proofs.Journal.{written_begins}
-use Rattle.org_fileset.specs.Entries.{changed}
-use Rattle.org_fileset.specs.Lengths.{with_lengths}
+use Rattle.org_fileset.specs.Entries.{SaySizes, changed}
+use Rattle.org_fileset.specs.Lengths.{length_of, with_lengths}
 use Rattle.org_fileset.specs.Replay.{AreApplicableTo}
 use Rattle.org_fileset.specs.Writes.{IsOther}
 use Rattle.org_fileset.specs.declared.fault.SetFault.TheVariants.{Broken, Device}
-use Rattle.org_fileset.proofs.Noted.{commit_noted}
+use Rattle.org_fileset.proofs.Noted.{commit_noted, says_lengths}
 use Rattle.org_fileset.proofs.Recorded.{changes_applicable, changes_fit}
 use Rattle.org_disk.proofs.Accounting.{accounts_none, accounts_ok}
 use Rattle.org_journal.proofs.Accounted.{accounts_answered, accounts_failed, accounts_quiet}
@@ -21,7 +23,7 @@ use Rattle.org_fileset.proofs.Sets.{keeps_whole, keeps_broken, keeps_refused, br
 use Rattle.org_fileset.proofs.Committing.{committable, all_edits, changes_formed, commits_none, commits_record, commits_refused, has_record}
 use Rattle.org_fileset.proofs.set.FileSet.commit.Given.{Over}
 use Rattle.org_fileset.proofs.set.FileSet.commit.Goals as goal
-use Rattle.org_fileset.proofs.set.FileSet.commit.Goals.{Else-len-eq0}
+use Rattle.org_fileset.proofs.set.FileSet.commit.Goals.{After-encode, Else-len-eq0}
 
 -- there are changes to commit
 some : (g : Over) (c : Else-len-eq0 g) → g.C.Changes.pairs c.args.changes.now ≡ [] → ⊥
@@ -71,14 +73,26 @@ returns-in_err-body g c = record {
   nothing = λ none. absurd (some g (goal.at.returns-in_err-body g c).Else-len-eq0 none);
 }
 
+-- each entry says how long its file is
+says : (g : Over) (c : After-encode g) → g.D.Disk.honest c.self.inside.disk → SaySizes (λ n. length (contents (g.D.Disk.files c.self.inside.disk) n)) c.in_ok-entries.entries.items
+says g c honest =
+    let set = c.self.inside in
+    let named = rw (← c.self.view_is) at c.requires.named in
+    let changes = g.C.Changes.pairs c.args.changes.now in
+    let sizes = subst (λ (l : List ℕ). SaySizes (length_of set.names.items l) c.in_ok-entries.entries.items) c.deref-2.ensures.value
+    (subst (λ (n : List (List ℕ)). SaySizes (length_of n c.deref-2.result.now) c.in_ok-entries.entries.items) c.deref.ensures.value c.in_ok-entries.ensures.sizes) in
+    says_lengths set.names.items set.lengths.items (contents (g.D.Disk.files set.disk)) changes c.in_ok-entries.entries.items (c.self.invariant.lengths_are c.if-self.false honest)
+    c.in_ok-entries.ensures.entries (recursion_from_All (λ (change : List ℕ × EditedText). Contains set.names.items change.0) changes named) sizes
+
 pub returns-in-Ok : goal.returns-in-Ok
 returns-in-Ok g c = record {
   commits = record {
     commits =
         rw (← c.self.view_is) (λ ended.
-        let edits = (rw (← c.self.view_is) at c.requires.edits) c.if-self.false (c.commit_entries.ensures.accounts.was_honest ended) in
+        let honest = c.commit_entries.ensures.accounts.was_honest ended in
+        let edits = (rw (← c.self.view_is) at c.requires.edits) c.if-self.false honest in
         commits_record g.D.Disk (g.C.Changes.pairs c.args.changes.now) c.in_ok-entries.entries.items _ c.self.inside.disk c.commit_entries.new.disk (Ok tt) (Ok tt) (some g (goal.at.returns-in-Ok g c).Else-len-eq0) c.in_ok-entries.ensures.entries
-        (c.as_slice.ensures ∙ c.new-record.ensures) edits (c.in-Ok.ensures.commits ended) (λ made. made.done));
+        (says g (goal.at.returns-in-Ok g c).After-encode honest) (c.as_slice.ensures ∙ c.new-record.ensures) edits (c.in-Ok.ensures.commits ended) (λ made. made.done));
     record_stands =
         λ ended. let journal = contents (g.D.Disk.files c.commit_entries.new.disk) journal_name in
         has_record (g.C.Changes.pairs c.args.changes.now) c.in_ok-entries.entries.items journal c.in_ok-entries.ensures.entries
@@ -95,9 +109,10 @@ returns g c = record {
   commits = record {
     commits =
         rw (← c.self.view_is) (λ ended.
-        let edits = (rw (← c.self.view_is) at c.requires.edits) c.if-self.false (c.commit_entries.ensures.accounts.was_honest ended) in
+        let honest = c.commit_entries.ensures.accounts.was_honest ended in
+        let edits = (rw (← c.self.view_is) at c.requires.edits) c.if-self.false honest in
         commits_record g.D.Disk (g.C.Changes.pairs c.args.changes.now) c.in_ok-entries.entries.items _ c.self.inside.disk c.commit_entries.new.disk c.commit_entries.result (Err Device) (some g (goal.at.returns g c).Else-len-eq0) c.in_ok-entries.ensures.entries
-        (c.as_slice.ensures ∙ c.new-record.ensures) edits (c.commit_entries.ensures.commits ended) (λ made. tt));
+        (says g (goal.at.returns g c).After-encode honest) (c.as_slice.ensures ∙ c.new-record.ensures) edits (c.commit_entries.ensures.commits ended) (λ made. tt));
     record_stands = λ honest. tt;
     memory = λ e. absurd (device_apart e);
     set = rw (← c.self.view_is) (keeps_broken _ _ refl c.if-self.false refl);
@@ -162,5 +177,7 @@ invariant_of-self g c =
           }) in
           commit_noted set.names.items c.deref-in-Ok.result.now set.lengths.items c.deref_mut.result.now c.note_lengths.new.lengths set.lengths.len c.deref-in-Ok.ensures.value c.deref_mut.ensures.value
           set.lengths.ok.0 entries old new (c.note_lengths.ensures ∙ ap (with_lengths c.deref-in-Ok.result.now c.deref_mut.result.now) (c.as_slice-in-Ok.ensures ∙ sym c.as_slice.ensures))
-          c.self.invariant.each can (c.self.invariant.lengths_are whole honest) (c.in-Ok.ensures.commits ended).commits.done.made;
+          c.self.invariant.each can
+          (subst (λ (l : List Entry). SaySizes (λ n. length (contents old n)) l) (sym (c.as_slice.ensures ∙ c.new-record.ensures)) (says g (goal.at.invariant_of-self g c).After-encode honest))
+          (c.self.invariant.lengths_are whole honest) (c.in-Ok.ensures.commits ended).commits.done.made;
     }
