@@ -4,7 +4,6 @@
 //! parts is dropped there, which the function's proof would have to follow.
 mod asking;
 mod asks;
-mod crashes;
 mod failures;
 mod fuses;
 

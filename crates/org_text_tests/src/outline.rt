@@ -1,4 +1,2 @@
-//! Headings of texts: their parts, places and paths, and how they follow edits.
-mod edits;
-mod headings;
+//! Which states are accepted. Headings, commands show (tests/program/commands).
 mod states;

@@ -1,5 +1,5 @@
-//! Moments, timestamps, repeaters and durations, on dates taken from calendars.
+//! Moments, timestamps and durations, on dates taken from calendars. Repeaters, commands show
+//! (tests/program/commands).
 mod durations;
 mod moments;
-mod rows;
 mod timestamps;

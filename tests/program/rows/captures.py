@@ -1,6 +1,6 @@
 """Captures: targets and places, date trees, templates, and why one is refused."""
 from .shared import (
-    BAD_ENTRY, BAD_TEMPLATE, NOT_FOUND, NOT_UNIQUE, NO_SUCH_FILE, SAFE, SHOWS, alone, both, capture, goes, held, run,
+    BAD_ENTRY, BAD_TEMPLATE, NOT_FOUND, NOT_UNIQUE, NO_SUCH_FILE, SAFE, SHOWS, TOO_LARGE, alone, both, capture, goes, held, run,
     shown)
 
 # What a.org is, what the entry `* N` goes below and where, and what a.org is then, or why it is refused.
@@ -185,11 +185,53 @@ ENTRIES = [
      "* 2026\n** 2026-07 July\n*** 2026-07-01 Wednesday\n**** N\n**** K\n* 2027\n"),
 ]
 
-# Templates at the top of an absent file: template, initial text, and what the file is then.
+# Templates at the end of an empty file: template, initial text, and what the file is then.
 EXPANDED = [
     ("* TODO Call Ann", "", "* TODO Call Ann\n"),
     ("* 50% off %t%?", "", "* 50% off <2026-07-01 Wed>\n"),
     ("* N\n> %i", "a\nb", "* N\n> a\n> b\n"),
+    ("* N\n- %i", "a\nb\nc", "* N\n- a\n- b\n- c\n"),
+    ("* N\n  %i\n", "a\r\nb\r\n", "* N\n  a\r\n  b\r\n  \n"),
+]
+
+# Templates that stand below a heading, initial texts, and what they make: escapes stand for their texts, what stands
+# before the initial text is put before each of its lines, and the initial text itself isn't expanded.
+EXPANDED_BELOW = [
+    ("%T %u %U", "", "<2026-07-01 Wed 10:00> [2026-07-01 Wed] [2026-07-01 Wed 10:00]"),
+    ("%t", "", "<2026-07-01 Wed>"),
+    ("%U", "", "[2026-07-01 Wed 10:00]"),
+    ("%%t %%%", "", "%<2026-07-01 Wed> %%%"),
+    ("%", "", "%"),
+    ("5% 6%7 %! %\n%", "", "5% 6%7 %! %\n%"),
+    ("x%?%?", "", "x"),
+    ("100% %u%%", "", "100% [2026-07-01 Wed]%%"),
+    ("%\u00e9%]%)%>", "", "%\u00e9%]%)%>"),
+    ("x%i", "", "x"),
+    ("%?%i%?", "%?%t", "%?%t"),
+    ("%9%0%~%\t%i", "x", "%9%0%~%\tx"),
+    ("%%i", "x", "%x"),
+    ("> %i|%i", "a\nb\n", "> a\n> b\n> |a\n> |b\n> |"),
+    ("%t %i", "a\nb", "<2026-07-01 Wed> a\n<2026-07-01 Wed> b"),
+    ("> %i", "a\r\nb", "> a\r\n> b"),
+    ("%i", "%t %i %d 100%", "%t %i %d 100%"),
+    ("%t: %i\n%i", "a\nb", "<2026-07-01 Wed>: a\n<2026-07-01 Wed>: b\na\nb"),
+    ("> %i", "\n\n", "> \n> \n> "),
+    ("> %i", "a\n", "> a\n> "),
+    ("%i", "a\r", "a\r"),
+    ("a%ib%ic", "1\n2", "a1\na2b1\na2b2c"),
+]
+
+# The same where they are nearly as long as a line may be.
+MANY = 1 << 17
+LONG = [
+    (MANY * "- ab\n", "", MANY * "- ab\n"),
+    (MANY * "1%?%", "", MANY * "1%" + "\n"),
+    (MANY * "%i", "x", MANY * "x" + "\n"),
+    (MANY * "%i" + "x", "", "x\n"),
+    ("> %i", MANY * "\n", MANY * "> \n" + "> \n"),
+    (513 * "%i", MANY * "y", TOO_LARGE),
+    # each initial text has one byte more of its line before it than the last one had
+    (4096 * "%i", "b\nb", "".join(n * "b" + "\n" for n in range(1, 4097)) + 4096 * "b" + "\n"),
 ]
 
 # What a.org is, the file of a capture, what its entry goes below, its template, and why it is refused.
@@ -236,6 +278,9 @@ def captures(room):
         goes(room, capture("a.org", target, place, entry), both(old, "* Z"), alone(new))
     for template, initial, new in EXPANDED:
         goes(room, capture("a.org", "top", "last", template, initial), both("", "* Z"), alone(new))
+    for template, initial, made in EXPANDED_BELOW:
+        goes(room, capture("a.org", "top", "last", "* N\n" + template, initial), both("", "* Z"),
+             alone("* N\n" + made + "\n"))
     for text, file, target, template, why in REFUSED_CAPTURES:
         goes(room, capture(file, target, "last", template), both(text, ""), why)
 
@@ -258,4 +303,13 @@ def captures_and_shows(room):
     room.judge("a capture and shows", run(folder, lines), SAFE + shown("* A\n* B\n", "* Z", "") + "safe 1\n")
 
 
-PARTS = (captures, a_day_is_made_once, captures_and_shows)
+def long_templates(room):
+    for template, initial, made in LONG:
+        folder = room.folder({"a.org": ""})
+        reply = run(folder, capture("a.org", "top", "last", "* N\n" + template, initial))
+        is_refused = made is TOO_LARGE
+        wanted = ("refused %s\n" % made, b"") if is_refused else (SAFE, b"* N\n" + made.encode())
+        room.judge("a long template: " + template[:10], (reply, held(folder, "a.org")) == wanted, True)
+
+
+PARTS = (captures, long_templates, a_day_is_made_once, captures_and_shows)

@@ -1,5 +1,7 @@
 """Edits: bytes of a file in the place of others."""
 import os
+import random
+import re
 
 from .shared import (
     LIMIT, NO_SUCH_FILE, NOT_THERE, NOW, SAFE, alone, answers, both, capture, field, goes, held, run, shown)
@@ -84,6 +86,13 @@ BESIDE = [
     ("* A\n* B\n",
      "time\ta.org\tB\n" + edit("a.org", 4, "* B", "x\n** Q") + "time\ta.org\tA/Q\ntime\ta.org\tB\n",
      "time 0:00\nok 1\nsafe 1\ntime 0:00\nrefused 4 NotFound\n"),
+    # a heading that is joined to the line before it, one that a blank makes, and one that is put before another
+    ("x\n* A\n", "time\ta.org\tA\n" + edit("a.org", 1, "\n", "") + "time\ta.org\tA\n",
+     "time 0:00\nok 1\nsafe 1\nrefused 4 NotFound\n"),
+    ("*A\n", "time\ta.org\tA\n" + edit("a.org", 1, "", " ") + "time\ta.org\tA\n",
+     "refused 4 NotFound\nok 1\nsafe 1\ntime 0:00\n"),
+    ("* A\n* B\n", "time\ta.org\tB\n" + edit("a.org", 4, "", "** N\n") + "time\ta.org\tA/N\ntime\ta.org\tB\n",
+     "time 0:00\nok 1\nsafe 1\ntime 0:00\ntime 0:00\n"),
     # the next command gives the last line its newline
     ("* A",
      edit("a.org", 2, "A", "B") + "show\ta.org\ntodo\ta.org\tB\tTODO\t%s\nshow\ta.org\n" % NOW,
@@ -113,6 +122,29 @@ BESIDE = [
 def beside_others(room):
     for before, lines, wanted in BESIDE:
         answers(room, both(before, ""), lines, wanted)
+
+
+def found(text, title):
+    """What `time` answers of this title among the top headings of a text, which are those with none above them."""
+    lowest, titles = len(text), []
+    for stars, rest in re.findall(r"(?m)^(\*+) (.*)$", text):
+        if len(stars) <= lowest:
+            lowest = len(stars)
+            titles.append(rest.strip(" "))
+    return {0: "refused 4 NotFound\n", 1: "time 0:00\n"}.get(titles.count(title), "refused 5 NotUnique\n")
+
+
+def heads_follow(room):
+    """Headings that are held follow edits at random, of which most touch stars, blanks and newlines."""
+    numbers, text, lines, wanted = random.Random(2026), "* a\n", "", ""
+    for count in range(1, 3001):
+        at = numbers.randrange(len(text) + 1)
+        old = text[at:at + numbers.randrange(6)]
+        new = "".join(numbers.choices("* \na", (5, 4, 4, 3), k=numbers.randrange(8 if len(text) < 60 else 3)))
+        text = text[:at] + new + text[at + len(old):]
+        lines += edit("a.org", at, old, new) + "time\ta.org\ta\ntime\ta.org\t\n"
+        wanted += "ok %d\n" % count + ("safe %d\n" % count if count % 1000 == 0 else "") + found(text, "a") + found(text, "")
+    answers(room, {"a.org": "* a\n"}, lines, wanted, "--group", "1000")
 
 
 def a_line_moved(room):
@@ -145,4 +177,4 @@ def a_new_file(room):
     room.judge("the new files", (held(folder, "n.org"), held(folder, "n.org_archive")), (b"* N\n* K\n", b"y"))
 
 
-PARTS = (edits, bad_edits, beside_others, a_line_moved, at_the_limit, a_new_file)
+PARTS = (edits, bad_edits, beside_others, heads_follow, a_line_moved, at_the_limit, a_new_file)

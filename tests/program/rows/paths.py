@@ -4,6 +4,7 @@ from .shared import BAD_LINE, INSIDE_ITSELF, NOT_FOUND, NOT_UNIQUE, NOW, alone, 
 # The text of a.org, a path, and the text after the heading there turned TODO, or why it is refused.
 
 TWINS = "* A\n* B\n* A\n** T\n* A\n"
+SEVERAL = "* TODO A :x:\n** B\n* A\n* C\n*** D\n** D\n** B\n"
 MIXED = "*** X\n** Y\n*** X\n* A\n*** X\n** X\n"
 
 NAMED = [
@@ -39,6 +40,14 @@ NAMED = [
     ("* a\\#2\n", r"a\\\#2", NOT_FOUND),
     ("* a#2\n", r"a#2", "* TODO a#2\n"),
     ("* a/b\n* a/b\n", r"a\sb\#2", "* a/b\n* TODO a/b\n"),
+    # what stands deeper elsewhere isn't below it
+    (SEVERAL, "A", NOT_UNIQUE),
+    (SEVERAL, "C/D", NOT_UNIQUE),
+    (SEVERAL, "C/B", "* TODO A :x:\n** B\n* A\n* C\n*** D\n** D\n** TODO B\n"),
+    (SEVERAL, "B", NOT_FOUND),
+    # lines that are no headings
+    ("*\tA\n", "A", NOT_FOUND),
+    ("x* A\n", "A", NOT_FOUND),
     # behind a slash stands the empty title
     (TWINS, r"A\#1/", NOT_FOUND),
 ]

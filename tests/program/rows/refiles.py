@@ -75,6 +75,19 @@ INTO_ANOTHER = [
     ("* A\n** B\n", "* A\n** B\n", "a.org\tA\tb.org\tA/B\tlast", ("", "* A\n** B\n*** A\n**** B\n")),
     ("p\r\n* A\r\n*** D\r\n* E\r\n", "q\r\n* T\r\n*** X\r\n* U\r\n", "a.org\tA\tb.org\tT\tfirst", ("p\r\n* E\r\n",
      "q\r\n* T\r\n*** X\r\n** A\r\n**** D\r\n* U\r\n")),
+    # a subtree ends before the next heading that isn't deeper: not at stars alone, at a tab or at a bold word
+    ("before\n* a\nx\n*** b\n** c\n*bold*\n* d\n", "* T\n", "a.org\ta/c\tb.org\tT\tlast",
+     ("before\n* a\nx\n*** b\n* d\n", "* T\n** c\n*bold*\n")),
+    ("before\n* a\nx\n*** b\n** c\n*bold*\n* d\n", "* T\n", "a.org\ta\tb.org\tT\tlast",
+     ("before\n* d\n", "* T\n** a\nx\n**** b\n*** c\n*bold*\n")),
+    ("* a\n** b\n*** c\n** d\n* e\n", "* T\n", "a.org\ta/b\tb.org\tT\tlast",
+     ("* a\n** d\n* e\n", "* T\n** b\n*** c\n")),
+    ("* A\n*** X\n** Y\n", "* T\n", "a.org\tA/Y\tb.org\tT\tlast", ("* A\n*** X\n", "* T\n** Y\n")),
+    ("* A\n*** X\n", "* T\n", "a.org\tA/X\tb.org\tT\tlast", ("* A\n", "* T\n** X\n")),
+    ("*\n*\tA\n#+BEGIN_SRC\n* A\n#+END_SRC\n", "* T\n", "a.org\tA\tb.org\tT\tlast",
+     ("*\n*\tA\n#+BEGIN_SRC\n", "* T\n** A\n#+END_SRC\n")),
+    ("* A\n** N\n* B\n", "* T\n", "a.org\tA\tb.org\tT\tlast", ("* B\n", "* T\n** A\n*** N\n")),
+    ("* A\n** N\n* B\n", "* T\n", "a.org\tB\tb.org\tT\tlast", ("* A\n** N\n", "* T\n** B\n")),
     # Each heading goes as much deeper as the first; other lines stay.
     ("* a\nx\n*** b\n", "* S\n** T\n", "a.org\ta\tb.org\tS/T\tlast", ("", "* S\n** T\n*** a\nx\n***** b\n")),
 ]

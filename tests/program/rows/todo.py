@@ -213,6 +213,10 @@ OPEN_ALIKE = [
     ("* TODO [#A] To :x:\n* [#B]\n* Top\n", "To", "", NOW, "* [#A] To :x:\n* [#B]\n* Top\n"),
     ("* [#A] x] A\n* [x] A\n* [#A]x\n", "[x] A", "TODO", NOW, "* [#A] x] A\n* TODO [x] A\n* [#A]x\n"),
     ("* TODO [#A]x\n* [x\n", "x", "", NOW, "* [#A]x\n* [x\n"),
+    # titles that differ in blanks alone, and one that ends as tags begin
+    ("* AB C\n* A BC\n* A  BC\n", "A BC", "TODO", NOW, "* AB C\n* TODO A BC\n* A  BC\n"),
+    ("* A :b\n* A :b:\n", "A :b", "TODO", NOW, "* TODO A :b\n* A :b:\n"),
+    ("* A :b\n* A :b:\n", "A", "TODO", NOW, "* A :b\n* TODO A :b:\n"),
     # a word that is no state is a part of the title
     ("* NEXT To\n* TODO NEXT\n", "To", "TODO", NOW, NOT_FOUND),
     ("* NEXT To\n* TODO NEXT\n", "NEXT To", "TODO", NOW, "* TODO NEXT To\n* TODO NEXT\n"),
