@@ -1,20 +1,20 @@
-//! How a heading line lets its title begin.
+//! Which titles a heading line may have.
 //!
 //! The title, or a priority before it, stands after the gap, or after the first word there, which
-//! may be a keyword. Two bytes of each place are kept with the heading, so that a look-up by title
-//! reads few lines.
-ghost use Rattle.std.specs.Prelude.{◌≡◌, ◌≤◌, ◌+◌, ◌*◌, ◌==◌, ◌&&◌, ◌||◌, IsFalse, not, drop, length};
+//! may be a keyword. A fingerprint of the title that each place would give is kept with the heading,
+//! so that a look-up by title reads few lines, however alike the titles begin.
+ghost use Rattle.std.specs.Prelude.{◌≡◌, ◌<◌, ◌≤◌, ◌+◌, ◌^◌, ◌||◌, IsFalse, not, true, drop, length};
 ghost use Rattle.std.specs.List.{prefix_len};
-ghost use Rattle.org_headings.specs.Beginnings.{beginning_of, beginnings_of, is_of_word, may_begin, may_begin_date, may_have, sought_of};
+ghost use Rattle.org_headings.specs.Beginnings.{beginning_of, beginnings_of, hash_from, is_of_word, may_begin, may_begin_date, may_have, sought_of, with_byte};
 ghost use Rattle.org_headings.specs.Text.{line_at};
 
 use org_splice::blanks::{behind_blanks, is_blank};
 
-/// The first two bytes of a title, or of a place where one can stand; 0 where there is none.
+/// The fingerprint of a title, or of what stands at a place where one can begin: its hash, and in
+/// the lowest bit whether it begins with a digit; 1 at a bracket, after which any title may stand.
 #[derive(Clone, Copy)]
 pub struct Beginning {
-    pub byte: u8,
-    pub next: u8,
+    pub fingerprint: u16,
 }
 
 /// What stands at the two places of a heading line.
@@ -47,57 +47,57 @@ fn word_len(text: &[u8]) -> usize
     text.len()
 }
 
-impl Beginning {
-    /// The first two of these bytes.
-    fn of(bytes: &[u8]) -> Beginning
-        ensures { result ≡ beginning_of bytes.now }
-    {
-        let (byte, next) = match bytes {
-            [] => (0, 0),
-            [byte] => (*byte, 0),
-            [byte, next, ..] => (*byte, *next),
-        };
-        Beginning { byte, next }
-    }
+/// The fingerprint at a bracket.
+const ANY: u16 = 1;
 
-    /// Those of the line that a text begins with.
-    fn of_line(text: &[u8]) -> Beginning
-        ensures { result ≡ beginning_of (line_at text.now) }
-    {
-        let (byte, next) = match text {
-            [] | [b'\n', ..] => (0, 0),
-            [byte] => (*byte, 0),
-            [byte, b'\n', ..] => (*byte, 0),
-            [byte, next, ..] => (*byte, *next),
-        };
-        Beginning { byte, next }
-    }
+/// A hash with one byte more.
+fn with_byte(hash: u16, byte: u8) -> u16
+    ensures value { result ≡ with_byte hash byte }
+    ensures small { result < 2 ^ 15 }
+{
+    let sum = 31 * hash as u32 + byte as u32;
+    (sum % 32768) as u16
+}
 
-    /// Both bytes as one number.
-    fn packed(self) -> u16
-        ensures { result ≡ self.byte + 256 * self.next }
-    {
-        u16::from_le_bytes([self.byte, self.next])
-    }
-
-    /// Whether these two bytes stand at a place, or the one where a title has no more. They are
-    /// compared at once, since a look-up by title asks it twice of each heading.
-    fn stands_at(self, place: Beginning) -> bool
-        ensures { result
-            ≡ (place.byte == self.byte && (self.next == 0 || place.next == self.next)) }
-    {
-        if self.next == 0 {
-            place.byte == self.byte
-        } else {
-            place.packed() == self.packed()
+/// The hash of the title that a text begins with, or may begin with: blanks are left out, and tags
+/// aren't read.
+fn title_hash(text: &[u8]) -> u16
+    ensures value { result ≡ hash_from 0 true text.now }
+    ensures small { result < 2 ^ 15 }
+{
+    let mut hash = 0;
+    let mut apart = true;
+    for byte in text {
+        if *byte == b'\n' || (apart && *byte == b':') {
+            return hash;
+        }
+        apart = is_blank(*byte) || *byte == b'\r';
+        if !apart {
+            hash = with_byte(hash, *byte);
         }
     }
+    hash
+}
 
-    /// Whether a title that begins so may stand at a place, or after a priority there.
+impl Beginning {
+    /// The fingerprint of the title that these bytes are, or that may stand at their front.
+    fn of(text: &[u8]) -> Beginning
+        ensures { result ≡ beginning_of text.now }
+    {
+        let first = if text.is_empty() { 0 } else { text[0] };
+        let fingerprint = if first == b'[' {
+            ANY
+        } else {
+            2 * title_hash(text) + first.is_ascii_digit() as u16
+        };
+        Beginning { fingerprint }
+    }
+
+    /// Whether a title with this fingerprint may stand at a place, or after a priority there.
     fn may_begin(self, place: Beginning) -> bool
         ensures { result ≡ may_begin self place }
     {
-        (place.byte == b'[') | self.stands_at(place)
+        (place.fingerprint == ANY) | (place.fingerprint == self.fingerprint)
     }
 
     /// Whether a title that begins with a digit may stand at this place, or after a priority
@@ -105,7 +105,7 @@ impl Beginning {
     fn may_begin_date(self) -> bool
         ensures { result ≡ may_begin_date self }
     {
-        self.byte == b'[' || self.byte.is_ascii_digit()
+        self.fingerprint % 2 == 1
     }
 }
 
@@ -129,8 +129,8 @@ impl Beginnings {
         let place = behind_blanks(tail);
         let word = place.split_at(word_len(place)).1;
         Beginnings {
-            first: Beginning::of_line(place),
-            second: Beginning::of_line(behind_blanks(word)),
+            first: Beginning::of(place),
+            second: Beginning::of(behind_blanks(word)),
         }
     }
 

@@ -123,7 +123,7 @@ deep_slice hs level first end index next e low high =
 
 -- what the code reads past the last heading
 abbrev pub no_heading : Heading
-no_heading = record { start = 0; level = 0; beginnings = record { first = record { byte = 0; next = 0 }; second = record { byte = 0; next = 0 } } }
+no_heading = record { start = 0; level = 0; beginnings = record { first = record { fingerprint = 0 }; second = record { fingerprint = 0 } } }
 
 lowest_and : (n : ℕ) (hs : List Heading) (h : Heading) → lowest_level n (hs ++ h ∷ []) ≡ min (lowest_level n hs) h.level
 lowest_and n [] h = refl

@@ -20,19 +20,27 @@ REFUSED = (b"capture\tnone.org\ttop\tlast\t2026-07-01 10:00\t* N\t\n", b"todo\ta
            b"todo\ta.org\tA\tLATER\t2026-07-01 10:00\n", b"archive\ta.org\tnone\t2026-07-01 10:00\n")
 
 
-# An entry of a record: a name, the file's final length, and what is written.
-Entry = Tuple[str, int, List[Write]]
+# An entry of a record: a name, the file as it was, its final length, and what is written.
+Entry = Tuple[str, bytes, int, List[Write]]
+
+
+def before(old: bytes, length: int, writes: List[Write]) -> bytes:
+    """What an entry of version 3 says of its file as it was: its length, and what stood beside the writes."""
+    first, last = writes[0].at, writes[-1].at + len(writes[-1].data)
+    leading, trailing = old[max(first - 32, 0):first], old[last:last + 32] if len(old) == length else b""
+    return struct.pack(">Q", len(old)) + bytes([len(leading)]) + leading + bytes([len(trailing)]) + trailing
 
 
 def open_journal(version: int, entries: List[Entry]) -> bytes:
     """A journal with an open gate, as docs/FORMATS.md lays it out. An entry of version 1 has one write."""
     record = struct.pack(">I", len(entries))
-    for name, length, writes in entries:
+    for name, old, length, writes in entries:
         record += struct.pack(">H", len(name)) + name.encode()
         if version == 1:
             record += struct.pack(">QQQ", writes[0].at, length, len(writes[0].data)) + writes[0].data
         else:
-            record += struct.pack(">QI", length, len(writes))
+            record += struct.pack(">Q", length) + (before(old, length, writes) if version == 3 else b"")
+            record += struct.pack(">I", len(writes))
             record += b"".join(struct.pack(">QQ", write.at, len(write.data)) + write.data for write in writes)
     return b"\1ORGJ" + bytes([version, 0, 0]) + struct.pack(">Q", len(record)) + record
 
@@ -111,9 +119,9 @@ class Maker:
 
     def cut_short(self, files: Dict[str, bytes]) -> Tuple[Dict[str, bytes], Dict[str, bytes], bytes]:
         """A commit that a crash cut short: the files as it found them, the files as they are to be, and its journal,
-        of either version, maybe with the tail of an older one."""
+        of each version, maybe with the tail of an older one."""
         rng = self.rng
-        version = rng.choice((1, 2))
+        version = rng.choice((1, 2, 3))
         found, wanted = dict(files), dict(files)
         entries: List[Entry] = []
         for name in rng.sample(self.names, rng.randint(1, 2)):
@@ -126,7 +134,7 @@ class Maker:
                 writes.append(write)
             file = file.changed(Cut(rng.choice((end, len(file.content)))))
             found[name], wanted[name] = file.drawn(rng), file.content
-            entries.append((name, len(file.content), writes))
+            entries.append((name, files[name], len(file.content), writes))
         tail = rng.choice((b"", b"of an older journal"))
         return found, wanted, open_journal(version, entries) + tail
 

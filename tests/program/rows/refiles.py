@@ -153,12 +153,14 @@ def a_hundred_levels(room):
 
 # The journal's record of a refile from a.org, which ends in a newline, into b.org, which doesn't: the source first.
 SOURCE_FIRST = bytes([
-    0, 0x4f, 0x52, 0x47, 0x4a, 2, 0, 0, 0, 0, 0, 0, 0, 0, 0, 80,  # gate, header
+    0, 0x4f, 0x52, 0x47, 0x4a, 3, 0, 0, 0, 0, 0, 0, 0, 0, 0, 103,  # gate, header
     0, 0, 0, 2, 0, 5, 0x61, 0x2e, 0x6f, 0x72, 0x67,  # a.org
-    0, 0, 0, 0, 0, 0, 0, 4, 0, 0, 0, 1,  # final length, number of patches
+    0, 0, 0, 0, 0, 0, 0, 4, 0, 0, 0, 0, 0, 0, 0, 9,  # final length, old length
+    0, 0, 0, 0, 0, 1,  # nothing before the patch, nothing after it, number of patches
     0, 0, 0, 0, 0, 0, 0, 0, 0, 0, 0, 0, 0, 0, 0, 0,  # patch
     0, 5, 0x62, 0x2e, 0x6f, 0x72, 0x67,  # b.org
-    0, 0, 0, 0, 0, 0, 0, 9, 0, 0, 0, 1,  # final length, number of patches
+    0, 0, 0, 0, 0, 0, 0, 9, 0, 0, 0, 0, 0, 0, 0, 3,  # final length, old length
+    3, 0x2a, 0x20, 0x54, 0, 0, 0, 0, 1,  # what stands before the patch, nothing after it, number of patches
     0, 0, 0, 0, 0, 0, 0, 3, 0, 0, 0, 0, 0, 0, 0, 6,  # patch
     0x0a, 0x2a, 0x2a, 0x20, 0x42, 0x0a,
 ])
