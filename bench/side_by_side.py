@@ -275,9 +275,9 @@ class Bench:
         return costs
 
     def alike(self):
-        """Whether both left the same files and the same journal."""
+        """Whether both left the same files, and the loop the same journal: that of another program may be of another version."""
         folders = [os.path.join(self.room, who) for who in ("program", "bare")]
-        names = sorted(os.listdir(folders[0]))
+        names = sorted(name for name in os.listdir(folders[0]) if name != JOURNAL or not self.beside)
         _, other, unread = filecmp.cmpfiles(*folders, names, shallow=False)
         return not other and not unread
 

@@ -201,8 +201,8 @@ def read_output(data: bytes, session: Session, accepted: Sequence[int], replies:
     return output
 
 
-def record(program: str, room: str, session: Session) -> Run:
-    """Runs a session without a crash, and once more under strace, and reads both."""
+def record(program: str, room: str, session: Session, kept: str = "") -> Run:
+    """Runs a session without a crash, and once more under strace, and reads both. `kept` names a folder for the trace."""
     with folder_of(room, contents(session.disk)) as folder:
         states, accepted, replies = uninterrupted(program, folder, session)
     if session.before is not None and states[0] not in session.before:
@@ -211,7 +211,7 @@ def record(program: str, room: str, session: Session) -> Run:
         session = replace(session, before=frozenset(states[:1]))
     with folder_of(room, contents(session.disk)) as folder:
         words = [program, folder, *session.words, "--group", str(session.group)]
-        events, said = trace(words, folder, b"".join(session.lines))
+        events, said = trace(words, folder, b"".join(session.lines), kept)
         left = taken(folder)
     if said:
         raise Odd("a traced run says %r" % said)

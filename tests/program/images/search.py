@@ -99,10 +99,11 @@ def violation_text(violation: Violation) -> str:
 # -- chains
 
 class Search:
-    """Runs chains with one program, in a folder in memory."""
+    """Runs chains with one program, in a folder in memory. `kept` names a folder for their traces: then no
+    image is judged."""
 
-    def __init__(self, program: str, seed: int, effort: Effort) -> None:
-        self.program, self.seed, self.effort = program, seed, effort
+    def __init__(self, program: str, seed: int, effort: Effort, kept: str = "") -> None:
+        self.program, self.seed, self.effort, self.kept = program, seed, effort, kept
         in_memory = "/dev/shm" if os.access("/dev/shm", os.W_OK) else None
         self.room = os.path.realpath(tempfile.mkdtemp(prefix="orgstore-images.", dir=in_memory))
         self.opener = Opener(program, self.room)
@@ -122,7 +123,7 @@ class Search:
         session = first(maker, rng)
         while True:
             try:
-                run = record(self.program, self.room, session)
+                run = record(self.program, self.room, session, self.kept)
             except (Odd, Unmodelled, BrokenPipeError, subprocess.TimeoutExpired) as why:
                 self.tally.violations += 1
                 self.found.append("VIOLATION in %s: %s\n%s" % (where, why, session_text(session)))
@@ -132,10 +133,10 @@ class Search:
             self.tally.recoveries += found is not None and not is_closed(found.content)
             self.tally.calls += sum(not isinstance(event, Serves) for event in run.events)
             self.tally.lines += len(session.lines)
-            if not self.judge(run, rng, where):
+            if not self.kept and not self.judge(run, rng, where):
                 break
             # By a chance of its own, so that the chain is the same without it.
-            if other.random() < self.effort.mutants:
+            if not self.kept and other.random() < self.effort.mutants:
                 self.judge_mutants(run, other, where)
             if rng.random() < 0.3:
                 break

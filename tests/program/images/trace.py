@@ -118,7 +118,7 @@ class Reader:
         if not call:
             raise Unmodelled(line[:200])
         name, words, result = call.groups()
-        if result == "?" or int(result) < 0:
+        if result == "?" or int(result) < 0 or name not in WATCHED:
             return
         if name == "openat":
             self.open(words, int(result))
@@ -164,17 +164,20 @@ class Reader:
             raise Unmodelled("%s(%s" % (name, words[:200]))
 
 
-def trace(words: Sequence[str], folder: str, lines: bytes) -> Tuple[List[Event], bytes]:
-    """Runs a program over a folder under strace: the events, and what it wrote to standard error."""
+def trace(words: Sequence[str], folder: str, lines: bytes, kept: str = "") -> Tuple[List[Event], bytes]:
+    """Runs a program over a folder under strace: the events, and what it wrote to standard error. A trace that is kept, in
+    the folder of this name, has all calls."""
     names = os.listdir(folder)
-    written = folder + ".trace"
-    strace = ["strace", "-o", written, "-e", "trace=" + ",".join(WATCHED), "-xx", "-s", str(LONGEST)]
+    written = "%s/images.%d" % (kept, len(os.listdir(kept))) if kept else folder + ".trace"
+    watched = ["-v"] if kept else ["-e", "trace=" + ",".join(WATCHED)]
+    strace = ["strace", "-o", written, *watched, "-xx", "-s", str(LONGEST)]
     ended = subprocess.run([*strace, *words], input=lines, stdout=subprocess.PIPE, stderr=subprocess.PIPE, timeout=120)
     reader = Reader(folder, names)
     with open(written, encoding="ascii") as calls:
         for line in calls:
             reader.line(line)
-    os.remove(written)
+    if not kept:
+        os.remove(written)
     replied = b"".join(event.data for event in reader.events if isinstance(event, Replied))
     if replied != ended.stdout:
         raise Unmodelled("the replies of the trace aren't those on standard output")
