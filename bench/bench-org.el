@@ -10,7 +10,7 @@
 ;; of tests/program/org/conformity.el, each with its save, which Emacs syncs as it does for
 ;; a user.  What it takes to find a heading by its path isn't part of it, for a user
 ;; is there already; nor is redisplay, for Emacs runs in batch.  Prints the seconds
-;; of each line behind the first WARM_UP, one a line.
+;; of each line after the first WARM_UP, one a line.
 
 ;;; Code:
 

@@ -4,7 +4,7 @@ one command costs each. What bench/captures and bench/commands share.
 A measurement is one `Case`: the files of a folder, and lines of commands. The program first runs the lines once, one at
 a time, in memory (/dev/shm): from its journal after each reply the bytes of each commit are known, which is the script
 of the bare loop. Then, in rounds, the program and the loop run the same lines on the same files by turns, each in a new
-folder. The clock runs from the first line behind a few that warm up (they read the files) to the last reply; the
+folder. The clock runs from the first line after a few that warm up (they read the files) to the last reply; the
 processor time is that of the process (/proc/PID/schedstat). Replies, files and journals of both are compared.
 
 While the clock runs nobody waits at the pipe of the replies: it is looked into now and then. A reader that waits is woken
@@ -232,7 +232,7 @@ class Bench:
         return script, bytes(run.replies), total
 
     def cost(self, who, case, script, replies):
-        """What a command of the lines behind those that warm up costs; and own and kernel seconds of the whole run."""
+        """What a command of the lines after those that warm up costs; and own and kernel seconds of the whole run."""
         run = Run(self.words(who, self.fresh(who, case), case, script))
         warm = min(WARM_UP * case.group, len(case.lines) // 2)
         before = end_of_replies(replies, warm)
@@ -299,8 +299,8 @@ class Bench:
         return costs, total / len(case.lines)
 
     def calls(self, case):
-        """Of the program and the loop, the system calls by name, and of how many commands: those behind the first ten,
-        and behind the first group that is full."""
+        """Of the program and the loop, the system calls by name, and of how many commands: those after the first ten,
+        and after the first group that is full."""
         script, _, _ = self.record(case)
         made = {}
         for who in ("program", "bare"):
@@ -334,7 +334,7 @@ def end_of_replies(replies, count):
 
 
 def calls_behind(trace, settled):
-    """The calls in a trace behind the reply to command number `settled`, up to the last reply, and how many replies."""
+    """The calls in a trace after the reply to command number `settled`, up to the last reply, and how many replies."""
     names = []
     with open(trace) as told:
         for one in told:
@@ -406,7 +406,7 @@ def print_calls(title, bench, cases):
         mapped.append("%s: %d in %d commands%s" % (
             name, sum(its[call] for call in MAPPINGS), count,
             "".join(", %d `%s`" % (its[call], call) for call in MAPPINGS if its[call])))
-    print("\nMemory mapped or given back in these commands, which stand behind the first %d, and behind the first group:"
+    print("\nMemory mapped or given back in these commands, which stand after the first %d, and after the first group:"
           " %s." % (SETTLED, "; ".join(mapped)))
 
 

@@ -6,7 +6,7 @@ A Python script begins with
     from common import given  # noqa: E402
     given(__doc__)
 
-and finds its program in sys.argv[1], and its further words behind it. A shell script sources common.sh, which calls this
+and finds its program in sys.argv[1], and its further words after it. A shell script sources common.sh, which calls this
 file. `--help` prints the script's own text. A first word with a slash is the program; without one it is the program that
 ./run takes, which is built where need be.
 

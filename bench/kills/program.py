@@ -69,7 +69,7 @@ class Room:
 
     def run(self, moves: List[Move], delay: Optional[float] = None, words: Tuple[str, ...] = (),
             variables: Optional[Dict[str, str]] = None, in_commit: bool = False) -> Ended:
-        """Runs the program over these moves, and kills it behind so many seconds, if it runs for so long; or soon
+        """Runs the program over these moves, and kills it after so many seconds, if it runs for so long; or soon
         after, when its journal is open."""
         stdin, stdout, stderr = (os.path.join(self.path, name) for name in ("lines", "replies", "errors"))
         with open(stdin, "w", encoding="ascii") as file:
@@ -123,7 +123,7 @@ class Room:
 
 def undone(before: Dict[str, str], moves: List[Move], ended: Ended, found: Dict[str, str]) -> bool:
     """Whether the entries aren't where the first N moves take them, for one N from the last `safe` on, up to the move
-    behind the last `ok`."""
+    after the last `ok`."""
     last = min(ended.accepted + 1, len(moves))
     return all(after(before, moves[:done]) != found for done in range(ended.safe, last + 1))
 
@@ -205,7 +205,7 @@ class RandomKills:
         if not self.kept:
             self.kept = self.room.path + ".wrong"
             shutil.copytree(self.room.notes, self.kept)
-            self.screen.say("  WRONG behind kill %d: %s" % (self.count.kills, "; ".join(wrong[:3])))
+            self.screen.say("  WRONG after kill %d: %s" % (self.count.kills, "; ".join(wrong[:3])))
             self.screen.say("  this folder is kept: %s" % self.kept)
 
     def row(self, since: float) -> str:

@@ -128,7 +128,7 @@ class Year:
             self._whole()
 
     def _count_calls(self) -> None:
-        """Counts the calls of an opening, behind which most kills shall come."""
+        """Counts the calls of an opening, after which most kills shall come."""
         if self.room.plant not in STORE_FAULTS:
             self.opening = self.room.calls()
 

@@ -61,8 +61,8 @@ class Command:
 
 @dataclass(frozen=True)
 class Heading:
-    """A heading of an outline. Lines are numbered from 0; `section_end` and `end` are the lines behind its section and
-    behind its subtree, `parent` is the number of a heading, or -1."""
+    """A heading of an outline. Lines are numbered from 0; `section_end` and `end` are the lines after its section and
+    after its subtree, `parent` is the number of a heading, or -1."""
 
     number: int
     line: int
@@ -102,16 +102,16 @@ class Outline:
             while above and starts[above[-1]][1] >= level:
                 above.pop()
             keyword, title, tags = parts(self.lines[at][level:])
-            behind = starts[number + 1][0] if number + 1 < len(starts) else len(self.lines)
+            section_end = starts[number + 1][0] if number + 1 < len(starts) else len(self.lines)
             self.headings.append(Heading(number, at, level, keyword, title, tuple(filter(None, tags)),
-                                         above[-1] if above else -1, behind, ends[number]))
+                                         above[-1] if above else -1, section_end, ends[number]))
             above.append(number)
         self._children: Dict[int, List[Heading]] = {}
         for heading in self.headings:
             self._children.setdefault(heading.parent, []).append(heading)
 
     def _ends(self, starts: Sequence[Tuple[int, int]]) -> List[int]:
-        """The line behind each subtree."""
+        """The line after each subtree."""
         ends = [len(self.lines)] * len(starts)
         open_ones: List[int] = []
         for number, (at, level) in enumerate(starts):
@@ -189,7 +189,7 @@ def planned(section: Sequence[str]) -> int:
 
 
 def drawer(section: Sequence[str]) -> Tuple[int, int]:
-    """Where the property drawer begins, and the line behind its end; the same line where there is none."""
+    """Where the property drawer begins, and the line after its end; the same line where there is none."""
     start = planned(section)
     if section[start:start + 1] and section[start].strip(" \t\r").upper() == ":PROPERTIES:":
         for at in range(start + 1, len(section)):
@@ -202,15 +202,15 @@ def drawer(section: Sequence[str]) -> Tuple[int, int]:
 
 def put(section: List[str], name: str, value: str) -> List[str]:
     """A section with a property."""
-    start, behind = drawer(section)
+    start, end = drawer(section)
     line = ":%s: %s" % (name, value)
-    if start == behind:
+    if start == end:
         return section[:start] + [":PROPERTIES:", line, ":END:"] + section[start:]
-    for at in range(start + 1, behind - 1):
+    for at in range(start + 1, end - 1):
         read = PROPERTY.match(section[at])
         if read and read[1].upper() == name:
             return section[:at] + [line] + section[at + 1:]
-    return section[:behind - 1] + [line] + section[behind - 1:]
+    return section[:end - 1] + [line] + section[end - 1:]
 
 
 # -- moments ----------------------------------------------------------------------------------------------------------
@@ -383,8 +383,8 @@ def turned(section: List[str], keyword: str, command: Command) -> Tuple[List[str
     kept = [(word, repeated(at, command.moment) if repeats else at) for (word, at), repeats in zip(kept, again)]
     section = put(planning_line(section, kept), "LAST_REPEAT", stamp(command.moment))
     note = "- State %-12s from %-12s %s" % ('"%s"' % command.state, '"%s"' % keyword, stamp(command.moment))
-    behind = drawer(section)[1]
-    return section[:behind] + [note] + section[behind:], ACTIVE[0]
+    end = drawer(section)[1]
+    return section[:end] + [note] + section[end:], ACTIVE[0]
 
 
 def todo(files: Files, command: Command) -> Files:
@@ -448,10 +448,10 @@ def clock_in(files: Files, command: Command) -> Files:
         files = clocked_out(files, command.moment)
     lines = outline(files[command.file]).lines
     section = lines[heading.line + 1:heading.section_end]
-    behind, line = drawer(section)[1], "CLOCK: " + stamp(command.moment)
-    book = next((at for at in range(behind, len(section)) if section[at].strip(" \t\r").upper() == ":LOGBOOK:"), None)
+    end, line = drawer(section)[1], "CLOCK: " + stamp(command.moment)
+    book = next((at for at in range(end, len(section)) if section[at].strip(" \t\r").upper() == ":LOGBOOK:"), None)
     if book is None:
-        section[behind:behind] = [":LOGBOOK:", line, ":END:"]
+        section[end:end] = [":LOGBOOK:", line, ":END:"]
     else:
         section[book + 1:book + 1] = [line]
     return {**files, command.file: text_of(lines[:heading.line + 1] + section + lines[heading.section_end:])}

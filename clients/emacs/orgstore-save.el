@@ -296,7 +296,7 @@ files the store is opened once more."
 
 (defun orgstore--remember (entries)
   "Note in `orgstore--history' what ENTRIES changed.
-What was changed before their step began can be taken back behind it."
+What was changed before their step began can be taken back after it."
   (when orgstore--keep-history
     (dolist (edits '(orgstore--entry-earlier orgstore--entry-later))
       (when-let* ((step (seq-filter
@@ -324,7 +324,7 @@ each folder is a step of its own, the one that gains text first"))
 ;;;; Saving
 
 (defun orgstore--save-next (batch)
-  "Save the next buffer of BATCH, and within its save those behind it."
+  "Save the next buffer of BATCH, and within its save those after it."
   (let ((buffer (pop (orgstore--batch-queue batch)))
         (count (length (orgstore--batch-entries batch))))
     (condition-case err
@@ -440,7 +440,7 @@ Return the modes that the file is to have afterwards, or nil."
 
 (defun orgstore--make-entry (batch place)
   "Return what the save of this buffer writes at PLACE, as a part of BATCH.
-Its coding system comes behind it: (ENTRY . CODING)."
+Its coding system comes after it: (ENTRY . CODING)."
   (pcase-let ((`(,bytes . ,coding) (orgstore--text-bytes))
               (begun (alist-get (current-buffer) (orgstore--batch-texts batch)))
               (entry (orgstore--entry-make :place place :file buffer-file-name)))

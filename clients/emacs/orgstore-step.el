@@ -26,7 +26,7 @@
 ;;;; Steps
 
 (defvar orgstore--pending nil
-  "A step that is written with the note which Org logs behind the command.")
+  "A step that is written with the note which Org logs after the command.")
 
 (cl-defstruct (orgstore--step (:constructor orgstore--step-make)
                               (:copier nil))

@@ -1,4 +1,4 @@
-// Preloaded into a program, it tells each sync that succeeds, as a line with the last part of what was synced, behind the
+// Preloaded into a program, it tells each sync that succeeds, as a line with the last part of what was synced, after the
 // file that SYNCS names. The sync whose number, from 1, is in FAIL fails; with 0 none does.
 #include "preload.h"
 #include <limits.h>

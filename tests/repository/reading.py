@@ -37,7 +37,7 @@ def broken_links(top: str, path: str) -> Iterator[str]:
 
 
 def sessions(page: str) -> List[List[str]]:
-    """The commands of a page, each with what it is to write. A command stands behind `$ ` in an indented block, a
+    """The commands of a page, each with what it is to write. A command stands after `$ ` in an indented block, a
     here-document up to its END; what it writes stands below it."""
     commands: List[List[str]] = []
     document = within = False

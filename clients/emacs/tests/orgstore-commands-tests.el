@@ -65,7 +65,7 @@ second
 :ORDERED:  t
 :END:
 ** TODO Before
-** TODO Behind
+** TODO After
 * Last
 ")
     ("b.org" . "* Box\n** Inside\n* TODO Call Ann :urgent:\nDEADLINE: <2026-07-02 Thu>\n* Table\n| a | b |\n|---+---|\n| 1 | 2 |\n* List\n- x\n")
@@ -150,7 +150,7 @@ second
   "At PLACE type KEYS, which do COMMAND.
 Of PLIST, :before is a function that is called before, :first are keys typed
 then at :at, :let are settings, :runs is how often the program is run at most,
-and :unsaved says that more is typed behind it."
+and :unsaved says that more is typed after it."
   (let ((all (append (plist-get plist :let) ost-row-settings)) runs)
     (cl-progv (mapcar #'car all) (mapcar (lambda (it) (cdr (assq (car it) all))) all)
       (ost-row-templates)
@@ -169,7 +169,7 @@ and :unsaved says that more is typed behind it."
       (org-save-all-org-buffers))))
 
 (defmacro ost-row (name place keys &rest plist)
-  "Define the row NAME: a command, with a word behind a slash where it has more.
+  "Define the row NAME: a command, with a word after a slash where it has more.
 KEYS are typed at PLACE; see `ost-row-run' for these and for PLIST."
   (declare (indent 1))
   (let ((command (intern (car (split-string (symbol-name name) "/")))))
@@ -209,7 +209,7 @@ KEYS are typed at PLACE; see `ost-row-run' for these and for PLIST."
 (ost-row org-todo/closing-note ("a.org" "Second") "C-u C-c C-t d well C-c C-c" :runs 2)
 (ost-row org-todo/next-set ("b.org" "Ann") "C-u C-u C-c C-t"
   :let ((org-todo-keywords . ((sequence "TODO" "|" "DONE") (sequence "BUG" "|" "FIXED")))))
-(ost-row org-todo/unblocked ("a.org" "Behind") "C-u C-u C-u C-c C-t d"
+(ost-row org-todo/unblocked ("a.org" "After") "C-u C-u C-u C-c C-t d"
   :let ((org-enforce-todo-dependencies . t)))
 (ost-row org-todo/number ("a.org" "Second") "M-3 C-c C-t")
 (ost-row org-todo/zero ("a.org" "Second") "M-0 C-c C-t n")

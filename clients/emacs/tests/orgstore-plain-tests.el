@@ -201,7 +201,7 @@
 (ost-scenario archive-region '(("a.org" . "* P\n** A\n** B\n** C\n"))
   (let ((org-loop-over-headlines-in-active-region t) (transient-mark-mode t))
     (ost-open "a.org" "A") (push-mark (point) t t) (goto-char (point-max)) (activate-mark)
-    ;; Org 9.7 ends in an error where nothing is left behind the entry.
+    ;; Org 9.7 ends in an error where nothing is left after the entry.
     (ost-cmd 1 (ignore-errors (org-archive-subtree)) (save-some-buffers t))))
 
 (ost-scenario archive-sibling ost-ab
@@ -422,11 +422,11 @@
   (ost-open "c.org")
   (ost-cmd 1 (ost-keys "M-x ost-files-away RET")))
 
-(ost-scenario loop-behind-typed-text ost-hundred
+(ost-scenario loop-after-typed-text ost-hundred
   (ost-open "b.org") (goto-char (point-max)) (insert "typed\n")
   (ost-cmd 1 (ost-files-away)))
 
-;; The log of a state comes behind the command, and is of the same step.
+;; The log of a state comes after the command, and is of the same step.
 (ost-scenario loop-with-a-log ost-hundred
   (ost-open "a.org" "A3")
   (ost-cmd 1 (org-set-property "P" "v") (org-todo "DONE")))

@@ -88,7 +88,7 @@
 01 4f 52 47 4a 01 00 00 00 00 00 00 00 00 00 37 00 00 00 01 00 09 69 6e 62 6f 78 2e 6f 72 67
 00 00 00 00 00 00 00 00 00 00 00 00 00 00 00 10 00 00 00 00 00 00 00 10
 2a 20 54 4f 44 4f 20 43 61 6c 6c 20 41 6e 6e 0a"))))
-    ;; The old length is 4, before the patch are two bytes, behind it is none.
+    ;; The old length is 4, before the patch are two bytes, after it is none.
     (should (equal '(nil ("a.org" 8 (2 . "CD") (5 . "E")))
                    (ost-read-record (ost-hex "
 01 4f 52 47 4a 03 00 00 00 00 00 00 00 00 00 46 00 00 00 01 00 05 61 2e 6f 72 67

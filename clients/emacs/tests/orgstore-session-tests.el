@@ -218,7 +218,7 @@ adds it there, where a step does so at its end."
       (let (debug-on-error) (funcall function))
     ((error quit)
      (unless ost-plain (orgstore--command-error))
-     ;; Where plain Org saves behind the command, a save fails there.
+     ;; Where plain Org saves after the command, a save fails there.
      (unless (string-match-p "hook failed: \\(before\\|after\\)-save-hook"
                              (error-message-string err))
        (ost-say "%s: %s" what (error-message-string err)))))

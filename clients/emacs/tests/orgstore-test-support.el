@@ -157,7 +157,7 @@ exit $status
 
 (defun ost-plan (how at)
   "Have the next run of the program be ended at its call AT, by HOW.
-HOW is kill, stop or full as in tests/stops.c; with an exclamation mark behind
+HOW is kill, stop or full as in tests/stops.c; with an exclamation mark after
 it that is done at each run."
   (write-region (format "%s %d\n" how at) nil (expand-file-name "plan" ost-base)
                 nil 'quiet))
@@ -198,7 +198,7 @@ it that is done at each run."
   (mapcar #'buffer-name buffers))
 
 (defun ost-logged ()
-  "Do what Org does behind a command: log a note that needs no text."
+  "Do what Org does after a command: log a note that needs no text."
   (when (and (memq 'org-add-log-note (default-value 'post-command-hook))
              (memq org-log-note-how '(time state)))
     (org-add-log-note)))

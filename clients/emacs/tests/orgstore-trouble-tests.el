@@ -132,7 +132,7 @@
   (should (equal "* New\n" (ost-disk "b.org")))
   (cl-letf (((symbol-function 'yes-or-no-p) (lambda (_) t))) (ost-cmd 1 (save-some-buffers t))))
 
-;; A hook of the user's that fails behind the write: all is saved, and it is reported.
+;; A hook of the user's that fails after the write: all is saved, and it is reported.
 (ost-alone failing-after-save-hook ost-ab
   (ost-open "a.org")
   (let ((after-save-hook (list (lambda () (when (equal (buffer-name) "b.org") (error "Mine"))))))
@@ -219,7 +219,7 @@
     (should (equal (ost-disk "a.org") (cdr (assoc "a.org" ost-ab))))
     (should-error (orgstore-undo-last))))
 
-;; A cut that wasn't saved yet is saved with the command, and taken back behind it.
+;; A cut that wasn't saved yet is saved with the command, and taken back after it.
 (ost-alone undo-last-of-what-was-bound ost-ab
   (let ((before (ost-tree ost-dir)) between)
     (ost-open "a.org" "One") (ost-keys "C-c C-x C-w")

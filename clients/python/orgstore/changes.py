@@ -59,7 +59,7 @@ def _change(entry: Entry, at: int, old: bytes, new: bytes) -> Change:
 
 def _line(entry: Entry) -> Tuple[re.Match[bytes], Dict[str, bytes]]:
     """The heading line's match, and the parts of its rest: `keyword`, `priority`, `title`, `tags`, each with the blanks
-    in front of it, so that they make up the rest."""
+    before it, so that they make up the rest."""
     text, heading = entry.outline.text, entry.heading
     found = _HEADING.match(text, heading.start)
     assert found
@@ -136,7 +136,7 @@ def renamed(entry: Entry, title: str) -> Change:
 # ---------------------------------------------------------------------------------------------------------------------
 
 def _segments(line: bytes) -> Optional[List[Tuple[str, bytes]]]:
-    """The words of a planning line, each with its stamp and the blanks behind it; None where it can't be read."""
+    """The words of a planning line, each with its stamp and the blanks after it; None where it can't be read."""
     bare = line.rstrip(BLANKS)
     bounds = [found.start() for found in re.finditer(PLANNED, bare)] + [len(bare)]
     if bare[:bounds[0]].strip(b" \t"):
@@ -144,9 +144,9 @@ def _segments(line: bytes) -> Optional[List[Tuple[str, bytes]]]:
     parts: List[Tuple[str, bytes]] = []
     for begin, end in zip(bounds, bounds[1:]):
         part = bare[begin:end]
-        word, _, behind = part.partition(b":")
-        stamp = next(stamps.find(behind.strip(b" \t")), None)
-        if stamp is None or stamp.length != len(behind.strip(b" \t")):
+        word, _, written = part.partition(b":")
+        stamp = next(stamps.find(written.strip(b" \t")), None)
+        if stamp is None or stamp.length != len(written.strip(b" \t")):
             return None
         parts.append((word.decode(), part))
     return parts
@@ -173,7 +173,7 @@ def planned(entry: Entry, word: Planning, stamp: Optional[Stamp]) -> Change:
 
 
 def _with_newline(entry: Entry, at: int, lines: bytes) -> bytes:
-    """Some lines of a text from a position on, with the newline behind them where there is one."""
+    """Some lines of a text from a position on, with the newline after them where there is one."""
     return entry.outline.text[at:at + len(lines) + 1]
 
 

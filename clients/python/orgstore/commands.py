@@ -57,7 +57,7 @@ class Capture(Command):
     moment: Moment = None
 
     def line(self) -> bytes:
-        # The template `%i` is the initial text and nothing else: nothing stands in front of it, to be repeated after
+        # The template `%i` is the initial text and nothing else: nothing stands before it, to be repeated after
         # each of its newlines, and what was filled in isn't read again.
         return CaptureTemplate(self.file, "%i", self.text, self.to, self.place, self.moment).line()
 

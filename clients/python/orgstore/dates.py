@@ -64,7 +64,7 @@ def _relative(found: re.Match[str], asked: _Asked) -> datetime.date:
 
 
 def _weekday(found: re.Match[str], asked: _Asked) -> datetime.date:
-    """The next day of this name, or the last one behind a minus; today is neither."""
+    """The next day of this name, or the last one after a minus; today is neither."""
     signs, count = found["signs"], int(found["count"] or 1)
     back = signs.endswith("-")
     from_day = asked.default if len(signs) == 2 else asked.now.date()
@@ -153,7 +153,7 @@ def _times(found: re.Match[str]) -> Tuple[datetime.time, Optional[datetime.time]
 
 
 def read(text: str, now: datetime.datetime, default: Optional[datetime.date] = None) -> When:
-    """What a date, a time, or a date with a time behind it is at a moment. `default` is the day of a time alone, and
+    """What a date, a time, or a date with a time after it is at a moment. `default` is the day of a time alone, and
     what `++` and `--` count from; else that is today.
 
     >>> now = datetime.datetime(2026, 7, 1, 10, 5)
@@ -173,7 +173,7 @@ def read(text: str, now: datetime.datetime, default: Optional[datetime.date] = N
         day = _day(found["date"], asked) if found["date"] else asked.default
         return When(day, *_times(found))
     except (ValueError, OverflowError):
-        raise ValueError("'%s' is no date: write friday, +2w, sep 15, 2026-07-03, and a time behind it, as 10:00 or "
+        raise ValueError("'%s' is no date: write friday, +2w, sep 15, 2026-07-03, and a time after it, as 10:00 or "
                          "9am-11am" % text) from None
 
 
@@ -182,7 +182,7 @@ _COOKIES = re.compile(r"(?P<date>.*\S)(?P<cookies>(?: +(?:%s))+)" % COOKIE)
 
 def read_stamp(text: str, now: datetime.datetime, before: Optional[Stamp] = None) -> Stamp:
     """The active stamp that a text is: one as Org writes it, with or without its brackets; else a date as `read` takes
-    it, and behind it a repeater or a delay. `before` is the stamp that stood there: times alone are of its day, and its
+    it, and after it a repeater or a delay. `before` is the stamp that stood there: times alone are of its day, and its
     repeater and its delay stay where none is named.
 
     >>> now = datetime.datetime(2026, 7, 1, 10, 5)

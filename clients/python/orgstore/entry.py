@@ -117,17 +117,17 @@ class Entry:
 
     @property
     def scheduled(self) -> Optional[Stamp]:
-        """The stamp behind `SCHEDULED:`."""
+        """The stamp after `SCHEDULED:`."""
         return self.planned.get("SCHEDULED")
 
     @property
     def deadline(self) -> Optional[Stamp]:
-        """The stamp behind `DEADLINE:`."""
+        """The stamp after `DEADLINE:`."""
         return self.planned.get("DEADLINE")
 
     @property
     def closed(self) -> Optional[Stamp]:
-        """The stamp behind `CLOSED:`."""
+        """The stamp after `CLOSED:`."""
         return self.planned.get("CLOSED")
 
     @cached
@@ -142,7 +142,7 @@ class Entry:
 
     @cached
     def body_start(self) -> int:
-        """Where its text begins: behind the planning line and the property drawer."""
+        """Where its text begins: after the planning line and the property drawer."""
         lines = self.lines
         taken = 1 if planning(lines) else 0
         if properties(lines) or lines[taken:] and self._drawer_is_empty(taken):

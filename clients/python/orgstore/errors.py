@@ -61,7 +61,7 @@ class Fault(Error):
     disk failed), `Broken` (one failed before), or how the program ended. The first `safe` commands are on the disk.
 
     Of a `Device`, `cause` and `file` say why, and `why` is a sentence on it. `done` says what became of the commands
-    behind the safe ones: False where nothing of them was written, True where opening the folder again finishes them,
+    after the safe ones: False where nothing of them was written, True where opening the folder again finishes them,
     None where it finishes or forgets each.
     """
 

@@ -68,7 +68,7 @@ def _events(entry: Entry, now: datetime.datetime) -> Iterator[str]:
 
 
 def _end(stamp: Stamp, last: Optional[Stamp]) -> Optional[Stamp]:
-    """Where an event ends; one of whole days ends on the day behind its last."""
+    """Where an event ends; one of whole days ends on the day after its last."""
     if last and stamp.time is None:
         return Stamp(last.day + datetime.timedelta(days=1))
     if last:

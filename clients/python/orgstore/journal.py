@@ -41,8 +41,8 @@ class Place:
 
 @record(frozen=True)
 class Entry:
-    """What a record does to a file: its patches, and the length that it has after them. `before` is what stood in front
-    of the first patch, as far as the record has it."""
+    """What a record does to a file: its patches, and the length that it has after them. `before` is what stood just
+    before the first patch, as far as the record has it."""
 
     name: str
     length: int

@@ -37,7 +37,7 @@ class States:
     @classmethod
     def parse(cls, text: str) -> States:
         """The states of a text as an Org file's `#+TODO:` line has it: without a `|` the last word alone is done, and
-        what stands in parentheses behind a word is passed over.
+        what stands in parentheses after a word is passed over.
 
         >>> States.parse("TODO(t) WAIT(w@/!) DONE(d)")
         States(active=('TODO', 'WAIT'), done=('DONE',))
@@ -56,7 +56,7 @@ class States:
 
 
 def state_lines(text: bytes) -> List[Tuple[int, str]]:
-    """The `#+TODO:` lines of a file: their numbers, and what stands behind the colon."""
+    """The `#+TODO:` lines of a file: their numbers, and what stands after the colon."""
     if b"TODO:" not in text.upper():
         return []
     return [(number, as_string(line.partition(b":")[2])) for number, line in enumerate(text.split(b"\n"), 1)
@@ -80,7 +80,7 @@ def states_of(text: bytes, folder: States) -> States:
 
 
 def parts_of(rest: bytes, states: FrozenSet[bytes]) -> Tuple[str, str, str, Tuple[str, ...]]:
-    """Keyword, priority, title and tags of what stands behind a heading's stars and their space."""
+    """Keyword, priority, title and tags of what stands after a heading's stars and their space."""
     title = rest.lstrip(b" \t").rstrip(b" \t\r")
     keyword = priority = b""
     tags: Tuple[str, ...] = ()
@@ -89,9 +89,9 @@ def parts_of(rest: bytes, states: FrozenSet[bytes]) -> Tuple[str, str, str, Tupl
     if run in states:
         keyword, title = run, title[len(run):].lstrip(b" \t")
     if title.startswith(b"[#") and title[2:3].isalnum() and title[3:4] == b"]":
-        priority, behind = title[:4], title[4:]
-        title = behind.lstrip(b" \t")
-        after_blank = len(title) < len(behind)
+        priority, after = title[:4], title[4:]
+        title = after.lstrip(b" \t")
+        after_blank = len(title) < len(after)
     if title.endswith(b":"):
         start = max(title.rfind(b" "), title.rfind(b"\t")) + 1
         if (start > 0 or after_blank) and _are_tags(title[start:]):

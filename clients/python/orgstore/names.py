@@ -8,7 +8,7 @@ if TYPE_CHECKING:
     from typing import Optional
 
 ARCHIVE = "_archive"
-"""What the name of an archive file has behind that of its file."""
+"""What the name of an archive file has after that of its file."""
 
 JOURNAL = "orgstore.journal"
 """The file that makes a command one step."""

@@ -69,8 +69,8 @@ class Outline:
     def below(self, number: int) -> Iterator[Heading]:
         """The headings of a subtree, without its root."""
         end = self.headings[number].end
-        behind = (self.headings[at] for at in range(number + 1, len(self.headings)))
-        return itertools.takewhile(lambda heading: heading.start < end, behind)
+        later = (self.headings[at] for at in range(number + 1, len(self.headings)))
+        return itertools.takewhile(lambda heading: heading.start < end, later)
 
     def location(self, number: int) -> Location:
         """Where archiving a heading puts it; a location that can't be read counts as the file's archive."""

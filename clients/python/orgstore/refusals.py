@@ -33,7 +33,7 @@ ADVICE: Dict[str, str] = {
     "BadRepeat": "a repeater in hours needs a timestamp with one time: give it a time, or repeat it by another unit",
     "DateRange": "a timestamp would repeat past the year 9999: mend its date or its repeater",
     "NoClock": "no clock runs in the store's files: clock in first",
-    "ClockBackwards": "the running clock was started behind the moment: give a later one, or mend the clock's line",
+    "ClockBackwards": "the running clock was started after the moment: give a later one, or mend the clock's line",
     "TooLarge": "a file would grow past 64 MiB: archive or refile something from it first",
     "BadLocation": "its archive location can't be read: the ARCHIVE property, or the file's #+ARCHIVE: line, is a "
                    "file or nothing, then '::', then a heading or nothing",

@@ -88,7 +88,7 @@ class NoClock(Refused):
 
 
 class ClockBackwards(Refused):
-    """The running clock was started behind the moment."""
+    """The running clock was started after the moment."""
 
     code, name = 13, "ClockBackwards"
 

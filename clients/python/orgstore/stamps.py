@@ -52,7 +52,7 @@ def moved(day: datetime.date, count: int, unit: str) -> datetime.date:
 @record(frozen=True)
 class Repeater:
     """When a stamp comes again: every `count` of a `unit` (`h d w m y`), of the kind `+`, `++` or `.+`. `limit` is what
-    stands behind a slash, as habits have it."""
+    stands after a slash, as habits have it."""
 
     kind: str
     count: int
@@ -153,8 +153,8 @@ class Stamp:
         if repeater.unit == "h":
             begins = self.time.hour if self.time else 0
             # hours from the first time to the day's beginning; the next repeat is to come within 24
-            behind = 24 * (day - self.day).days - begins
-            return -behind % repeater.count < 24
+            hours = 24 * (day - self.day).days - begins
+            return -hours % repeater.count < 24
         if repeater.unit in "dw":
             return (day - self.day).days % (repeater.count * (7 if repeater.unit == "w" else 1)) == 0
         months = (day.year - self.day.year) * 12 + day.month - self.day.month
@@ -195,7 +195,7 @@ def _stamp(found: re.Match[str], base: int = 0) -> Optional[Stamp]:
 
 
 def _part(word: str) -> Tuple[str, Any]:
-    """What a word behind a stamp's date is. Raises `ValueError` where it is nothing."""
+    """What a word after a stamp's date is. Raises `ValueError` where it is nothing."""
     read = re.fullmatch(_TIME, word)
     if read:
         end = datetime.time(int(read[3]), int(read[4])) if read[3] else None

@@ -276,7 +276,7 @@ class Store:
              timeout: Optional[float] = None) -> List[Union[Done, Refused]]:
         """Runs commands without waiting for each reply, and then settles them; answers what became of each.
 
-        A refusal is a value of the list, and the commands behind it are run all the same. A fault is raised.
+        A refusal is a value of the list, and the commands after it are run all the same. A fault is raised.
         `progress` is called after each reply, and at the end, with how many commands were answered, and how many are
         safe. `timeout` is that of `Store`, here without end where none is given.
 

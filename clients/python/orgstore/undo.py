@@ -56,7 +56,7 @@ class Record:
 
 
 def differences(file: str, before: bytes, after: bytes) -> List[Change]:
-    r"""What was changed in a file: each place with the line in front of it and the line behind, and where that stands
+    r"""What was changed in a file: each place with the line before it and the line after it, and where that stands
     in `after`.
 
     >>> differences("a.org", b"1\n2\n3\n4\n", b"1\n2\nx\n3\n4\n")
@@ -68,19 +68,19 @@ def differences(file: str, before: bytes, after: bytes) -> List[Change]:
         starts.append(starts[-1] + len(line))
     found: List[Change] = []
     for first, last, to_first, to_last in _places(old, new):
-        front, behind = min(first, to_first, 1), min(len(old) - last, len(new) - to_last, 1)
-        found.append(Change(file, starts[to_first - front], b"".join(old[first - front:last + behind]),
-                            b"".join(new[to_first - front:to_last + behind])))
+        above, below = min(first, to_first, 1), min(len(old) - last, len(new) - to_last, 1)
+        found.append(Change(file, starts[to_first - above], b"".join(old[first - above:last + below]),
+                            b"".join(new[to_first - above:to_last + below])))
     return found
 
 
 def _apart(before: bytes, after: bytes) -> Tuple[int, List[bytes], List[bytes]]:
-    """Where two texts begin to differ, two lines before, and their lines from there on, up to two lines behind."""
+    """Where two texts begin to differ, two lines before, and their lines from there on, up to two lines after."""
     most = min(len(before), len(after))
     same = _alike(most, lambda size: before[:size] == after[:size])
-    behind = _alike(most - same, lambda size: before[len(before) - size:] == after[len(after) - size:])
+    same_end = _alike(most - same, lambda size: before[len(before) - size:] == after[len(after) - size:])
     start = before.rfind(b"\n", 0, max(before.rfind(b"\n", 0, same), 0)) + 1
-    end, to_end = len(before) - behind, len(after) - behind
+    end, to_end = len(before) - same_end, len(after) - same_end
     for _ in range(2):
         newline = before.find(b"\n", end)
         to_end, end = (to_end + newline + 1 - end, newline + 1) if newline >= 0 else (len(after), len(before))
@@ -101,10 +101,10 @@ def _places(old: List[bytes], new: List[bytes]) -> Iterator[Tuple[int, int, int,
     most, front = min(len(old), len(new)), 0
     while front < most and old[front] == new[front]:
         front += 1
-    behind = 0
-    while behind < most - front and old[-1 - behind] == new[-1 - behind]:
-        behind += 1
-    last, to_last = len(old) - behind, len(new) - behind
+    back = 0
+    while back < most - front and old[-1 - back] == new[-1 - back]:
+        back += 1
+    last, to_last = len(old) - back, len(new) - back
     if (front, front) == (last, to_last):
         return
     if front in (last, to_last) or last - front + to_last - front > _LINES:

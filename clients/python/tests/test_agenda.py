@@ -19,7 +19,7 @@ TODAY = datetime.date(2026, 7, 1)
 
 
 def leader(item: Item) -> str:
-    """What Org's agenda writes in front of an item."""
+    """What Org's agenda writes before an item."""
     return {"deadline": "Deadline:  ", "scheduled": "Scheduled: ", "timestamp": "",
             "upcoming": "In %3d d.: " % item.days, "overdue": "%2d d. ago: " % item.days,
             "late": "Sched.%2dx: " % item.days,

@@ -178,11 +178,11 @@ class Subtrees(unittest.TestCase):
                 self.assertTrue(not lines or not new.startswith(b"*")
                                 or min(len(line.split(b" ")[0]) for line in lines) < level, new)
                 continue
-            front, behind = text[:entry.heading.start], text[entry.heading.end:]
-            self.assertTrue(after.startswith(front) and after.endswith(behind))
-            middle = after[len(front):len(after) - len(behind)]
+            front, back = text[:entry.heading.start], text[entry.heading.end:]
+            self.assertTrue(after.startswith(front) and after.endswith(back))
+            middle = after[len(front):len(after) - len(back)]
             self.assertIn(middle, (new, new + b"\n") if new.strip() else (b"",))
-            self.assertTrue(not behind or not middle or middle.endswith(b"\n"))
+            self.assertTrue(not back or not middle or middle.endswith(b"\n"))
 
 
 class TakenBack(unittest.TestCase):

@@ -104,10 +104,10 @@ STATES: List[Row] = [
     ({"a.org": "* A\n"}, lambda store: store.clock_out(), NoClock,
      "no clock runs in the store's files: clock in first"),
     ({"a.org": "* A\nCLOCK: [2026-07-01 Wed 10:00]\n"}, lambda store: store.clock_out(EARLIER), ClockBackwards,
-     "the running clock was started behind the moment: give a later one, or mend the clock's line"),
+     "the running clock was started after the moment: give a later one, or mend the clock's line"),
     ({"a.org": "* A\nCLOCK: [2026-07-01 Wed 10:00]\n* B\n"}, lambda store: store.clock_in("a.org", "B", EARLIER),
      ClockBackwards,
-     "a.org: B: the running clock was started behind the moment: give a later one, or mend the clock's line"),
+     "a.org: B: the running clock was started after the moment: give a later one, or mend the clock's line"),
 ]
 
 NAMES: List[Row] = [

@@ -154,7 +154,7 @@ def uninterrupted(program: str, folder: str, session: Session) -> Tuple[List[Fil
 
 class Output:
     """Reads the replies of a traced run, from the front: of each line where its reply ends and how many commands are
-    accepted behind it, and the same of each `ok` and `safe`."""
+    accepted after it, and the same of each `ok` and `safe`."""
 
     def __init__(self, data: bytes, group: int) -> None:
         self.data, self.group = data, group
@@ -175,7 +175,7 @@ class Output:
         self.pending = 0
 
     def line(self, line: bytes, reply: bytes, count: int) -> None:
-        """A line, what it is answered in groups of 1, and how many commands are accepted behind it."""
+        """A line, what it is answered in groups of 1, and how many commands are accepted after it."""
         if line == b"settle\n":
             self.settled(count)
             self.answered.append(self.safes[-1])

@@ -64,7 +64,7 @@ class Trace:
         return Mutant(kind, self.events[:at] + self.events[at + 1:], at, end, shows)
 
     def moved(self, kind: str, at: int, to: int, shows: bool) -> Mutant:
-        """The trace with an event moved to before or behind others."""
+        """The trace with an event moved to before or after others."""
         events = list(self.events)
         event = events.pop(at)
         events.insert(to, event)
@@ -72,7 +72,7 @@ class Trace:
 
 
 def commits(trace: Trace) -> Iterator[Mutant]:
-    """The faults of a commit's first steps: of each record that is written, behind which the gate is opened. A program
+    """The faults of a commit's first steps: of each record that is written, after which the gate is opened. A program
     that orders these calls otherwise has no such mutants."""
     at = trace.next(0, "body")
     while at < len(trace.events):
@@ -107,7 +107,7 @@ def replies(trace: Trace, gate_synced: int, closed: int) -> Iterator[Mutant]:
 
 
 def closings(trace: Trace) -> Iterator[Mutant]:
-    """The faults of the last steps, of a commit and of a replay: the files' syncs, and the gate closed behind them."""
+    """The faults of the last steps, of a commit and of a replay: the files' syncs, and the gate closed after them."""
     for at, event in enumerate(trace.events):
         changed = any(gate(before) == "open" or is_file(before) for before in trace.events[:at])
         if isinstance(event, Synced) and event.name != JOURNAL and changed:
@@ -122,7 +122,7 @@ def closings(trace: Trace) -> Iterator[Mutant]:
 
 
 def folder_syncs(trace: Trace) -> Iterator[Mutant]:
-    """A new name isn't synced: of a file, whose commit ends, or of the journal, behind which files change."""
+    """A new name isn't synced: of a file, whose commit ends, or of the journal, after which files change."""
     for at, event in enumerate(trace.events):
         loose = {name for name, file in trace.disks[at].items() if not file.entered}
         if event != FolderSynced() or not loose or not any(isinstance(before, Made) for before in trace.events[:at]):

@@ -52,7 +52,7 @@ ARCHIVED = [
      ("* P\n:PROPERTIES:\n:archive: b.org::\n:END:\n",
      "* A\n:PROPERTIES:\n:ARCHIVE:\n:ARCHIVE_TIME: 2026-07-01 Wed 10:00\n:ARCHIVE_FILE: x.org\n:ARCHIVE_OLPATH: P\n"
      ":ARCHIVE_CATEGORY: x\n:END:\n")),
-    # The first line counts: in a section, behind blanks, in any case.
+    # The first line counts: in a section, after blanks, in any case.
     ("a.org", "* A\n \t#+archive:  a.org:: \n", "", "A", ("",
      "* A\n:PROPERTIES:\n:ARCHIVE_TIME: 2026-07-01 Wed 10:00\n:ARCHIVE_FILE: x.org\n:ARCHIVE_CATEGORY: x\n:END:\n"
      " \t#+archive:  a.org:: \n")),
@@ -125,7 +125,7 @@ FROM_AN_ARCHIVE = [("A", ALREADY_ARCHIVE), ("Q", NOT_FOUND), ("B", NOT_UNIQUE)]
 ARCHIVED_AT = ":PROPERTIES:\n:ARCHIVE_TIME: 2026-07-01 Wed 10:00\n:ARCHIVE_FILE: x.org\n:ARCHIVE_CATEGORY: x\n"
 
 SESSIONS = [
-    # A line comes behind all headings, then one before it; the first goes away with its entry, then the other one.
+    # A line comes after all headings, then one before it; the first goes away with its entry, then the other one.
     ("* A\n* B\n* C\n* D\n",
      ["archive\tx.org\tA\t" + NOW, "capture\tx.org\ttop\tlast\t%s\t* N\\n#+ARCHIVE: y.org::\t" % NOW,
       "archive\tx.org\tB\t" + NOW, "capture\tx.org\ttop\tfirst\t%s\t* M\\n#+ARCHIVE: ::* Old\t" % NOW,

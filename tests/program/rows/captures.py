@@ -11,7 +11,7 @@ PLACED = [
     ("* A\n*** X\n** Y\n", "path:A", "first", "* A\n*** X\n** N\n** Y\n"),
     ("* A\n*** X\n** Y\n", "path:A", "last", "* A\n*** X\n** Y\n** N\n"),
     ("* A\n*** X\n", "path:A", "first", "* A\n*** X\n** N\n"),
-    # stars with a tab behind them are no heading; the block's line is one
+    # stars with a tab after them are no heading; the block's line is one
     ("*\n*\tA\n#+BEGIN_SRC\n* A\n#+END_SRC\n", "path:A", "last", "*\n*\tA\n#+BEGIN_SRC\n* A\n#+END_SRC\n** N\n"),
     # a heading that isn't there is made, and one that is there is found by its title
     ("x\n", "head:Tasks", "last", "x\n* Tasks\n** N\n"),
@@ -20,9 +20,9 @@ PLACED = [
     ("* 2027\n", "date", "last", "* 2026\n** 2026-07 July\n*** 2026-07-01 Wednesday\n**** N\n* 2027\n"),
     ("", "date", "last", "* 2026\n** 2026-07 July\n*** 2026-07-01 Wednesday\n**** N\n"),
     ("* J\n", "date:J", "last", "* J\n** 2026\n*** 2026-07 July\n**** 2026-07-01 Wednesday\n***** N\n"),
-    # behind lines
+    # after lines
     ("p\n\n* A\n", "top", "first", "p\n\n* N\n* A\n"),
-    # behind deeper headings
+    # after deeper headings
     ("p\n** A\n* B\n", "top", "first", "p\n** A\n* N\n* B\n"),
     # only lines
     ("p\n", "top", "first", "p\n* N\n"),
@@ -57,7 +57,7 @@ BELOW_A_TITLE = [
     ("* TODO [#A] Tasks :a:b:\n** A\n", "head:Tasks", "first", "* TODO [#A] Tasks :a:b:\n** N\n** A\n"),
     # in another case
     ("* tasks\n", "head:Tasks", "last", "* tasks\n* Tasks\n** N\n"),
-    # made behind a deep heading
+    # made after a deep heading
     ("* A\n*** B\n", "head:Tasks", "first", "* A\n*** B\n* Tasks\n** N\n"),
     # no keyword
     ("", "head:TODOs x", "last", "* TODOs x\n** N\n"),
@@ -73,7 +73,7 @@ BELOW_A_TITLE = [
     ("* TODO A :x:\n** B\n* A\n* C\n*** D\n** D\n** B\n", "head:B", "last", NOT_UNIQUE),
     ("* TODO A :x:\n** B\n* A\n* C\n*** D\n** D\n** B\n", "head:Q", "last",
      "* TODO A :x:\n** B\n* A\n* C\n*** D\n** D\n** B\n* Q\n** N\n"),
-    # of a block the line that looks like a heading is one; stars with a tab behind them are none
+    # of a block the line that looks like a heading is one; stars with a tab after them are none
     ("*\n*\tA\n#+BEGIN_SRC\n* A\n#+END_SRC\n", "head:A", "last", "*\n*\tA\n#+BEGIN_SRC\n* A\n#+END_SRC\n** N\n"),
     # what is no title
     ("x\n", "head:TODO x", "last", NOT_FOUND),
@@ -112,7 +112,7 @@ DATE_TREES = [
 
 # Headings of date trees have their levels and keys.
 DATE_HEADINGS = [
-    # Other text behind the keys, keywords and tags.
+    # Other text after the keys, keywords and tags.
     ("* TODO 2026 :x:\n** 2026-07\n*** 2026-07-01 x\n", "date", "last",
      "* TODO 2026 :x:\n** 2026-07\n*** 2026-07-01 x\n**** N\n"),
     # No year, and no month.
@@ -140,7 +140,7 @@ DATE_HEADINGS = [
     # a month one level too deep, though greater
     ("* 2026\n*** 2026-08\n** 2026-06\n", "date", "last",
      "* 2026\n*** 2026-08\n** 2026-06\n** 2026-07 July\n*** 2026-07-01 Wednesday\n**** N\n"),
-    # text right behind a key, or a tab
+    # text right after a key, or a tab
     ("* 2026\n** 2026-07x\n** 2026-08\tx\n", "date", "last",
      "* 2026\n** 2026-07x\n** 2026-08\tx\n** 2026-07 July\n*** 2026-07-01 Wednesday\n**** N\n"),
     # digits are missing, or too many
@@ -285,7 +285,7 @@ def captures(room):
         goes(room, capture(file, target, "last", template), both(text, ""), why)
 
 
-# The second entry of a day goes behind the first, and no other heading is new.
+# The second entry of a day goes after the first, and no other heading is new.
 DAY = "* 2026\n** 2026-07 July\n*** 2026-07-01 Wednesday\n**** N\n**** K\n* 2027\n"
 
 

@@ -37,7 +37,7 @@ CLOCKED_OUT = [
     # Before the first heading there is none.
     ("CLOCK: [2026-07-01 Wed 10:00]\n* A\n", "2026-07-01 11:00", NO_CLOCK),
     # No clock lines: in lower case, without a blank, with an active timestamp, without a time, with two times, with a
-    # repeater, with more behind the timestamp.
+    # repeater, with more after the timestamp.
     ("* A\nclock: [2026-07-01 Wed 10:00]\n", "2026-07-01 11:00", NO_CLOCK),
     ("* A\nCLOCK:[2026-07-01 Wed 10:00]\n", "2026-07-01 11:00", NO_CLOCK),
     ("* A\nCLOCK: <2026-07-01 Wed 10:00>\n", "2026-07-01 11:00", NO_CLOCK),
@@ -57,7 +57,7 @@ CLOCKED_IN = [
      "* A\nDEADLINE: soon\n:LOGBOOK:\nCLOCK: [2026-07-01 Wed 10:00]\n:END:\n:LOGBOOK:\n"),
     ("* A\n:LOGBOOK:\n** B\n:END:\n",
      "* A\n:LOGBOOK:\nCLOCK: [2026-07-01 Wed 10:00]\n:END:\n:LOGBOOK:\n** B\n:END:\n"),
-    # Behind the planning line and the properties.
+    # After the planning line and the properties.
     ("* A\nDEADLINE: <2026-07-03 Fri>\n:PROPERTIES:\n:B: c\n:END:\nx\n",
      "* A\nDEADLINE: <2026-07-03 Fri>\n:PROPERTIES:\n:B: c\n:END:\n:LOGBOOK:\nCLOCK: [2026-07-01 Wed 10:00]\n"
      ":END:\nx\n"),
@@ -69,7 +69,7 @@ CLOCKED_IN = [
 
 # What a.org is, in which a clock runs, the moment of a `clock-in` at its heading A, and what a.org is then.
 SWITCHED = [
-    # From a heading before it, and from one behind it.
+    # From a heading before it, and from one after it.
     ("* B\n:LOGBOOK:\nCLOCK: [2026-07-01 Wed 10:00]\n:END:\n* A\n", "2026-07-01 11:30",
      "* B\n:LOGBOOK:\nCLOCK: [2026-07-01 Wed 10:00]--[2026-07-01 Wed 11:30] =>  1:30\n:END:\n* A\n:LOGBOOK:\n"
      "CLOCK: [2026-07-01 Wed 11:30]\n:END:\n"),

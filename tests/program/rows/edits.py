@@ -36,7 +36,7 @@ EDITS = [
     ("* A\n\tx/y\\z\n", 4, "\tx/y\\z\n", "/\t", "* A\n/\t"),
     # within a letter of two bytes
     ("* \u00e9\n", 4, "\n", "", "* \u00e9"),
-    # the bytes are one place too far in front
+    # the bytes are one place too early
     ("aab\n", 0, "ab", "x", NOT_THERE),
     ("aab\n", 1, "ab", "x", "ax\n"),
 ]

@@ -55,7 +55,7 @@ def texts(folder):
     return held(folder, "a.org"), held(folder, "b.org")
 
 
-# An input that is done whole: an archive is a step, and what stands behind it isn't settled.
+# An input that is done whole: an archive is a step, and what stands after it isn't settled.
 def a_step_and_more(room):
     folder = room.folder(both("* A\n* B\n", "* Z"))
     lines = "archive\ta.org\tA\t2026-07-01 10:00\nsettle\n" + capture("a.org", "top", "last", "* C") + "time\ta.org\tQ\nsettle\n"
@@ -71,7 +71,7 @@ def ended(folder, lines, *words):
     return process.returncode, process.stdout, process.stderr
 
 
-# The reader of an input ends behind each of its bytes: nothing is done before the newline of the settling was read.
+# The reader of an input ends after each of its bytes: nothing is done before the newline of the settling was read.
 def an_input_cut_at_each_byte(room):
     lines = MOVE + "settle\n"
     for size in range(len(lines) + 1):

@@ -22,7 +22,7 @@ ARCHIVE_LINES = [
      "ok 1\nsafe 1\n"
      + shown("* B\n:PROPERTIES:\n:ARCHIVE_TIME: 2026-07-01 Wed 10:00\n:ARCHIVE_FILE: a.org\n:ARCHIVE_OLPATH: A\n"
              ":ARCHIVE_CATEGORY: home\n:END:\n")),
-    # an entry at top level, and one behind it in the archive, neither file with a newline at its
+    # an entry at top level, and one after it in the archive, neither file with a newline at its
     # end
     ("* A\n* B", "* Z",
      "archive\ta.org\tB\t2026-07-01 10:00\narchive\tb.org\tZ\t2026-07-01 10:00\n"
@@ -180,7 +180,7 @@ CLOCK_LINES = [
     # a title with a keyword and one without are the same
     ("* TODO A :x:\n* A\n", "", "time\ta.org\tA\ntime\ta.org\tQ\nshow\tq.org\n",
      "refused 5 NotUnique\nrefused 4 NotFound\nrefused 1 NoSuchFile\n"),
-    # a star alone, or with a tab behind it, is no heading; one in a block is
+    # a star alone, or with a tab after it, is no heading; one in a block is
     ("*\n*\tA\n#+BEGIN_SRC\n* A\n#+END_SRC\n", "",
      "time\ta.org\tA\ncapture\ta.org\tpath:A\tlast\t2026-07-01 10:00\t* N\t\nshow\ta.org\n",
      "time 0:00\nok 1\nsafe 1\n" + shown("*\n*\tA\n#+BEGIN_SRC\n* A\n#+END_SRC\n** N\n")),
@@ -257,7 +257,7 @@ CAPTURE_LINES = [
     # the first of the children of its level, and the last where there is none
     ("* A\n*** X\n** Y\n", "path:A", "first", "* A\n*** X\n** N\n** Y\n"),
     ("* A\n*** X\n", "path:A", "first", "* A\n*** X\n** N\n"),
-    # only a space behind the stars makes a heading, and one within a block is a heading too
+    # only a space after the stars makes a heading, and one within a block is a heading too
     ("*\n*\tA\n#+BEGIN_SRC\n* A\n#+END_SRC\n", "path:A", "last", "*\n*\tA\n#+BEGIN_SRC\n* A\n#+END_SRC\n** N\n"),
     # a slash of a title
     ("* a/b\n", "path:a\\sb", "last", "* a/b\n** N\n"),

@@ -48,7 +48,7 @@ NAMED = [
     # lines that are no headings
     ("*\tA\n", "A", NOT_FOUND),
     ("x* A\n", "A", NOT_FOUND),
-    # behind a slash stands the empty title
+    # after a slash stands the empty title
     (TWINS, r"A\#1/", NOT_FOUND),
 ]
 

@@ -40,7 +40,7 @@ KEPT_STATES = [
 PLANNED = [
     ("* TODO A\nSCHEDULED: <2026-07-02 Thu>\nb\n", "A", "DONE", NOW,
      "* DONE A\nCLOSED: [2026-07-01 Wed 10:00] SCHEDULED: <2026-07-02 Thu>\nb\n"),
-    # an old CLOSED goes with the blanks behind it
+    # an old CLOSED goes with the blanks after it
     ("* TODO A\n \tSCHEDULED: <2026-07-02 Thu>  CLOSED: [2026-06-30 Tue 09:00]\tDEADLINE: <2026-07-09 Thu -2d>\n", "A",
      "DONE", NOW,
      "* DONE A\n \tCLOSED: [2026-07-01 Wed 10:00] SCHEDULED: <2026-07-02 Thu>  DEADLINE: <2026-07-09 Thu -2d>\n"),
@@ -224,7 +224,7 @@ OPEN_ALIKE = [
     # titles of no byte, also before tags, and one of tags' form
     ("* TODO :x:\n** \n* A\n", "/", "TODO", NOW, "* TODO :x:\n** TODO \n* A\n"),
     ("* :a::b:\n* :a:\n* A :a:\n", ":a::b:", "TODO", NOW, "* TODO :a::b:\n* :a:\n* A :a:\n"),
-    # the line ends directly behind the title, by a newline or a carriage return
+    # the line ends directly after the title, by a newline or a carriage return
     ("* É\r\n* TODO É", "É", "TODO", NOW, NOT_UNIQUE),
     ("* È\r\n* TODO É", "É", "", NOW, "* È\r\n* É\n"),
     # a child is what no other heading between holds, whatever its level

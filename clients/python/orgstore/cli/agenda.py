@@ -53,7 +53,7 @@ def show_days(run: Run, first: datetime.date, days: int) -> int:
         items = agenda(wanted_entries(run, texts), first, days, today)
         span = [first + datetime.timedelta(days=number) for number in range(days)]
     except OverflowError:
-        raise Usage("the agenda would end behind the year 9999") from None
+        raise Usage("the agenda would end after the year 9999") from None
     by_day: Dict[datetime.date, List[Item]] = {day: [] for day in span}
     for item in items:
         by_day[item.day].append(item)

@@ -36,7 +36,7 @@ CAPTURE_OPTIONS = (
     option("--head", metavar="TITLE", help="below the one heading of this title, made where there is none"),
     option("--under", metavar="HEADING", help="below a heading that is there"),
     flag("--date", help="into the date tree, at the top level or --under a heading"),
-    flag("--first", help="before the other entries there, not behind them"),
+    flag("--first", help="before the other entries there, not after them"),
     option("--body", metavar="TEXT", help="the text below the heading; - is standard input"),
     flag("--indent", help="two blanks before each line of the body"))
 _BLANKS = b" \t\r"
@@ -131,7 +131,7 @@ def capture_file(run: Run) -> Tuple[str, List[str]]:
 
 
 def take_template(run: Run) -> None:
-    """Puts the words of a template, and the folder's defaults, in front of those that were given."""
+    """Puts the words of a template, and the folder's defaults, before those that were given."""
     name, settings = run.options.template, run.settings
     if name is not None:
         words = settings.get("template." + name)
@@ -144,7 +144,7 @@ def take_template(run: Run) -> None:
 
 
 def merge(run: Run, name: str, text: str) -> None:
-    """Takes the words of a template: options that weren't given, words in front, and %s for the title."""
+    """Takes the words of a template: options that weren't given, words before the others, and %s for the title."""
     import shlex  # slow to load
 
     theirs = Options(**defaults(CAPTURE_OPTIONS))

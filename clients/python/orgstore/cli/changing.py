@@ -198,7 +198,7 @@ def delete(run: Run) -> int:
 
 
 ONE = NAMING + " It is one step, and `orgs undo` takes it back."
-DATES = ("DATE is as at Org's prompt: friday, +2w, 'sep 15 10:00', and a repeater or a delay behind it; none takes it "
+DATES = ("DATE is as at Org's prompt: friday, +2w, 'sep 15 10:00', and a repeater or a delay after it; none takes it "
          "away. A repeater stays where none is named. CLOSED goes, as in Org. ")
 
 COMMANDS = {

@@ -23,7 +23,7 @@ VALUES = {
 
 
 def complete(words: List[str]) -> str:
-    """What `orgs complete` prints for the words behind `orgs`, the last of which is to be completed."""
+    """What `orgs complete` prints for the words after `orgs`, the last of which is to be completed."""
     kind, found = answer(words or [""])
     lines = [kind, *("%s\t%s" % row if row[1] else row[0] for row in found if row[0].startswith((words or [""])[-1]))]
     return "".join(line + "\n" for line in lines if "\n" not in line)

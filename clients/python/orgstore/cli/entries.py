@@ -14,7 +14,7 @@ if TYPE_CHECKING:
 
 
 def headline(entry: fields.Entry, state: Optional[str] = None) -> str:
-    """A heading without its stars, with a number behind the title of one of several; a state may be given as it is
+    """A heading without its stars, with a number after the title of one of several; a state may be given as it is
     shown."""
     heading, step = entry.heading, entry.heading.steps[-1]
     number = "\\#%d" % step.number if isinstance(step, Nth) else ""
@@ -41,7 +41,7 @@ class Entry(fields.Entry):
         return "%s  %s" % (self.place, shown(path_text(self.heading.steps)))
 
     def text(self, state: Optional[str] = None) -> str:
-        """The heading as `ls` prints it behind its place; a state may be given as it is shown."""
+        """The heading as `ls` prints it after its place; a state may be given as it is shown."""
         return headline(self, state)
 
     def porcelain(self, version: int = 1) -> str:

@@ -20,7 +20,7 @@ if TYPE_CHECKING:
     from .stops import Stop
 
 
-# what `find` and `ls --sort due` print behind a heading
+# what `find` and `ls --sort due` print after a heading
 LISTED_NOTE = pattern(r"(?s)  (?:\| .*|\d{4}-\d\d-\d\d)\Z")
 
 
@@ -93,8 +93,8 @@ def no_heading(text: bytes, place: Place, found: List[Entry]) -> Stop:
         says = "is no heading"
     near = [entry for entry in found if entry.heading.line <= line][-1:]
     near += [entry for entry in found if entry.heading.line > line][:1]
-    behind = "; near it: " + ", ".join(entry.line() for entry in near) if near else "; the file has no heading"
-    return refusal("NotFound", "%s:%d %s%s" % (place.file, line, says, behind), place.file,
+    others = "; near it: " + ", ".join(entry.line() for entry in near) if near else "; the file has no heading"
+    return refusal("NotFound", "%s:%d %s%s" % (place.file, line, says, others), place.file,
                    candidates=[entry.fields() for entry in near])
 
 

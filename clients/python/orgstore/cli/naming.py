@@ -16,7 +16,7 @@ if TYPE_CHECKING:
     from .entries import Entry
     from .stops import Stop
 
-# FILE:LINE, as editors and grep -n print it with a column or the line's text behind it, and as ls does
+# FILE:LINE, as editors and grep -n print it with a column or the line's text after it, and as ls does
 FILE_LINE = pattern(r"(?s)(.*?\.org(?:_archive)?):([0-9]+)(?::(?:[0-9]+(?::|$))?(.*)|[ ]+([^ ].*))?")
 # a line of `orgs ls --porcelain`
 LISTED = pattern(r"([^\t]*\.org(?:_archive)?):[0-9]+\t[0-9]+\t[^\t]*\t[^\t]*\t[^\t]*\t([^\t]*)")

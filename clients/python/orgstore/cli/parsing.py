@@ -88,7 +88,7 @@ COMMON = (
     Option(("--wait",), "wait", "WAIT", hidden=True, number=True),
     flag("--json", hidden=True), flag("-q", "--quiet", hidden=True),
     flag("-h", "--help", help="show this help message and exit", hidden=True))
-"""The options of every command, which may stand before it and behind it."""
+"""The options of every command, which may stand before it and after it."""
 
 TOP = (*COMMON, flag("--version", hidden=True))
 USAGE_LINE = "orgs [-C DIR] [--states STATES] [--json] COMMAND .."
@@ -108,8 +108,8 @@ class Reader:
         self._into, self._signed = into, signed
 
     def read(self, words: Iterable[str], first: bool = False) -> List[str]:
-        """The words that are no options, up to a `--` and all behind it; where only the first is asked for, it and
-        all behind it. Raises `Usage` for an option that there isn't, and for one without its value."""
+        """The words that are no options, up to a `--` and all after it; where only the first is asked for, it and
+        all after it. Raises `Usage` for an option that there isn't, and for one without its value."""
         plain: List[str] = []
         left = list(words)[::-1]
         while left:
@@ -155,7 +155,7 @@ class Reader:
             left.append("-" + word[2:])
 
     def _value(self, option: Option, name: str, left: List[str]) -> str:
-        """The value of an option from the words behind it."""
+        """The value of an option from the words after it."""
         word = left[-1] if left else "--"
         if word != "--" and (not self._is_option(word) or name in _DATED and _BACK.fullmatch(word)):
             return left.pop()

@@ -67,8 +67,8 @@ def say_entries(run: Run, entries: List[Entry], notes: Optional[List[str]] = Non
         run.report.print("".join(entry.porcelain(version) + "\n" for entry in entries))
     else:
         width = max((len(entry.place) for entry in entries), default=0)
-        behind = notes or [""] * len(entries)
-        rows = (pretty(run, entry, width) + note + "\n" for entry, note in zip(entries, behind))
+        notes = notes or [""] * len(entries)
+        rows = (pretty(run, entry, width) + note + "\n" for entry, note in zip(entries, notes))
         run.report.print("".join(rows))
 
 

@@ -78,7 +78,7 @@ class Report:
         return stop.status
 
     def _tell(self, text: str) -> None:
-        """Writes a line to standard error, behind what was printed before, also where both are one pipe."""
+        """Writes a line to standard error, after what was printed before, also where both are one pipe."""
         self._flush()
         streams.tell("orgs: %s\n" % text)
 
