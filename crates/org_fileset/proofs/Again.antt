@@ -1,5 +1,5 @@
 -- Files that are tried after an opened gate, which is closed where a try fails.
-use Rattle.std.proofs.Common.{◌≡◌, ◌≤◌, ℕ, List, length, drop, Result, Ok, Err, IsErr, sym, ◌∙◌, ap, subst, arith, true, false, inl}
+use Rattle.std.proofs.Common.{◌≡◌, ◌≤◌, ℕ, List, length, drop, Result, Ok, Err, IsErr, refl, sym, ◌∙◌, ap, subst, arith, true, false, inl}
 use Rattle.std.proofs.lemmas.Grind.{common_steps}
 use Rattle.org_disk.specs.declared.disk.Disk.{Ghosts}
 use Rattle.org_disk.specs.declared.disk.DiskFault.{DiskFault}
@@ -10,10 +10,13 @@ use Rattle.org_disk.proofs.Images.{only_image}
 use Rattle.org_disk.proofs.Moments.{Image, leaves_only, passes_as, passes_then}
 use Rattle.org_journal.specs.declared.record.Entry.{Entry}
 use Rattle.org_journal.specs.Gate.{front_size, LeavesBody, Puts}
-use Rattle.org_fileset.specs.Replay.{AreApplicableTo, CommitsEntriesOver, IsOpenOver}
+use Rattle.org_journal.specs.Recovered.{contents, replayed}
+use Rattle.org_fileset.specs.Left.{IsLeft}
+use Rattle.org_fileset.specs.Replay.{AreApplicableTo, CommitsEntriesOver, EachTakes, IsOpenOver}
 use Rattle.org_fileset.specs.Writes.{IsUnwritten, TriesAgainOver, TriesOver}
 use Rattle.org_fileset.proofs.OpenGate.{on_ok_never, open_long}
 use Rattle.org_fileset.proofs.Commits.{WritesRecord, at_rest_recovers, stands_open}
+use Rattle.org_fileset.proofs.Lefts.{body_left_by, takes_same}
 use Rattle.org_fileset.proofs.Tried.{still_stable}
 use Rattle.org_fileset.proofs.Writes.{alone_then, alone_looks}
 
@@ -73,6 +76,11 @@ module _ {D : Type 0} (g : Ghosts D) (entries : List Entry) (old : D) (is : IsOp
 -- A commit whose files were tried again after the opened gate.
 
 module _ {D : Type 0} (g : Ghosts D) (entries : List Entry) (old mid : D) (done : Unit {0}) (written : WritesRecord g entries old mid (Ok done)) where
+  -- the files are as the entries allow, while the gate stands open or is closed
+  still_left : AreApplicableTo entries (g.files old) → EachTakes true entries (replayed entries (contents (g.files old))) (g.files old) → (image : Image) → LeavesBody journal_name (g.files mid) image → IsLeft image
+  still_left can takes = body_left_by entries (replayed entries (contents (g.files old))) (g.files mid) journal_name refl can.applicable written.opened.found
+      (takes_same entries (replayed entries (contents (g.files old))) (g.files old) (g.files mid) written.others takes)
+
   -- they are as they were
   pub writes_again : AreApplicableTo entries (g.files old) → (new : D) → LooksOver g mid new → WritesRecord g entries old new (Ok tt)
   writes_again can new looks = record {
@@ -80,6 +88,7 @@ module _ {D : Type 0} (g : Ghosts D) (entries : List Entry) (old mid : D) (done 
     any_moment = λ rest. passes_then (written.any_moment rest) looks.time
         (λ image left. stands_open entries (g.files old) can (g.files mid) written.opened written.others rest image (body_left g entries mid written.opened image left));
     others = λ name not. ap (λ (f : List ℕ → FileState). f name) looks.same ∙ written.others name not;
+    left = λ rest takes. passes_then (written.left rest takes) looks.time (λ image left. still_left can takes image (body_left g entries mid written.opened image left));
     alone = alone_then g (IsUnwritten entries) old mid new written.alone (alone_looks g (IsUnwritten entries) mid new looks);
   }
 
@@ -100,4 +109,5 @@ module _ {D : Type 0} (g : Ghosts D) (entries : List Entry) (old mid : D) (done 
       });
     };
     closed = on_ok_never _ result failed;
+    left = λ rest takes. passes_then (written.left rest takes) tries.time (still_left can takes);
   }

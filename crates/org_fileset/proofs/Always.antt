@@ -1,6 +1,6 @@
 -- A file of which each image is as its entry allows: the calls that apply the entry keep it so.
 use Rattle.std.proofs.Common.{◌≡◌, ◌⊎◌, inl, inr, ⊎_elim, ℕ, suc, ◌+◌, ◌-◌, ◌<◌, ◌≤◌, ◌++◌, min, max, List, [], ◌∷◌, length, get_or, set, take, drop, replicate, true, false, Option, Some, None, refl, sym, ◌∙◌, ap, subst, arith, length-append, length-set, length-take}
-use Rattle.std.specs.Prelude.{◌&&◌, nat_le, slice_get, IsSomeAnd}
+use Rattle.std.specs.Prelude.{◌&&◌, nat_le, slice_get, IfSome, IsSomeAnd}
 use Rattle.std.proofs.lemmas.Bool.{and_parts, cases_lt, false≢true, leb-true}
 use Rattle.std.proofs.lemmas.List.{get_or-drop, get_or-set_other, get_or-set_same, get_or-take, get_or_append_left, length-drop, length-replicate}
 use Rattle.org_disk.specs.Disk.{FileState, IsFixed, IsImage, IsOutside, cut, sync, write}
@@ -10,8 +10,8 @@ use Rattle.org_splice.specs.Texts.{pairs_of}
 use Rattle.org_journal.specs.declared.record.Before.{Before}
 use Rattle.org_journal.specs.declared.record.Entry.{Entry}
 use Rattle.org_journal.specs.Left.{ends_at, first_from, is_between, is_left, is_left_of, stands_at}
-use Rattle.org_fileset.specs.Left.{HoldsFixed, StaysLeft, StaysLeftBy}
-use Rattle.org_fileset.proofs.Allowed.{entry_cut, entry_image, entry_write}
+use Rattle.org_fileset.specs.Left.{HasRoom, HoldsFixed, IsLeftBy, StaysLeft, StaysLeftBy}
+use Rattle.org_fileset.proofs.Allowed.{entry_image}
 
 -- a position lies in none of the ranges, or in one
 out_or_in : (ranges : List (ℕ × ℕ)) (i : ℕ) → IsOutside ranges i ⊎ (IsOutside ranges i → ⊥)
@@ -120,3 +120,18 @@ entry_always entry before file says ends own each =
     subst (λ (b : Option Before). IsSomeAnd b (λ was. StaysLeft was (pairs_of entry.patches) entry.length file)) (sym says)
     (always_left before (pairs_of entry.patches) entry.length file own ends (λ text image.
     ap (λ (b : Option Before). is_left_of b (pairs_of entry.patches) entry.length text) (sym says) ∙ each text image))
+
+-- what keeps that of a file which is on the disk keeps it of each image
+pub always_kept : (entry : Entry) (effect : FileState → FileState) (file : FileState) → IsImage file file.content → ((text : List ℕ) → IsImage file text → IsLeftBy entry text)
+    → (StaysLeftBy entry file → StaysLeftBy entry (effect file)) → (text : List ℕ) → IsImage (effect file) text → IsLeftBy entry text
+always_kept entry effect file own each keeps text image = record { room = room; left = go entry.before refl }
+  where
+    room : HasRoom entry
+    room = (each file.content own).room
+
+    go : (before : Option Before) → entry.before ≡ before → is_left entry text ≡ true
+    go None says = ap (λ (b : Option Before). is_left_of b (pairs_of entry.patches) entry.length text) says
+    go (Some before) says =
+        let ends : last_end 0 (pairs_of entry.patches) + length before.trailing ≤ entry.length =
+        subst (λ (b : Option Before). IfSome b (λ was. last_end 0 (pairs_of entry.patches) + length was.trailing ≤ entry.length)) says room in
+        entry_image entry (effect file) text (keeps (entry_always entry before file says ends own (λ other found. (each other found).left))) image

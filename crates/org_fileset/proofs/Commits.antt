@@ -1,5 +1,5 @@
 -- The stages of a commit, and what is left in each.
-use Rattle.std.proofs.Common.{◌≡◌, ◌≢◌, inl, inr, ℕ, ◌+◌, ◌≤◌, ◌++◌, List, [], ◌∷◌, length, drop, false, Some, Result, Ok, OnOk, refl, sym, ◌∙◌, ap, subst, arith}
+use Rattle.std.proofs.Common.{◌≡◌, ◌≢◌, inl, inr, ℕ, ◌+◌, ◌≤◌, ◌++◌, List, [], ◌∷◌, length, drop, true, false, Some, Result, Ok, OnOk, refl, sym, ◌∙◌, ap, subst, arith}
 use Rattle.org_disk.specs.declared.disk.Disk.{Ghosts}
 use Rattle.std.specs.Prelude.{is_some, nat_le, slice_index, ◌==◌}
 use Rattle.std.proofs.lemmas.Bool.{cases_Bool, and_right, ne_eqb}
@@ -18,7 +18,9 @@ use Rattle.org_journal.proofs.Fitting.{opens}
 use Rattle.org_journal.proofs.Journal.{begins_again}
 use Rattle.org_journal.specs.Recovered.{Image, SameFiles, RecoversTo, replayed, contents}
 use Rattle.org_fileset.specs.Replay.{TakesTo, AreApplicableTo, EachTakes, IsOpenOver, IsAtRest, IsBeforeOrAfter}
+use Rattle.org_fileset.specs.Left.{IsLeft}
 use Rattle.org_fileset.specs.Writes.{LeavesAlone, IsUnwritten}
+use Rattle.org_fileset.proofs.Lefts.{arming_left, body_left_by, closed_left, takes_same}
 use Rattle.org_fileset.proofs.OpenGate.{on_ok_both}
 use Rattle.org_fileset.proofs.Writes.{alone_journal, alone_then}
 use Rattle.org_fileset.proofs.Recovers.{recovers_open, recovers_closed, takes-replayed, replayed-takes, all_fit-takes}
@@ -30,6 +32,11 @@ shut journal not = and_right (nat_le 16 (length journal)) (slice_index journal 0
 drop-overwritten : (body text : List ℕ) → 1 ≤ length text → drop 1 (overwritten 1 body text) ≡ body ++ drop (1 + length body) text
 drop-overwritten body [] long = absurd (omega arith)
 drop-overwritten body (x ∷ text) long = refl
+
+-- what a crash leaves of a disk at rest has a closed gate
+pub rest_left : (files : List ℕ → FileState) → IsAtRest files → (image : Image) → AreImages files image → IsLeft image
+rest_left files rest image left =
+    closed_left image (ap is_open (only_image (rest.stable journal_name) (image journal_name) (left journal_name)) ∙ shut (contents files journal_name) rest.gate.closed)
 
 -- a disk at rest recovers to what it holds
 pub at_rest_recovers : (files : List ℕ → FileState) → IsAtRest files → (image : Image) → AreImages files image → RecoversTo (contents files) image
@@ -45,8 +52,8 @@ module _ (entries : List Entry) (files : List ℕ → FileState) (can : AreAppli
   Stands image = IsBeforeOrAfter (contents files) (replayed entries (contents files)) image
 
   -- of the files as they are the record makes the new ones
-  takes : (name text : List ℕ) → text ≡ contents files name → TakesTo entries name text (after name)
-  takes name text same = subst (λ (t : List ℕ). TakesTo entries name t (after name)) (sym same) (takes-replayed entries (contents files) name (after name) can.fits refl)
+  takes : (name text : List ℕ) → text ≡ contents files name → TakesTo false entries name text (after name)
+  takes name text same = subst (λ (t : List ℕ). TakesTo false entries name t (after name)) (sym same) (takes-replayed entries (contents files) name (after name) can.fits refl)
 
   pub while_arming : IsAtRest files → (image : Image) → LeavesClosed journal_name files image → Stands image
   while_arming rest image left = inl (recovers_closed (contents files) image left.closed (λ name not. only_image (rest.stable name) (image name) (left.others name not)))
@@ -62,7 +69,7 @@ module _ (entries : List Entry) (files : List ℕ → FileState) (can : AreAppli
     pub still_made : SameFiles (replayed entries (contents last)) after
     still_made name not = replayed-takes entries (contents last) name (after name) (takes name (contents last name) (ap (λ (f : FileState). f.content) (others name not)))
 
-    pub still_takes : IsAtRest files → EachTakes entries after last
+    pub still_takes : IsAtRest files → EachTakes false entries after last
     still_takes rest = record {
       each = λ name not text image. takes name text (only_image (rest.stable name) text (subst (λ f. IsImage f text) (others name not) image));
     }
@@ -118,6 +125,7 @@ pub record WritesRecord {D : Type 0} (g : Ghosts D) (entries : List Entry) (old 
   pub opened : OnOk result (IsOpenOver entries (g.files new))
   pub any_moment : IsAtRest (g.files old) → PassesOver g old new (IsBeforeOrAfter (contents (g.files old)) (replayed entries (contents (g.files old))))
   pub others : (name : List ℕ) → name ≢ journal_name → g.files new name ≡ g.files old name
+  pub left : IsAtRest (g.files old) → EachTakes true entries (replayed entries (contents (g.files old))) (g.files old) → PassesOver g old new IsLeft
   pub alone : LeavesAlone g (IsUnwritten entries) old new
 
 -- What a call did that wrote a record after the closed gate, or failed there; and what one that opened the gate then.
@@ -138,6 +146,7 @@ module _ {D : Type 0} (g : Ghosts D) (old : D) (journal : List ℕ) (name_is : j
     opened = opened;
     any_moment = arming new time;
     others = subst (λ (n : List ℕ). (other : List ℕ) → other ≢ n → g.files new other ≡ g.files old other) name_is puts.others;
+    left = λ rest takes. passes_as time (arming_left (g.files old) journal name_is);
     alone = arming_alone new r time puts;
   }
 
@@ -153,6 +162,10 @@ module _ {D : Type 0} (g : Ghosts D) (old : D) (journal : List ℕ) (name_is : j
         any_moment = λ rest. passes_then (arming mid arm_time rest) opening (λ image left.
             while_opening entries (g.files old) can gate body begins (g.files mid) over_record.is over_record.others rest image (subst (λ (n : List ℕ). LeavesBody n (g.files mid) image) name_is left));
         others = λ name not. opened.others name not ∙ over_record.others name not;
+        left = λ rest takes. passes_then (passes_as arm_time (arming_left (g.files old) journal name_is)) opening
+            (body_left_by entries (replayed entries (contents (g.files old))) (g.files mid) journal name_is can.applicable
+            (reported entries (g.files old) can gate body begins (g.files mid) over_record.is over_record.others (contents (g.files mid) journal_name) refl)
+            (takes_same entries (replayed entries (contents (g.files old))) (g.files old) (g.files mid) over_record.others takes));
         alone = alone_then g (IsUnwritten entries) old mid new (arming_alone mid (Ok tt) arm_time arms)
             (alone_journal g journal (IsUnwritten entries) (LeavesBody journal (g.files mid)) mid new name_is (λ name is. is.apart) opens.others opening (λ image left. left.others));
       }

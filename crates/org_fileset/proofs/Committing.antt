@@ -13,7 +13,11 @@ use Rattle.std.proofs.lemmas.Map.Entries.{length-keys_of}
 use Rattle.std.proofs.lemmas.Map.Made.{length-le_from_is_member, is_member-Decides}
 use Rattle.std.proofs.lemmas.Result.{err_from_is_err_and, on_ok_weaker}
 use Rattle.std.proofs.lemmas.Slice.Eq.{bytes_eq-Decides}
-use Rattle.org_disk.specs.Disk.{AreImages, LeavesOnly}
+use Rattle.org_disk.specs.Disk.{AreImages, FileState, IsStable, LeavesOnly}
+use Rattle.org_disk.specs.CountsFailures.{LeavesOver}
+use Rattle.org_disk.proofs.Images.{only_image}
+use Rattle.org_disk.proofs.Names.{name_cases}
+use Rattle.std.proofs.lemmas.Bool.{false≢true}
 use Rattle.org_disk.proofs.Accounting.{accounts_none}
 use Rattle.org_disk.proofs.Moments.{passes_none, passes_as, leaves_only}
 use Rattle.org_disk.specs.Names.{journal_name}
@@ -29,16 +33,20 @@ use Rattle.org_journal.specs.Reading.{journal_at}
 use Rattle.org_splice.specs.Patches.{last_end}
 use Rattle.org_journal.specs.Left.{first_from}
 use Rattle.org_fileset.specs.Entries.{AreEntriesOf, HasRecordOf, SaySizes, before_of, changed}
-use Rattle.org_fileset.specs.Replay.{IsBeforeOrAfter, IsCommitted, CommitsEntriesOver, CommitsOver}
+use Rattle.org_fileset.specs.Left.{IsLeft, IsLeftBy}
+use Rattle.org_fileset.specs.Replay.{AreApplicableTo, IsAtRest, IsBeforeOrAfter, IsCommitted, CommitsEntriesOver, CommitsOver, TakesTo}
 use Rattle.org_fileset.specs.Set.{CommitsSet, Opened}
 use Rattle.org_fileset.specs.Writes.{IsOther, IsUnwritten}
 use Rattle.org_fileset.specs.declared.fault.SetFault.{SetFault}
 use Rattle.org_fileset.specs.declared.fault.SetFault.TheVariants.{OutOfMemory}
 use Rattle.org_fileset.proofs.Accounted.{accounts_other}
 use Rattle.org_fileset.proofs.Sets.{keeps_whole, memory_apart, passed_never}
-use Rattle.org_fileset.proofs.Commits.{at_rest_recovers}
+use Rattle.org_fileset.proofs.Allowed.{entry_start}
+use Rattle.org_fileset.proofs.Commits.{at_rest_recovers, rest_left}
+use Rattle.org_fileset.proofs.Lefts.{each_named, keep_takes, stays_by}
+use Rattle.org_fileset.proofs.Reopening.{stable_own_image}
 use Rattle.org_fileset.proofs.Writes.{alone_none, alone_fewer, others_unwritten}
-use Rattle.org_fileset.proofs.Recovers.{recovers_as}
+use Rattle.org_fileset.proofs.Recovers.{recovers_as, takes-replayed}
 use Rattle.org_fileset.proofs.Recorded.{IsCommittable, file_named, changes_applicable, changes_made}
 
 abbrev Change : Type 0
@@ -196,6 +204,10 @@ pub has_record : (changes : List Change) (entries : List Entry) (journal : List 
 has_record [] entries journal are found = tt
 has_record (change ∷ changes) entries journal are found = (entries, are, found)
 
+-- no call
+pub none_left : {D : Type 0} (g : Ghosts D) (disk : D) → ((image : Image) → g.left_since disk (g.instant disk) image → AreImages (g.files disk) image) → IsAtRest (g.files disk) → LeavesOver g disk disk IsLeft
+none_left g disk now rest = leaves_only (passes_none (g.instant disk) (g.left_since disk) IsLeft) (λ image left. rest_left (g.files disk) rest image (now image left))
+
 -- a fault of memory that a `?` passed on, before any call of the disk
 pub commits_refused : {D : Type 0} (g : Ghosts D) (set : Opened D) (changes : List Change) (r : Result (Unit {0}) SetFault) → set.broken ≡ false
     → ((image : Image) → g.honest set.disk → g.left_since set.disk (g.instant set.disk) image → AreImages (g.files set.disk) image) → IsErrAnd r (λ e. e ≡ OutOfMemory) → CommitsSet g set changes r set
@@ -204,7 +216,36 @@ commits_refused g set changes r whole only_now is =
     record {
       commits = λ honest. commits_none g (changed changes (contents (g.files set.disk))) (IsOther (keys_of changes)) set.disk r (λ image left. only_now image honest left) (passed_never _ _ r is);
       record_stands = λ honest. passed_never _ _ r is;
+      left = λ honest. none_left g set.disk (λ image left. only_now image honest left);
       memory = λ e. refl;
       set = keeps_whole set set refl whole whole r (λ e. cc (e, p.1, p.2)) (λ e. cc (e, p.1, p.2));
       accounts = accounts_other is memory_apart (accounts_none g set.disk);
     }
+
+-- what a commit begins with: each entry allows its file
+pub begins_left : (changes : List Change) (entries : List Entry) (files : List ℕ → FileState) → AreEntriesOf changes entries → SaySizes (λ n. length (contents files n)) entries
+    → AllByRecursion (λ (change : Change). IsEditOf (contents files change.0) change.1) changes → ((name : List ℕ) → IsStable (files name))
+    → AllByRecursion (λ entry. IsLeftBy entry (contents files entry.name)) entries
+begins_left [] [] files are says edits stable = tt
+begins_left (change ∷ changes) (entry ∷ entries) files are says edits stable =
+    let edit = subst (λ (n : List ℕ). IsEditOf (contents files n) change.1) (sym are.0.name) edits.0 in
+    let stays = entry_start change entry (files entry.name) are.0 (stable entry.name) edit says.0 in
+    (stays_by entry (files entry.name) stays (contents files entry.name) (stable_own_image (stable entry.name)), begins_left changes entries files are.1 says.1 edits.1 stable)
+begins_left [] (entry ∷ entries) files are says edits stable = absurd are
+begins_left (change ∷ changes) [] files are says edits stable = absurd are
+
+-- so a crash leaves nothing else of it
+pub commits_left : {D : Type 0} (g : Ghosts D) (changes : List Change) (entries record_entries : List Entry) (old new : D) (r : Result (Unit {0}) DiskFault) → AreEntriesOf changes entries
+    → SaySizes (λ n. length (contents (g.files old) n)) entries → record_entries ≡ entries → All (λ (change : Change). IsEditOf (contents (g.files old) change.0) change.1) changes
+    → AreApplicableTo entries (g.files old) → ((image : Image) → g.left_since old (g.instant old) image → AreImages (g.files old) image)
+    → CommitsEntriesOver g record_entries old new r → IsAtRest (g.files old) → LeavesOver g old new IsLeft
+commits_left g changes entries record_entries old new r are says same edits can now commits rest =
+    let files = g.files old in
+    let made = subst (λ (l : List Entry). CommitsEntriesOver g l old new r) same commits in
+    let each = begins_left changes entries files are says (all_edits (contents files) changes edits) rest.stable in
+    leaves_only (made.left rest (record {
+      each = λ name not text image.
+          subst (λ (t : List ℕ). TakesTo true entries name t (replayed entries (contents files) name)) (sym (only_image (rest.stable name) text image))
+          (keep_takes entries name (contents files name) (replayed entries (contents files) name)
+          (takes-replayed entries (contents files) name (replayed entries (contents files) name) can.fits refl) (each_named entries (contents files) name each));
+    })) (λ image left. rest_left files rest image (now image left))

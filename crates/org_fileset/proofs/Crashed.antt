@@ -6,6 +6,7 @@ use Rattle.org_disk.specs.Names.{journal_name}
 use Rattle.org_disk.proofs.Images.{only_image}
 use Rattle.org_journal.specs.Gate.{HasClosedGate}
 use Rattle.org_journal.specs.Recovered.{Image, SameFiles, RecoversTo, recovered, contents}
+use Rattle.org_fileset.specs.Left.{EachIsLeft, IsLeft}
 use Rattle.org_fileset.specs.Laws.{AllStable, IsFound, AreAtRest}
 use Rattle.org_fileset.specs.Recovery.{RecoversAsBefore, IsReopened}
 use Rattle.org_fileset.specs.Replay.{IsAtRest, IsBeforeOrAfter}
@@ -74,3 +75,7 @@ pub opened_whole : (texts : Image) (old new : List ℕ → FileState) → AllSta
 opened_whole texts old new all stand opened =
     let is = found_image texts old all stand in
     record { rest = opened.rest is.recoverable is.each_recovers; same = made_of (recovered (contents old)) (contents new) texts opened.recovered_then stand }
+
+-- its only image is what lies in it
+pub found_left : (files : List ℕ → FileState) → AllStable files → IsLeft (contents files) → EachIsLeft files
+found_left files stable left image has = subst IsLeft (one_image files stable image has) left

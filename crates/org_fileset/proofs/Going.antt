@@ -26,7 +26,7 @@ pub goes_none : {D : Type 0} (g : Ghosts D) (entries : List Entry) (disk : D) �
 goes_none g entries disk = record {
   accounts = accounts_none g disk;
   calls = record {
-    replays = λ honest stable texts takes. replays_none (g.instant disk) (g.left_since disk) (g.files disk) takes;
+    replays = λ honest stable keep texts takes. replays_none (g.instant disk) (g.left_since disk) (g.files disk) takes;
     alone = λ honest. alone_none g (λ name. IsFalse (is_named name entries)) disk;
   };
 }
@@ -37,10 +37,10 @@ module _ {D : Type 0} (g : Ghosts D) (entries : List Entry) (i : ℕ) {entry : E
   pub calls_on : (new : D) → (g.honest new → g.honest mid) → (g.honest new → AppliesOver g entry mid new) → (g.honest new → LeavesAlone g (λ other. other ≢ entry.name) mid new)
       → CallsOn g entries old new
   calls_on new back applies alone = record {
-    replays = λ honest stable texts takes.
+    replays = λ honest stable keep texts takes.
         let applicable = can (sofar.accounts.was_honest (back honest)) in
-        let now = sofar.calls.replays (back honest) stable texts takes in
-        replays_entry i entry applicable is stable now (applies honest (texts entry.name) (entry_takes entries texts (g.files mid) i entry applicable is now.takes));
+        let now = sofar.calls.replays (back honest) stable keep texts takes in
+        replays_entry i entry applicable is stable now (applies honest keep (texts entry.name) (entry_takes entries texts (g.files mid) i entry applicable is now.takes));
     alone = λ honest. alone_entry g entries i entry old mid new is (sofar.calls.alone (back honest)) (alone honest);
   }
 

@@ -1,5 +1,5 @@
 -- One call on a file of a record, while the journal stands open with it.
-use Rattle.std.proofs.Common.{◌≡◌, ◌≢◌, inl, inr, ℕ, ◌≤◌, List, length, drop, true, Option, Some, Result, refl, sym, ◌∙◌, ap, subst}
+use Rattle.std.proofs.Common.{◌≡◌, ◌≢◌, inl, inr, ℕ, ◌≤◌, List, length, drop, true, false, Option, Some, Result, refl, sym, ◌∙◌, ap, subst}
 use Rattle.std.specs.Prelude.{slice_get}
 use Rattle.std.specs.List.{Contains}
 use Rattle.std.specs.Option.{option_map}
@@ -59,18 +59,18 @@ module _ (entries : List Entry) (texts : Image) (files : List ℕ → FileState)
   fit : all_fit entries (contents files) ≡ true
   fit = all_fit-takes entries (contents files) texts applicable (open_recovers entries texts (contents files) over.opened over.found (stand (contents files) own))
 
-  takes : EachTakes entries texts files
-  takes = subst (λ (t : Image). EachTakes entries t files) is.same_texts (open_takes files own entries applicable over fit is.over_record)
+  takes : EachTakes false entries texts files
+  takes = subst (λ (t : Image). EachTakes false entries t files) is.same_texts (open_takes files own entries applicable over fit is.over_record)
 
   -- of its file the entry makes one text, whatever a crash leaves of it
-  pub here : EachMadeBy entry (texts entry.name) (files entry.name)
+  pub here : EachMadeBy false entry (texts entry.name) (files entry.name)
   here = entry_takes entries texts files member.0 entry applicable at takes
 
   pub formed_here : AreWellFormed (pairs_of entry.patches) entry.length
   formed_here = (applicable_at entries member.0 entry applicable.each at).patches
 
   -- a call that keeps it so
-  module _ (effect : FileState → FileState) (after : EachMadeBy entry (texts entry.name) (effect (files entry.name))) where
+  module _ (effect : FileState → FileState) (after : EachMadeBy false entry (texts entry.name) (effect (files entry.name))) where
     apart : entry.name ≢ journal_name
     apart = not_journal entries member.0 entry applicable at
 
@@ -79,7 +79,7 @@ module _ (entries : List Entry) (texts : Image) (files : List ℕ → FileState)
         let journal : image journal_name ≡ (files journal_name).content = only_image over.stable (image journal_name) (left.others journal_name (λ same. apart (sym same))) in
         recovers_open entries texts image applicable (ap is_open journal ∙ over.opened) (ap (λ (l : List ℕ). journal_at (drop 1 l)) journal ∙ over.found)
         (λ name not. elim (name_cases name entry.name) [
-          | inl same ↦ subst (λ (n : List ℕ). TakesTo entries n (image n) (texts n)) (sym same.0)
+          | inl same ↦ subst (λ (n : List ℕ). TakesTo false entries n (image n) (texts n)) (sym same.0)
               (entry-TakesTo entries member.0 entry (image entry.name) (texts entry.name) applicable.apart at (may_leave effect (files entry.name) here after (image entry.name) left.here))
           | inr other ↦ takes.each name not (image name) (left.others name other.0)
         ])
@@ -128,7 +128,7 @@ pub keeps_sync : (entries : List Entry) (texts : Image) (files : List ℕ → Fi
 keeps_sync entries texts files entry is own member =
     let now = here entries texts files is own entry member in
     keeps entries texts files is own entry member sync
-    (λ text image. subst (λ (t : List ℕ). IsMadeBy entry t (texts entry.name)) (sym (only_image (stable_is (files entry.name).content) text image))
+    (λ text image. subst (λ (t : List ℕ). IsMadeBy false entry t (texts entry.name)) (sym (only_image (stable_is (files entry.name).content) text image))
     (now (files entry.name).content (own entry.name)))
 
 -- Each file by itself

@@ -30,3 +30,4 @@ pub mod Crashed
 pub mod Middle
 mod Tried
 mod Again
+mod Lefts

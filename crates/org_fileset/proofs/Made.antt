@@ -1,7 +1,7 @@
 -- What an entry makes of a text: what its patches make of it with the length that a replay keeps.
 use Rattle.std.proofs.Common.{◌≡◌, ◌⊎◌, inl, inr, ⊎_elim, ℕ, ◌+◌, ◌-◌, ◌<◌, ◌≤◌, max, List, length, take, drop, true, false, Option, Some, None, refl, sym, ◌∙◌, ap, subst, arith, length-drop}
-use Rattle.std.specs.Prelude.{nat_lt, slice_get}
-use Rattle.std.proofs.lemmas.Bool.{cases_Bool, le-ltb, lt-ltb}
+use Rattle.std.specs.Prelude.{nat_lt, slice_get, Bool, IsTrue}
+use Rattle.std.proofs.lemmas.Bool.{cases_Bool, false≢true, le-ltb, lt-ltb}
 use Rattle.std.proofs.lemmas.List.{ext_get_or, get_or-drop}
 use Rattle.org_splice.specs.Patches.{AreWellFormed, Fit, PatchedTo, patched}
 use Rattle.org_splice.specs.Texts.{pairs_of}
@@ -10,6 +10,7 @@ use Rattle.org_splice.proofs.Patching.{length-patched, patched-outside}
 use Rattle.org_journal.specs.declared.record.Before.{Before}
 use Rattle.org_journal.specs.declared.record.Entry.{Entry}
 use Rattle.org_journal.specs.Recovered.{kept_by, made_by, may_cut}
+use Rattle.org_fileset.specs.Left.{IsLeftBy}
 use Rattle.org_fileset.specs.Replay.{IsMadeBy, length_before}
 use Rattle.org_fileset.proofs.Steps.{next_small}
 use Rattle.org_fileset.proofs.Allowed.{out_after}
@@ -62,23 +63,24 @@ module _ (entry : Entry) (formed : AreWellFormed (pairs_of entry.patches) entry.
   }
 
   -- the patches, with the length that is kept
-  made_patched : (text to : List ℕ) → IsMadeBy entry text to → PatchedTo (pairs_of entry.patches) (kept text) text to
+  made_patched : {keep : Bool} (text to : List ℕ) → IsMadeBy keep entry text to → PatchedTo (pairs_of entry.patches) (kept text) text to
   made_patched text to made = record { fit = kept_fit text made.fit; makes = made.makes }
 
-  patched_made : (n : ℕ) (text to : List ℕ) → kept text ≡ n → PatchedTo (pairs_of entry.patches) n text to → IsMadeBy entry text to
-  patched_made n text to is patched_to = record {
+  patched_made : {keep : Bool} (n : ℕ) (text to : List ℕ) → kept text ≡ n → (IsTrue keep → IsLeftBy entry text) → PatchedTo (pairs_of entry.patches) n text to → IsMadeBy keep entry text to
+  patched_made n text to is left patched_to = record {
     fit = record { begin = patched_to.fit.begin; ends = omega (arith, is, patched_to.fit.ends, kept_long text) };
     makes = ap (λ (m : ℕ). patched (pairs_of entry.patches) m text) is ∙ patched_to.makes;
+    left = left;
   }
 
-  pub length-made : (text to : List ℕ) → IsMadeBy entry text to → length to ≡ kept text
+  pub length-made : {keep : Bool} (text to : List ℕ) → IsMadeBy keep entry text to → length to ≡ kept text
   length-made text to made = ap length (sym made.makes) ∙ length-patched (pairs_of entry.patches) (kept text) text formed.rise (kept_fit text made.fit)
 
   -- equal outside one of the patches: what a write of it, done in part, may leave
-  pub made_written : (a b to : List ℕ) (k from : ℕ) (bytes : List ℕ) → slice_get (pairs_of entry.patches) k ≡ Some (from, bytes)
-      → take from a ≡ take from b → drop (from + length bytes) a ≡ drop (from + length bytes) b → IsMadeBy entry b to → IsMadeBy entry a to
-  made_written a b to k from bytes is before after made =
-      patched_made (kept b) a to same (PatchedTo-written (pairs_of entry.patches) (kept b) a b to k from bytes (kept_formed b) is before after (made_patched b to made))
+  pub made_written : {keep : Bool} (a b to : List ℕ) (k from : ℕ) (bytes : List ℕ) → slice_get (pairs_of entry.patches) k ≡ Some (from, bytes)
+      → take from a ≡ take from b → drop (from + length bytes) a ≡ drop (from + length bytes) b → (IsTrue keep → IsLeftBy entry a) → IsMadeBy keep entry b to → IsMadeBy keep entry a to
+  made_written a b to k from bytes is before after left made =
+      patched_made (kept b) a to same left (PatchedTo-written (pairs_of entry.patches) (kept b) a b to k from bytes (kept_formed b) is before after (made_patched b to made))
     where
       same : kept a ≡ kept b
       same = elim (cases_Bool (may_cut entry.before entry.length)) [
@@ -90,18 +92,18 @@ module _ (entry : Entry) (formed : AreWellFormed (pairs_of entry.patches) entry.
       ]
 
   -- equal below the final length: what a cut to it, done in part, may leave
-  pub made_cut : (a b to : List ℕ) → may_cut entry.before entry.length ≡ true → take entry.length a ≡ take entry.length b → IsMadeBy entry b to → IsMadeBy entry a to
-  made_cut a b to cuts same made =
+  pub made_cut : {keep : Bool} (a b to : List ℕ) → may_cut entry.before entry.length ≡ true → take entry.length a ≡ take entry.length b → (IsTrue keep → IsLeftBy entry a) → IsMadeBy keep entry b to → IsMadeBy keep entry a to
+  made_cut a b to cuts same left made =
       let at_b = kept_cut entry.before entry.length (length b) cuts in
       let there : PatchedTo (pairs_of entry.patches) entry.length b to = subst (λ (n : ℕ). PatchedTo (pairs_of entry.patches) n b to) at_b (made_patched b to made) in
-      patched_made entry.length a to (kept_cut entry.before entry.length (length a) cuts) (PatchedTo-cut (pairs_of entry.patches) entry.length a b to formed same there)
+      patched_made entry.length a to (kept_cut entry.before entry.length (length a) cuts) left (PatchedTo-cut (pairs_of entry.patches) entry.length a b to formed same there)
 
   -- applied again, the entry makes the same
-  pub made_twice : (text : List ℕ) → Fit (pairs_of entry.patches) entry.length (length text) → IsMadeBy entry (made_by entry text) (made_by entry text)
+  pub made_twice : (text : List ℕ) → Fit (pairs_of entry.patches) entry.length (length text) → IsMadeBy false entry (made_by entry text) (made_by entry text)
   made_twice text fit =
-      let made : IsMadeBy entry text (made_by entry text) = record { fit = fit; makes = refl } in
+      let made : IsMadeBy false entry text (made_by entry text) = record { fit = fit; makes = refl; left = λ t. absurd (false≢true t) } in
       let long = length-made text (made_by entry text) made in
-      patched_made (kept text) (made_by entry text) (made_by entry text) (same long) (PatchedTo-twice (pairs_of entry.patches) (kept text) text (made_by entry text) (kept_formed text) (made_patched text (made_by entry text) made))
+      patched_made (kept text) (made_by entry text) (made_by entry text) (same long) (λ t. absurd (false≢true t)) (PatchedTo-twice (pairs_of entry.patches) (kept text) text (made_by entry text) (kept_formed text) (made_patched text (made_by entry text) made))
     where
       same : length (made_by entry text) ≡ kept text → kept (made_by entry text) ≡ kept text
       same long = elim (cases_Bool (may_cut entry.before entry.length)) [
@@ -113,7 +115,7 @@ module _ (entry : Entry) (formed : AreWellFormed (pairs_of entry.patches) entry.
   pub rest_stays : (text : List ℕ) → Fit (pairs_of entry.patches) entry.length (length text) → may_cut entry.before entry.length ≡ false
       → drop entry.length (made_by entry text) ≡ drop entry.length text
   rest_stays text fit stays =
-      let made : IsMadeBy entry text (made_by entry text) = record { fit = fit; makes = refl } in
+      let made : IsMadeBy false entry text (made_by entry text) = record { fit = fit; makes = refl; left = λ t. absurd (false≢true t) } in
       let all = kept_all entry.before entry.length (length text) stays in
       let long = length-made text (made_by entry text) made in
       let sizes : length (drop entry.length (made_by entry text)) ≡ length (drop entry.length text) =

@@ -1,5 +1,5 @@
 -- A journal that stands open while its record is applied, and is then closed.
-use Rattle.std.proofs.Common.{◌≡◌, ◌≢◌, inl, inr, ℕ, ◌≤◌, List, ◌∷◌, length, drop, true, false, Some, Result, Ok, Err, OnOk, IsErr, sym, ◌∙◌, ap, subst, arith}
+use Rattle.std.proofs.Common.{◌≡◌, ◌≢◌, inl, inr, ℕ, ◌≤◌, List, ◌∷◌, length, drop, Bool, true, false, Some, Result, Ok, Err, OnOk, IsErr, sym, ◌∙◌, ap, subst, arith}
 use Rattle.std.proofs.lemmas.Grind.{common_steps}
 use Rattle.std.specs.Prelude.{nat_le, slice_index, ◌==◌}
 use Rattle.std.proofs.lemmas.Bool.{cases_Bool, and_parts, leb-true}
@@ -19,13 +19,13 @@ use Rattle.org_fileset.proofs.Takes.{journal_unnamed}
 use Rattle.org_fileset.proofs.Recovers.{recovers_open, recovers_closed}
 
 -- one run of calls after another
-pub replays_then : {entries : List Entry} {texts : Image} {m n k : ℕ} {s u v : ℕ → Image → Type 0} {old mid new : List ℕ → FileState} → AreApplicable entries
-    → Replays entries texts m n s u old mid → Replays entries texts n k u v mid new → Replays entries texts m k s v old new
+pub replays_then : {keep : Bool} {entries : List Entry} {texts : Image} {m n k : ℕ} {s u v : ℕ → Image → Type 0} {old mid new : List ℕ → FileState} → AreApplicable entries
+    → Replays keep entries texts m n s u old mid → Replays keep entries texts n k u v mid new → Replays keep entries texts m k s v old new
 replays_then {entries} applicable first second = grind (arith, common_steps, passes_then, journal_unnamed)
 
 -- what is left while the record is applied recovers to what it makes
 pub taking_recovers : (entries : List Entry) (texts : Image) (journal : List ℕ) → AreApplicable entries → is_open journal ≡ true → journal_at (drop 1 journal) ≡ Some entries
-    → (image : Image) → LeavesTaking journal entries texts image → RecoversTo texts image
+    → (image : Image) → LeavesTaking false journal entries texts image → RecoversTo texts image
 taking_recovers entries texts journal applicable opened found image left =
     recovers_open entries texts image applicable (ap is_open left.same_journal ∙ opened) (ap (λ (l : List ℕ). journal_at (drop 1 l)) left.same_journal ∙ found) left.each
 
@@ -55,13 +55,13 @@ still_open entries old new applicable is others = record {
     same : new journal_name ≡ old journal_name
     same = others journal_name (journal_unnamed entries applicable.each)
 
-pub still_replayable : {entries : List Entry} {m n : ℕ} {s u : ℕ → Image → Type 0} {old new : List ℕ → FileState} (can : IsReplayable entries old) → Replays entries can.texts m n s u old new
+pub still_replayable : {entries : List Entry} {m n : ℕ} {s u : ℕ → Image → Type 0} {old new : List ℕ → FileState} (can : IsReplayable entries old) → Replays false entries can.texts m n s u old new
     → IsReplayable entries new
 still_replayable can replays = grind (arith, common_steps)
 
 -- all files but the journal are on the disk with their new texts
 pub record IsDone (entries : List Entry) (texts : Image) (files : List ℕ → FileState) : Type 0 where
-  pub takes : EachTakes entries texts files
+  pub takes : EachTakes false entries texts files
   pub stable : (name : List ℕ) → IsStable (files name)
   pub have : SameFiles (contents files) texts
   pub found : journal_at (drop 1 (files journal_name).content) ≡ Some entries
@@ -71,7 +71,7 @@ pub closing_recovers : (entries : List Entry) (texts : Image) (files : List ℕ 
     → ((name : List ℕ) → IsImage (files name) (files name).content) → IsDone entries texts files → (image : Image) → LeavesBody journal files image → RecoversTo texts image
 closing_recovers entries texts files journal name_is applicable own done image left = elim (cases_Bool (is_open (image journal_name))) [
   | inl opened ↦ recovers_open entries texts image applicable opened (ap journal_at here.body ∙ done.found) (λ name not.
-      subst (λ (t : List ℕ). TakesTo entries name t (texts name)) (sym (same name not)) (done.takes.each name not (files name).content (own name)))
+      subst (λ (t : List ℕ). TakesTo false entries name t (texts name)) (sym (same name not)) (done.takes.each name not (files name).content (own name)))
   | inr shut ↦ recovers_closed texts image shut (λ name not. same name not ∙ done.have name not)
 ]
   where

@@ -10,7 +10,7 @@ module _ {S T D : Type 0} {g : Ghosts D} {given : List (List ℕ)} {before now :
   opened_as had = record {
     reopens = λ honest.
         let r = had.reopens honest in
-        record { done = r.done; any_moment = r.any_moment; recoverable = r.recoverable; bad = r.bad; idle = r.idle; alone = r.alone };
+        record { done = r.done; any_moment = r.any_moment; recoverable = r.recoverable; left = r.left; bad = r.bad; idle = r.idle; alone = r.alone };
     refused = tt;
     accounts = had.accounts;
   }
@@ -20,7 +20,7 @@ module _ {S T D : Type 0} {g : Ghosts D} {given : List (List ℕ)} {before now :
   refused_as had = record {
     reopens = λ honest.
         let r = had.reopens honest in
-        record { done = tt; any_moment = r.any_moment; recoverable = r.recoverable; bad = r.bad; idle = r.idle; alone = r.alone };
+        record { done = tt; any_moment = r.any_moment; recoverable = r.recoverable; left = r.left; bad = r.bad; idle = r.idle; alone = r.alone };
     refused = had.refused;
     accounts = had.accounts;
   }

@@ -152,7 +152,7 @@ module _ (files : List ℕ → FileState) (own : (name : List ℕ) → IsImage (
     | inr apart ↦ absurd (apart.0 refl)
   ]
 
-  journal_is : (name bytes : List ℕ) → name ≢ journal_name → with_bytes files name bytes journal_name ≡ contents files journal_name
+  pub journal_is : (name bytes : List ℕ) → name ≢ journal_name → with_bytes files name bytes journal_name ≡ contents files journal_name
   unfolding with_bytes
   journal_is name bytes not = elim (name_cases journal_name name) [
     | inl same ↦ absurd (not (sym same.0))
@@ -167,17 +167,17 @@ module _ (files : List ℕ → FileState) (own : (name : List ℕ) → IsImage (
     others = λ name not none. stable name not;
     texts = replayed entries (contents files);
     takes = record {
-      each = λ name not text image. subst (λ (t : List ℕ). TakesTo entries name t (replayed entries (contents files) name)) (sym (only_image (stable name not) text image))
+      each = λ name not text image. subst (λ (t : List ℕ). TakesTo false entries name t (replayed entries (contents files) name)) (sym (only_image (stable name not) text image))
           (takes-replayed entries (contents files) name (replayed entries (contents files) name) fit refl);
     };
   }
 
   -- and the other
-  pub open_takes : (over_record : IsOpenOverRecord files) → EachTakes entries over_record.texts files
+  pub open_takes : (over_record : IsOpenOverRecord files) → EachTakes false entries over_record.texts files
   open_takes over_record = record {
     each = λ name not text image.
         let whole = with_bytes files name text in
-        subst (λ (t : List ℕ). TakesTo entries name t (over_record.texts name)) (here_is files own name text)
+        subst (λ (t : List ℕ). TakesTo false entries name t (over_record.texts name)) (here_is files own name text)
         (open_recovers entries over_record.texts whole (ap is_open (journal_is files own name text not) ∙ over.opened)
         (ap (λ (l : List ℕ). journal_at (drop 1 l)) (journal_is files own name text not) ∙ over.found) (over_record.same whole (one_image files own name text image)) name not);
   }

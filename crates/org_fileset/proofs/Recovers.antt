@@ -3,7 +3,7 @@ use Rattle.std.proofs.Common.{arith, ◌≡◌, ◌≢◌, inl, inr, ℕ, suc, L
 use Rattle.std.proofs.lemmas.Grind.{common_steps}
 use Rattle.std.specs.Prelude.{nat_le, if◌then◌else◌, IsSomeAnd, Option, None}
 use Rattle.std.specs.Str.{bytes_eq}
-use Rattle.std.proofs.lemmas.Bool.{cases_Bool, and_parts, and_from, le-leb, leb-true, MatchBool-at_true, MatchBool-at_false}
+use Rattle.std.proofs.lemmas.Bool.{cases_Bool, false≢true, and_parts, and_from, le-leb, leb-true, MatchBool-at_true, MatchBool-at_false}
 use Rattle.org_disk.specs.Names.{journal_name}
 use Rattle.org_disk.proofs.Names.{name_cases}
 use Rattle.org_splice.specs.Patches.{end_of, last_end, BeginWithin, Fit}
@@ -38,15 +38,15 @@ pub true-fits : (patches : List (ℕ × List ℕ)) (final size : ℕ) → fits p
 true-fits patches final size is = grind (arith, common_steps, and_parts, true-begins, leb-true)
 
 -- what the record takes the file of a name to is what it makes of it
-pub replayed-takes : (entries : List Entry) (image : Image) (name to : List ℕ) → TakesTo entries name (image name) to → replayed entries image name ≡ to
+pub replayed-takes : (entries : List Entry) (image : Image) (name to : List ℕ) → TakesTo false entries name (image name) to → replayed entries image name ≡ to
 replayed-takes [] image name to takes = takes
 replayed-takes (entry ∷ entries) image name to takes = elim (cases_Bool (bytes_eq entry.name name)) [
-  | inl same ↦ rw same (MatchBool-at_true (IsMadeBy entry (image name) to) (TakesTo entries name (image name) to) same takes).makes
-  | inr other ↦ rw other (replayed-takes entries image name to (MatchBool-at_false (IsMadeBy entry (image name) to) (TakesTo entries name (image name) to) other takes))
+  | inl same ↦ rw same (MatchBool-at_true (IsMadeBy false entry (image name) to) (TakesTo false entries name (image name) to) same takes).makes
+  | inr other ↦ rw other (replayed-takes entries image name to (MatchBool-at_false (IsMadeBy false entry (image name) to) (TakesTo false entries name (image name) to) other takes))
 ]
 
 -- and the other way, where each entry fits its file
-pub takes-replayed : (entries : List Entry) (image : Image) (name to : List ℕ) → all_fit entries image ≡ true → replayed entries image name ≡ to → TakesTo entries name (image name) to
+pub takes-replayed : (entries : List Entry) (image : Image) (name to : List ℕ) → all_fit entries image ≡ true → replayed entries image name ≡ to → TakesTo false entries name (image name) to
 takes-replayed [] image name to fit is = is
 takes-replayed (entry ∷ entries) image name to fit is =
     let parts = and_parts (fits (pairs_of entry.patches) entry.length (length (image entry.name))) (all_fit entries image) fit in
@@ -57,7 +57,7 @@ takes-replayed (entry ∷ entries) image name to fit is =
           sym (ap (λ (b : Bool). if b then made_by entry (image name) else replayed entries image name) t) ∙ is in
           let fit_here : Fit (pairs_of entry.patches) entry.length (length (image name)) =
           subst (λ (n : List ℕ). Fit (pairs_of entry.patches) entry.length (length (image n))) same.0 (true-fits (pairs_of entry.patches) entry.length (length (image entry.name)) parts.0) in
-          rw t (record { fit = fit_here; makes = made })
+          rw t (record { fit = fit_here; makes = made; left = λ t. absurd (false≢true t) })
       | inr other ↦
           let f : bytes_eq entry.name name ≡ false = other.1 in
           let rest : replayed entries image name ≡ to =
@@ -73,7 +73,7 @@ all_fit-each (entry ∷ entries) image each =
     and_from (fits (pairs_of entry.patches) entry.length (length (image entry.name))) (all_fit entries image)
     (fits-true (pairs_of entry.patches) entry.length (length (image entry.name)) (each 0 entry refl)) (all_fit-each entries image (λ i e is. each (suc i) e is))
 
-pub all_fit-takes : (entries : List Entry) (image texts : Image) → AreApplicable entries → ((name : List ℕ) → name ≢ journal_name → TakesTo entries name (image name) (texts name)) → all_fit entries image ≡ true
+pub all_fit-takes : (entries : List Entry) (image texts : Image) → AreApplicable entries → ((name : List ℕ) → name ≢ journal_name → TakesTo false entries name (image name) (texts name)) → all_fit entries image ≡ true
 all_fit-takes entries image texts applicable takes = all_fit-each entries image (λ i entry is.
     (TakesTo-entry entries i entry (image entry.name) (texts entry.name) applicable.apart is (takes entry.name (not_journal entries i entry applicable is))).fit)
 
@@ -83,19 +83,19 @@ recovers_closed texts image shut same = rw shut same
 
 -- with an open gate for what the record makes of them
 pub recovers_open : (entries : List Entry) (texts image : Image) → AreApplicable entries → is_open (image journal_name) ≡ true → journal_at (drop 1 (image journal_name)) ≡ Some entries
-    → ((name : List ℕ) → name ≢ journal_name → TakesTo entries name (image name) (texts name)) → RecoversTo texts image
+    → ((name : List ℕ) → name ≢ journal_name → TakesTo false entries name (image name) (texts name)) → RecoversTo texts image
 recovers_open entries texts image applicable opened found takes =
     let fit : all_fit entries image ≡ true = all_fit-takes entries image texts applicable takes in
     rw (opened, found, fit) (λ name not. replayed-takes entries image name (texts name) (takes name not))
 
 -- and the other way
 pub open_recovers : (entries : List Entry) (texts image : Image) → is_open (image journal_name) ≡ true → journal_at (drop 1 (image journal_name)) ≡ Some entries
-    → RecoversTo texts image → (name : List ℕ) → name ≢ journal_name → TakesTo entries name (image name) (texts name)
+    → RecoversTo texts image → (name : List ℕ) → name ≢ journal_name → TakesTo false entries name (image name) (texts name)
 open_recovers entries texts image opened found stand name not = grind (arith, common_steps, cases_Bool, takes-replayed)
 
 -- what the record makes of the file of an entry is what the entry makes
 pub replayed-entry : (entries : List Entry) (image : Image) (i : ℕ) (entry : Entry) → AreApplicable entries → all_fit entries image ≡ true → slice_get entries i ≡ Some entry
-    → IsMadeBy entry (image entry.name) (replayed entries image entry.name)
+    → IsMadeBy false entry (image entry.name) (replayed entries image entry.name)
 replayed-entry entries image i entry applicable fit is =
     TakesTo-entry entries i entry (image entry.name) (replayed entries image entry.name) applicable.apart is (takes-replayed entries image entry.name (replayed entries image entry.name) fit refl)
 

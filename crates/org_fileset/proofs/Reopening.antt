@@ -20,15 +20,19 @@ use Rattle.org_journal.specs.Finding.{EndsAt, Finds, IsWhole}
 use Rattle.org_journal.specs.Gate.{front_size, is_open, HasClosedGate, HasSameRecord, LeavesClosed, LeavesRecord, Puts}
 use Rattle.org_journal.specs.Reading.{journal_at}
 use Rattle.org_journal.specs.Recovered.{Image, SameFiles, IsRecoverable, recovered, all_fit, contents, replayed}
+use Rattle.org_fileset.specs.Left.{EachIsLeft, IsLeft, IsLeftBy}
+use Rattle.std.specs.List.{AllByRecursion}
+use Rattle.std.specs.Str.{bytes_eq}
 use Rattle.org_fileset.specs.Looking.{IsLookedAt, IsFoundIn}
 use Rattle.org_fileset.specs.Opening.{IsFit}
 use Rattle.org_fileset.specs.Recovery.{EachRecovers, RecoversAsBefore, IsReopened, ReopensOver, is_closed, closed_journal}
-use Rattle.org_fileset.specs.Replay.{AreApplicableTo, IsOpenOver, IsAtRest, IsReplayable, ReplaysOver, TakesTo}
+use Rattle.org_fileset.specs.Replay.{AreApplicableTo, EachTakes, IsOpenOver, IsAtRest, IsReplayable, ReplaysOver, TakesTo}
 use Rattle.org_fileset.specs.Writes.{LeavesAlone, IsUnconcerned, IsUnwritten}
 use Rattle.org_fileset.proofs.Recovers.{all_fit-takes, recovers_open, replayed-takes, takes-replayed}
+use Rattle.org_fileset.proofs.Lefts.{arming_left, each_named, found_left, keep_takes, takes_same}
 use Rattle.org_fileset.proofs.OpenGate.{closed_after, on_ok_both}
 use Rattle.org_fileset.proofs.Writes.{alone_fewer, alone_journal, alone_looks, alone_then}
-use Rattle.org_fileset.proofs.Recovering.{as_before, formed_applicable, sync_left, sync_after, sync_recoverable, open_before, closed_before, recoverable_replayable, closed_stable, closed_rest, shut_gate, closed_open, closed_short, closed_shut, not_short, not_open, recovered_closed, found_good}
+use Rattle.org_fileset.proofs.Recovering.{as_before, here_is, journal_is, one_image, with_bytes, formed_applicable, sync_left, sync_after, sync_recoverable, open_before, closed_before, recoverable_replayable, closed_stable, closed_rest, shut_gate, closed_open, closed_short, closed_shut, not_short, not_open, recovered_closed, found_good}
 
 -- an open gate over no record
 no_record : (image : Image) → is_open (image journal_name) ≡ true → journal_at (drop 1 (image journal_name)) ≡ None → recovered image ≡ None
@@ -56,7 +60,7 @@ module _ (journal : List ℕ) (old mid new : List ℕ → FileState) (name_is : 
   bad_in finds = (ap recovered (sym contents_are) ∙ no_record (contents mid) finds.0 finds.1, ap (λ (f : List ℕ → FileState). contents f) looked ∙ contents_are)
 
 -- a file that is on the disk has its content for an image
-stable_own_image : {file : FileState} → IsStable file → IsImage file file.content
+pub stable_own_image : {file : FileState} → IsStable file → IsImage file file.content
 stable_own_image stable = record { no_shorter = omega (arith, stable.least); no_longer = omega (arith, stable.greatest); fixed = λ i fixed. refl }
 
 -- said of each answer of a search
@@ -109,7 +113,7 @@ module _ {D : Type 0} (g : Ghosts D) where
   -- what is said of one answer is said of another one, where that is no Ok
   pub reopens_as : {A B E F : Type 0} (old new : D) (r : Result A E) (reported : Result B F) → ReopensOver g old new r → OnOk reported (IsReopened (g.files old) (g.files new))
       → ReopensOver g old new reported
-  reopens_as old new r reported made done = record { done = done; any_moment = made.any_moment; recoverable = made.recoverable; bad = made.bad; idle = made.idle; alone = made.alone }
+  reopens_as old new r reported made done = record { done = done; any_moment = made.any_moment; recoverable = made.recoverable; left = made.left; bad = made.bad; idle = made.idle; alone = made.alone }
 
 module _ {D : Type 0} (g : Ghosts D) (old : D)
     (starts : (image : Image) → g.left_since old (g.instant old) image → AreImages (g.files old) image) where
@@ -122,6 +126,7 @@ module _ {D : Type 0} (g : Ghosts D) (old : D)
     done = done;
     any_moment = λ fit each. leaves_only (passes_as look.time (as_before (g.files old) each)) (before each);
     recoverable = λ fit each. look.recoverable fit;
+    left = λ fit each kept. leaves_only (passes_as look.time kept) (λ image left. kept image (starts image left));
     bad = λ none. leaves_only look.time starts;
     idle = λ closed. leaves_only look.time starts;
     alone = look.alone;
@@ -145,6 +150,8 @@ module _ {D : Type 0} (g : Ghosts D) (old : D)
       recovers_now = stand.recovers_now;
     })) (before each);
     recoverable = λ fit each. made.recoverable (look.recoverable fit) (still each);
+    left = λ fit each kept. leaves_only (passes_then (passes_as look.time kept) (made.left (look.recoverable fit) (still each) (λ image left. kept image (look.images image left))).passes (λ image left. left))
+        (λ image left. kept image (starts image left));
     bad = λ none. leaves_only (passes_then look.time (made.bad (ap recovered same ∙ none)).passes look.images) starts;
     idle = λ closed. leaves_only (passes_then look.time (made.idle (ap (λ (f : Image). is_closed (f journal_name)) same ∙ closed)).passes look.images) starts;
     alone = alone_then g (IsUnconcerned (contents (g.files old) journal_name)) old mid new look.alone
@@ -180,6 +187,25 @@ module _ {D : Type 0} (g : Ghosts D) (old : D)
           open_before now entries own to.applicable over fits (can fit) image
           (recovers_open entries (can fit).texts image to.applicable (here.here.opened ∙ opened) (here.here.found ∙ over.found)
           (λ name not. (can fit).takes.each name not (image name) (here.others name not)))
+
+      -- each file is as the record allows
+      each_file : EachIsLeft now → (name : List ℕ) → name ≢ journal_name → (text : List ℕ) → IsImage (now name) text → AllByRecursion (λ entry. bytes_eq entry.name name ≡ true → IsLeftBy entry text) entries
+      each_file kept name not text image =
+          let whole = with_bytes now name text in
+          let journal = journal_is now own name text not in
+          let each = kept whole (one_image now own name text image) (ap is_open journal ∙ opened) entries (ap (λ (l : List ℕ). journal_at (drop 1 l)) journal ∙ over.found) in
+          subst (λ (t : List ℕ). AllByRecursion (λ entry. bytes_eq entry.name name ≡ true → IsLeftBy entry t) entries) (here_is now own name text) (each_named entries whole name each)
+
+      true_takes : (fit : IsRecoverable now) → EachIsLeft now → EachTakes true entries (can fit).texts now
+      true_takes fit kept = record {
+        each = λ name not text image. keep_takes entries name text ((can fit).texts name) ((can fit).takes.each name not text image) (each_file kept name not text image);
+      }
+
+      -- what is left while it is marked
+      marking_left : (fit : IsRecoverable now) → EachIsLeft now → (image : Image) → LeavesRecord journal now image → IsLeft image
+      marking_left fit kept image left =
+          let here = subst (λ (n : List ℕ). LeavesRecord n now image) name_is left in
+          found_left entries image (can fit).texts to.applicable (here.here.found ∙ over.found) (λ name not. (true_takes fit kept).each name not (image name) (here.others name not))
 
       -- the mark alone, whatever came of it
       module _ {r : Result (Unit {0}) DiskFault} (put : Puts journal (overwritten end (0 ∷ []) (now journal).content) now (g.files mid) r)
@@ -217,6 +243,7 @@ module _ {D : Type 0} (g : Ghosts D) (old : D)
           done = failed;
           any_moment = λ fit each. leaves_only (passes_as time (marking fit)) (before each);
           recoverable = λ fit each. still_recoverable fit;
+          left = λ fit each kept. leaves_only (passes_as time (marking_left fit kept)) (λ image left. kept image (starts image left));
           bad = λ none. absurd (good none);
           idle = not_open (contents now journal_name) opened;
           alone = alone_marked;
@@ -234,7 +261,7 @@ module _ {D : Type 0} (g : Ghosts D) (old : D)
         marked_applicable = record {
           applicable = to.applicable;
           fits = all_fit-takes entries (contents (g.files mid)) (replayed entries (contents now)) to.applicable (λ name not.
-              subst (λ (t : List ℕ). TakesTo entries name t (replayed entries (contents now) name)) (ap (λ (f : FileState). f.content) (sym (puts.others name not)))
+              subst (λ (t : List ℕ). TakesTo false entries name t (replayed entries (contents now) name)) (ap (λ (f : FileState). f.content) (sym (puts.others name not)))
               (takes-replayed entries (contents now) name (replayed entries (contents now) name) fits refl));
         }
 
@@ -251,6 +278,8 @@ module _ {D : Type 0} (g : Ghosts D) (old : D)
           any_moment = λ fit each. leaves_only (passes_then (passes_as time (marking fit)) (replays.any_moment (still_can (can fit)))
               (open_before now entries own to.applicable over fits (can fit))) (before each);
           recoverable = λ fit each. replays.recoverable (still_can (can fit));
+          left = λ fit each kept. leaves_only (passes_then (passes_as time (marking_left fit kept))
+              (replays.left (can fit).texts (takes_same entries (can fit).texts now (g.files mid) puts.others (true_takes fit kept))) (λ image left. left)) (λ image left. kept image (starts image left));
           bad = λ none. absurd (good none);
           idle = not_open (contents now journal_name) opened;
           alone = alone_then g (IsUnconcerned (contents now journal_name)) old mid new alone_marked
@@ -260,7 +289,7 @@ module _ {D : Type 0} (g : Ghosts D) (old : D)
           where
             same_made : (name : List ℕ) → name ≢ journal_name → replayed entries (contents (g.files mid)) name ≡ replayed entries (contents now) name
             same_made name not = replayed-takes entries (contents (g.files mid)) name (replayed entries (contents now) name)
-                (subst (λ (t : List ℕ). TakesTo entries name t (replayed entries (contents now) name)) (ap (λ (f : FileState). f.content) (sym (puts.others name not)))
+                (subst (λ (t : List ℕ). TakesTo false entries name t (replayed entries (contents now) name)) (ap (λ (f : FileState). f.content) (sym (puts.others name not)))
                 (takes-replayed entries (contents now) name (replayed entries (contents now) name) fits refl))
 
     -- a closed gate stays, where the journal is whole
@@ -280,6 +309,7 @@ module _ {D : Type 0} (g : Ghosts D) (old : D)
               }) whole;
           any_moment = λ fit each. leaves_only (passes_as looks.time (as_before now each)) (before each);
           recoverable = λ fit each. subst IsRecoverable (sym looks.same) fit;
+          left = λ fit each kept. leaves_only (passes_as looks.time kept) (λ image left. kept image (starts image left));
           bad = λ none. leaves_only looks.time starts;
           idle = λ closed. leaves_only looks.time starts;
           alone = alone_looks g (IsUnconcerned (contents now journal_name)) old new looks;
@@ -307,6 +337,7 @@ module _ {D : Type 0} (g : Ghosts D) (old : D)
           any_moment = λ fit each. leaves_only (passes_then (passes_as looks.time (as_before now each)) time (λ image left. closed_before now own shut (closed_stable now (own journal_name) shut fit) image
               (subst (λ (f : List ℕ → FileState). LeavesClosed journal_name f image) looks.same (subst (λ (n : List ℕ). LeavesClosed n (g.files mid) image) name_is left)))) (before each);
           recoverable = λ fit each. inl (others fit);
+          left = λ fit each kept. leaves_only (passes_then (passes_as looks.time kept) time (arming_left (g.files mid) journal name_is)) (λ image left. kept image (starts image left));
           bad = λ none. absurd (found_good (contents now) Closed shut tt none);
           idle = not_short (contents now journal_name) short;
           alone = alone_then g (IsUnconcerned (contents now journal_name)) old mid new (alone_looks g (IsUnconcerned (contents now journal_name)) old mid looks)

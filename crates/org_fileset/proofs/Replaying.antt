@@ -23,34 +23,34 @@ pub not_journal : (entries : List Entry) (i : ℕ) (entry : Entry) → AreApplic
 not_journal entries i entry applicable is = λ same. named_apart entries i entry journal_name (journal_unnamed entries applicable.each) is (sym same)
 
 -- of whatever a crash leaves of its file an entry makes one text
-pub entry_takes : (entries : List Entry) (texts : Image) (files : List ℕ → FileState) (i : ℕ) (entry : Entry) → AreApplicable entries → slice_get entries i ≡ Some entry
-    → EachTakes entries texts files → EachMadeBy entry (texts entry.name) (files entry.name)
+pub entry_takes : {keep : Bool} (entries : List Entry) (texts : Image) (files : List ℕ → FileState) (i : ℕ) (entry : Entry) → AreApplicable entries → slice_get entries i ≡ Some entry
+    → EachTakes keep entries texts files → EachMadeBy keep entry (texts entry.name) (files entry.name)
 entry_takes entries texts files i entry applicable is takes text image =
     TakesTo-entry entries i entry text (texts entry.name) applicable.apart is (takes.each entry.name (not_journal entries i entry applicable is) text image)
 
-pub replays_none : {entries : List Entry} {texts : Image} (m : ℕ) (s : ℕ → Image → Type 0) (files : List ℕ → FileState) → EachTakes entries texts files → Replays entries texts m m s s files files
-replays_none {entries} {texts} m s files takes = record {
-  any_moment = passes_none m s (LeavesTaking (files journal_name).content entries texts);
+pub replays_none : {keep : Bool} {entries : List Entry} {texts : Image} (m : ℕ) (s : ℕ → Image → Type 0) (files : List ℕ → FileState) → EachTakes keep entries texts files → Replays keep entries texts m m s s files files
+replays_none {keep} {entries} {texts} m s files takes = record {
+  any_moment = passes_none m s (LeavesTaking keep (files journal_name).content entries texts);
   takes = takes;
   others = λ name none. refl;
 }
 
 -- calls on the file of one entry
-pub replays_entry : {entries : List Entry} {texts : Image} {m n k : ℕ} {s u v : ℕ → Image → Type 0} {old mid new : List ℕ → FileState} (i : ℕ) (entry : Entry)
+pub replays_entry : {keep : Bool} {entries : List Entry} {texts : Image} {m n k : ℕ} {s u v : ℕ → Image → Type 0} {old mid new : List ℕ → FileState} (i : ℕ) (entry : Entry)
     → AreApplicable entries → slice_get entries i ≡ Some entry → IsStable (old journal_name)
-    → Replays entries texts m n s u old mid → Applies entry (texts entry.name) n k u v mid new → Replays entries texts m k s v old new
-replays_entry {entries} {texts} {old = old} {mid = mid} {new = new} i entry applicable is stable sofar applies = record {
+    → Replays keep entries texts m n s u old mid → Applies keep entry (texts entry.name) n k u v mid new → Replays keep entries texts m k s v old new
+replays_entry {keep} {entries} {texts} {old = old} {mid = mid} {new = new} i entry applicable is stable sofar applies = record {
   any_moment = passes_then sofar.any_moment applies.any_moment (λ image left. record {
     same_journal = only_image stable (image journal_name) (subst (λ f. IsImage f (image journal_name)) (sofar.others journal_name none) (left.others journal_name (λ same. apart (sym same))));
     each = λ name not. elim (name_cases name entry.name) [
-      | inl same ↦ subst (λ (x : List ℕ). TakesTo entries x (image x) (texts x)) (sym same.0)
+      | inl same ↦ subst (λ (x : List ℕ). TakesTo keep entries x (image x) (texts x)) (sym same.0)
           (entry-TakesTo entries i entry (image entry.name) (texts entry.name) applicable.apart is left.here)
       | inr other ↦ sofar.takes.each name not (image name) (left.others name other.0)
     ];
   });
   takes = record {
     each = λ name not text image. elim (name_cases name entry.name) [
-      | inl same ↦ subst (λ (x : List ℕ). TakesTo entries x text (texts x)) (sym same.0)
+      | inl same ↦ subst (λ (x : List ℕ). TakesTo keep entries x text (texts x)) (sym same.0)
           (entry-TakesTo entries i entry text (texts entry.name) applicable.apart is (applies.takes text (subst (λ (x : List ℕ). IsImage (new x) text) same.0 image)))
       | inr other ↦ sofar.takes.each name not text (subst (λ f. IsImage f text) (applies.others name other.0) image)
     ];
@@ -65,12 +65,12 @@ replays_entry {entries} {texts} {old = old} {mid = mid} {new = new} i entry appl
     none = journal_unnamed entries applicable.each
 
 -- a sync of the file of one entry
-pub applies_sync : {entry : Entry} {to : List ℕ} {m n : ℕ} {s u : ℕ → Image → Type 0} {old new : List ℕ → FileState} (r : Result (Unit {0}) DiskFault)
-    → EachMadeBy entry to (old entry.name) → IsImage (old entry.name) (old entry.name).content → Changes sync entry.name old new r → Passes m n s u (AreLeftBy sync entry.name old)
-    → Applies entry to m n s u old new
-applies_sync {entry} {to} {m = m} {s = s} {old = old} r takes own changes time =
+pub applies_sync : {keep : Bool} {entry : Entry} {to : List ℕ} {m n : ℕ} {s u : ℕ → Image → Type 0} {old new : List ℕ → FileState} (r : Result (Unit {0}) DiskFault)
+    → EachMadeBy keep entry to (old entry.name) → IsImage (old entry.name) (old entry.name).content → Changes sync entry.name old new r → Passes m n s u (AreLeftBy sync entry.name old)
+    → Applies keep entry to m n s u old new
+applies_sync {keep} {entry} {to} {m = m} {s = s} {old = old} r takes own changes time =
     applies_call sync r (applies_none m s old takes)
-    (λ text image. subst (λ (t : List ℕ). IsMadeBy entry t to) (sym (only_image (stable_is (old entry.name).content) text image)) (takes (old entry.name).content own))
+    (λ text image. subst (λ (t : List ℕ). IsMadeBy keep entry t to) (sym (only_image (stable_is (old entry.name).content) text image)) (takes (old entry.name).content own))
     changes time
 
 -- the entries up to one have their texts

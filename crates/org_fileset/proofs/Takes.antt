@@ -16,11 +16,11 @@ or_false true b is = absurd (true≢false is)
 or_false false b is = (refl, is)
 
 -- a file that the record doesn't name stays as it is
-pub TakesTo-other : (entries : List Entry) (name text to : List ℕ) → is_named name entries ≡ false → TakesTo entries name text to → text ≡ to
+pub TakesTo-other : (entries : List Entry) (name text to : List ℕ) → is_named name entries ≡ false → TakesTo false entries name text to → text ≡ to
 TakesTo-other [] name text to none takes = takes
 TakesTo-other (entry ∷ entries) name text to none takes =
     let parts = or_false (bytes_eq entry.name name) (is_named name entries) none in
-    TakesTo-other entries name text to parts.1 (MatchBool-at_false (IsMadeBy entry text to) (TakesTo entries name text to) parts.0 takes)
+    TakesTo-other entries name text to parts.1 (MatchBool-at_false (IsMadeBy false entry text to) (TakesTo false entries name text to) parts.0 takes)
 
 -- a name that no entry has isn't this entry's
 pub named_apart : (entries : List Entry) (i : ℕ) (entry : Entry) (name : List ℕ) → is_named name entries ≡ false → slice_get entries i ≡ Some entry → name ≢ entry.name
@@ -34,20 +34,20 @@ later_name : (first : Entry) (entries : List Entry) (i : ℕ) (entry : Entry) �
 later_name first entries i entry differ is = grind (arith, common_steps, and_parts, named_apart, not-true, name_cases)
 
 -- of the file that an entry names, the record makes what the entry makes
-pub TakesTo-entry : (entries : List Entry) (i : ℕ) (entry : Entry) (text to : List ℕ) → names_differ entries ≡ true → slice_get entries i ≡ Some entry
-    → TakesTo entries entry.name text to → IsMadeBy entry text to
-TakesTo-entry [] i entry text to differ is takes = absurd (cc)
-TakesTo-entry (first ∷ entries) zero entry text to differ is takes = grind (arith, common_steps, same_name, MatchBool-at_true)
-TakesTo-entry (first ∷ entries) (suc i) entry text to differ is takes =
+pub TakesTo-entry : {keep : Bool} (entries : List Entry) (i : ℕ) (entry : Entry) (text to : List ℕ) → names_differ entries ≡ true → slice_get entries i ≡ Some entry
+    → TakesTo keep entries entry.name text to → IsMadeBy keep entry text to
+TakesTo-entry {keep} [] i entry text to differ is takes = absurd (cc)
+TakesTo-entry {keep} (first ∷ entries) zero entry text to differ is takes = grind (arith, common_steps, same_name, MatchBool-at_true)
+TakesTo-entry {keep} (first ∷ entries) (suc i) entry text to differ is takes =
     let other = later_name first entries i entry differ is in
     TakesTo-entry entries i entry text to (and_parts (not (is_named first.name entries)) (names_differ entries) differ).1 is
-    (MatchBool-at_false (IsMadeBy first text to) (TakesTo entries entry.name text to) other takes)
+    (MatchBool-at_false (IsMadeBy keep first text to) (TakesTo keep entries entry.name text to) other takes)
 
-pub entry-TakesTo : (entries : List Entry) (i : ℕ) (entry : Entry) (text to : List ℕ) → names_differ entries ≡ true → slice_get entries i ≡ Some entry
-    → IsMadeBy entry text to → TakesTo entries entry.name text to
-entry-TakesTo [] i entry text to differ is applies = absurd (cc)
-entry-TakesTo (first ∷ entries) zero entry text to differ is applies = grind (arith, common_steps, same_name)
-entry-TakesTo (first ∷ entries) (suc i) entry text to differ is applies = grind (arith, common_steps, later_name, and_parts, entry-TakesTo entries i entry text to (and_parts (not (is_named first.name entries)) (names_differ entries) differ).1 is applies)
+pub entry-TakesTo : {keep : Bool} (entries : List Entry) (i : ℕ) (entry : Entry) (text to : List ℕ) → names_differ entries ≡ true → slice_get entries i ≡ Some entry
+    → IsMadeBy keep entry text to → TakesTo keep entries entry.name text to
+entry-TakesTo {keep} [] i entry text to differ is applies = absurd (cc)
+entry-TakesTo {keep} (first ∷ entries) zero entry text to differ is applies = grind (arith, common_steps, same_name)
+entry-TakesTo {keep} (first ∷ entries) (suc i) entry text to differ is applies = grind (arith, common_steps, later_name, and_parts, entry-TakesTo entries i entry text to (and_parts (not (is_named first.name entries)) (names_differ entries) differ).1 is applies)
 
 -- no entry names the journal
 pub journal_unnamed : (entries : List Entry) → AllByRecursion IsApplicable entries → is_named journal_name entries ≡ false

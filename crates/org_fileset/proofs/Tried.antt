@@ -1,5 +1,5 @@
 -- Files that were tried, by writes of no bytes, and a commit that begins with that.
-use Rattle.std.proofs.Common.{◌≡◌, ◌≢◌, ◌⊎◌, inl, inr, ⊎_elim, ℕ, suc, ◌+◌, ◌<◌, ◌++◌, List, [], ◌∷◌, length, drop, get_or, take, set, Result, Ok, Err, IsErr, sym, ◌∙◌, ap, subst, arith}
+use Rattle.std.proofs.Common.{◌≡◌, ◌≢◌, ◌⊎◌, inl, inr, ⊎_elim, ℕ, suc, ◌+◌, ◌<◌, ◌++◌, List, [], ◌∷◌, length, drop, get_or, take, set, Result, Ok, Err, IsErr, true, sym, ◌∙◌, ap, subst, arith}
 use Rattle.std.proofs.lemmas.Bool.{cases_lt}
 use Rattle.std.proofs.lemmas.Result.{on_ok_weaker}
 use Rattle.std.proofs.lemmas.List.{get_or-take, get_or_append_left, get_or-set_same, get_or-set_other, length-append, length-set, length-take-le}
@@ -17,10 +17,11 @@ use Rattle.org_journal.specs.declared.record.Entry.{Entry}
 use Rattle.org_journal.specs.Gate.{is_open, HasClosedGate}
 use Rattle.org_journal.specs.Reading.{journal_at}
 use Rattle.org_journal.specs.Recovered.{RecoversTo, SameFiles, contents, replayed}
-use Rattle.org_fileset.specs.Replay.{AreApplicableTo, CommitsEntriesOver, IsAtRest, IsBeforeOrAfter, IsClosedOver, IsCommitted, IsReplayable, ReplaysOver}
+use Rattle.org_fileset.specs.Replay.{AreApplicableTo, CommitsEntriesOver, EachTakes, IsAtRest, IsBeforeOrAfter, IsClosedOver, IsCommitted, IsReplayable, ReplaysOver}
 use Rattle.org_fileset.specs.Writes.{IsUnwritten, TriesOver}
 use Rattle.org_fileset.proofs.OpenGate.{on_ok_never}
-use Rattle.org_fileset.proofs.Commits.{WritesRecord, at_rest_recovers, shut, still_made, still_takes}
+use Rattle.org_fileset.proofs.Lefts.{takes_same}
+use Rattle.org_fileset.proofs.Commits.{rest_left, WritesRecord, at_rest_recovers, shut, still_made, still_takes}
 use Rattle.org_fileset.proofs.Recovers.{recovers_closed}
 use Rattle.org_fileset.proofs.Writes.{alone_looks, alone_then}
 
@@ -176,6 +177,9 @@ module _ {D : Type 0} (g : Ghosts D) (entries : List Entry) (old tried : D) (loo
         (writes.any_moment (subst IsAtRest (sym looks.same) rest))
         (λ image stands. subst (λ (f : List ℕ → FileState). IsBeforeOrAfter (contents f) (replayed entries (contents f)) image) looks.same stands);
     others = λ n not. writes.others n not ∙ ap (λ (f : List ℕ → FileState). f n) looks.same;
+    left = λ rest takes. passes_then (passes_as looks.time (rest_left (g.files old) rest))
+        (writes.left (subst IsAtRest (sym looks.same) rest)
+        (subst (λ (f : List ℕ → FileState). EachTakes true entries (replayed entries (contents f)) f) (sym looks.same) takes)) (λ image left. left);
     alone = alone_then g (IsUnwritten entries) old tried new (alone_looks g (IsUnwritten entries) old tried looks) writes.alone;
   }
 
@@ -200,6 +204,7 @@ module _ {D : Type 0} (g : Ghosts D) (entries : List Entry) (old : D) (only_now 
       alone = record { same = tries.others; time = passes_as tries.time (λ image left n this. left n) };
     };
     closed = on_ok_never _ result failed;
+    left = λ rest takes. passes_as tries.time (rest_left (g.files old) rest);
   }
 
   -- no record was written, or the gate wasn't opened over it
@@ -213,6 +218,7 @@ module _ {D : Type 0} (g : Ghosts D) (entries : List Entry) (old : D) (only_now 
       alone = written.alone;
     };
     closed = on_ok_never _ result failed;
+    left = written.left;
   }
 
   -- the gate was opened over the record, which was applied to its files
@@ -242,6 +248,7 @@ module _ {D : Type 0} (g : Ghosts D) (entries : List Entry) (old : D) (only_now 
           gate = made.gate;
           found = ap (λ (l : List ℕ). journal_at (drop 1 l)) made.journal ∙ written.opened.found;
         }) replays.done;
+        left = λ rest takes. passes_then (written.left rest takes) (replays.left (replayed entries (contents files)) (takes_same entries (replayed entries (contents files)) files last written.others takes)) (λ image left. left);
       }
 
   -- the commit failed, and so does the call that made it
@@ -254,6 +261,7 @@ module _ {D : Type 0} (g : Ghosts D) (entries : List Entry) (old : D) (only_now 
       alone = commits.commits.alone;
     };
     closed = on_ok_never _ result failed;
+    left = commits.left;
   }
 
   -- all was done, and the files were tried again
@@ -269,4 +277,5 @@ module _ {D : Type 0} (g : Ghosts D) (entries : List Entry) (old : D) (only_now 
       alone = alone_then g (IsUnwritten entries) old mid new first.commits.alone (record { same = tries.others; time = passes_as tries.time (λ image left n this. left n) });
     };
     closed = on_ok_weaker result (λ looks. subst (λ (f : List ℕ → FileState). IsClosedOver entries f) (sym looks.same) first.closed) tries.ok;
+    left = λ rest takes. passes_then (first.left rest takes) tries.time (rest_left (g.files mid) (first.commits.done.rest rest));
   }

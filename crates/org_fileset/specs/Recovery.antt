@@ -8,6 +8,7 @@ use Rattle.org_splice.specs.Overwritten.{overwritten}
 use Rattle.org_journal.specs.Finding.{record_size}
 use Rattle.org_journal.specs.Gate.{front_size, is_open, HasClosedGate}
 use Rattle.org_journal.specs.Recovered.{Image, SameFiles, RecoversTo, IsRecoverable, contents, recovered}
+use Rattle.org_fileset.specs.Left.{EachIsLeft, IsLeft}
 use Rattle.org_fileset.specs.Replay.{IsAtRest}
 use Rattle.org_fileset.specs.Writes.{LeavesAlone, IsUnconcerned}
 
@@ -64,6 +65,10 @@ pub record ReopensOver {D A E : Type 0} (g : Ghosts D) (old new : D) (result : R
       → LeavesOver g old new (RecoversAsBefore (g.files old))
   pub recoverable : IsRecoverable (g.files old) → EachRecovers (g.files old)
       → IsRecoverable (g.files new)
+  -- .. and what is left is as the record of an open journal allows, if it was so at the start: no
+  -- file is found to be changed by its bytes
+  pub left : IsRecoverable (g.files old) → EachRecovers (g.files old) → EachIsLeft (g.files old)
+      → LeavesOver g old new IsLeft
   pub bad : recovered (contents (g.files old)) ≡ None
       → LeavesOver g old new (AreImages (g.files old))
   -- A whole journal with a closed gate leaves nothing to finish: whatever is answered, a

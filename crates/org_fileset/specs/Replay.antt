@@ -1,6 +1,6 @@
 -- Files to which a record is being applied: whatever a crash leaves of them, the record makes the
 -- same texts of it.
-use Rattle.std.specs.Prelude.{◌≡◌, ◌≢◌, ◌⊎◌, ℕ, ◌^◌, ◌<◌, ◌≤◌, List, [], ◌∷◌, length, drop, Option, Some, None, Result, OnOk, MatchBool, IsTrue, IsFalse}
+use Rattle.std.specs.Prelude.{◌≡◌, ◌≢◌, ◌⊎◌, ℕ, ◌^◌, ◌<◌, ◌≤◌, List, [], ◌∷◌, length, drop, Option, Some, None, Result, OnOk, MatchBool, IsTrue, IsFalse, Bool, true, false}
 use Rattle.org_disk.specs.declared.disk.Disk.{Ghosts}
 use Rattle.std.specs.List.{AllByRecursion}
 use Rattle.std.specs.Str.{bytes_eq}
@@ -17,38 +17,42 @@ use Rattle.org_journal.specs.Record.{is_named, names_differ, greatest_length}
 use Rattle.org_journal.specs.Gate.{is_open, HasClosedGate}
 use Rattle.org_journal.specs.Reading.{journal_at}
 use Rattle.org_journal.specs.Recovered.{Image, SameFiles, RecoversTo, IsRecoverable, all_fit, contents, made_by, replayed}
+use Rattle.org_fileset.specs.Left.{IsLeft, IsLeftBy}
 use Rattle.org_fileset.specs.Writes.{LeavesAlone, IsUnwritten}
 
--- the entry fits this text, and makes that one of it
-pub record IsMadeBy (entry : Entry) (text to : List ℕ) : Type 0 where
+-- the entry fits this text, and makes that one of it; and where that is to be kept, the text is as
+-- a crash may have left it
+pub record IsMadeBy (keep : Bool) (entry : Entry) (text to : List ℕ) : Type 0 where
   pub fit : Fit (pairs_of entry.patches) entry.length (length text)
   pub makes : made_by entry text ≡ to
+  pub left : IsTrue keep → IsLeftBy entry text
 
 -- the entry makes this text of whatever a crash leaves of the file
-abbrev pub EachMadeBy : Entry → List ℕ → FileState → Type 0
-EachMadeBy entry to file = (text : List ℕ) → IsImage file text → IsMadeBy entry text to
+abbrev pub EachMadeBy : Bool → Entry → List ℕ → FileState → Type 0
+EachMadeBy keep entry to file = (text : List ℕ) → IsImage file text → IsMadeBy keep entry text to
 
 -- what is left: a text of the entry's file of which the entry makes `to`, and an image of each
 -- other file
-pub record LeavesMaking (entry : Entry) (to : List ℕ) (files : List ℕ → FileState) (image : Image)
+pub record LeavesMaking (keep : Bool) (entry : Entry) (to : List ℕ) (files : List ℕ → FileState) (image : Image)
     : Type 0 where
-  pub here : IsMadeBy entry (image entry.name) to
+  pub here : IsMadeBy keep entry (image entry.name) to
   pub others : (other : List ℕ) → other ≢ entry.name → IsImage (files other) (image other)
 
 -- Calls that apply an entry to its file, all of it or a part: at each moment, and now, the entry
 -- makes the same text of what a crash leaves of the file.
-pub record Applies (entry : Entry) (to : List ℕ) (before now : ℕ) (past since : ℕ → Image → Type 0)
+pub record Applies (keep : Bool) (entry : Entry) (to : List ℕ) (before now : ℕ) (past since : ℕ → Image → Type 0)
     (old new : List ℕ → FileState) : Type 0 where
-  pub any_moment : Passes before now past since (LeavesMaking entry to old)
-  pub takes : EachMadeBy entry to (new entry.name)
+  pub any_moment : Passes before now past since (LeavesMaking keep entry to old)
+  pub takes : EachMadeBy keep entry to (new entry.name)
   pub others : (other : List ℕ) → other ≢ entry.name → new other ≡ old other
 
 -- the record makes `to` of this text of the file with that name; what it doesn't name stays as it
 -- is
-abbrev pub TakesTo : List Entry → List ℕ → List ℕ → List ℕ → Type 0
-TakesTo [] name text to = text ≡ to
-TakesTo (entry ∷ entries) name text to =
-    MatchBool (bytes_eq entry.name name) (IsMadeBy entry text to) (TakesTo entries name text to)
+abbrev pub TakesTo : Bool → List Entry → List ℕ → List ℕ → List ℕ → Type 0
+TakesTo keep [] name text to = text ≡ to
+TakesTo keep (entry ∷ entries) name text to =
+    MatchBool (bytes_eq entry.name name) (IsMadeBy keep entry text to)
+    (TakesTo keep entries name text to)
 
 -- an entry that can be applied to a file which it fits
 pub record IsApplicable (entry : Entry) : Type 0 where
@@ -77,24 +81,24 @@ pub record CanPatch (entry : Entry) (bytes : List ℕ) : Type 0 where
   pub fits : Fit (pairs_of entry.patches) entry.length (length bytes)
 
 -- whatever a crash leaves of the files, the record makes these texts of it
-pub record EachTakes (entries : List Entry) (texts : Image) (files : List ℕ → FileState)
+pub record EachTakes (keep : Bool) (entries : List Entry) (texts : Image) (files : List ℕ → FileState)
     : Type 0 where
   pub each : (name : List ℕ) → name ≢ journal_name → (text : List ℕ) → IsImage (files name) text
-      → TakesTo entries name text (texts name)
+      → TakesTo keep entries name text (texts name)
 
 -- what is left: a journal of these bytes, and files of which the record makes these texts
-pub record LeavesTaking (journal : List ℕ) (entries : List Entry) (texts : Image) (image : Image)
+pub record LeavesTaking (keep : Bool) (journal : List ℕ) (entries : List Entry) (texts : Image) (image : Image)
     : Type 0 where
   pub same_journal : image journal_name ≡ journal
-  pub each : (name : List ℕ) → name ≢ journal_name → TakesTo entries name (image name) (texts name)
+  pub each : (name : List ℕ) → name ≢ journal_name → TakesTo keep entries name (image name) (texts name)
 
 -- Calls that apply a record to its files, all of it or a part: at each moment, and now, the record
 -- makes the same texts of what a crash leaves.
-pub record Replays (entries : List Entry) (texts : Image) (before now : ℕ)
+pub record Replays (keep : Bool) (entries : List Entry) (texts : Image) (before now : ℕ)
     (past since : ℕ → Image → Type 0) (old new : List ℕ → FileState) : Type 0 where
   pub any_moment : Passes before now past since
-      (LeavesTaking (old journal_name).content entries texts)
-  pub takes : EachTakes entries texts new
+      (LeavesTaking keep (old journal_name).content entries texts)
+  pub takes : EachTakes keep entries texts new
   pub others : (name : List ℕ) → IsFalse (is_named name entries) → new name ≡ old name
 
 -- the journal is on the disk with an open gate and this record
@@ -114,7 +118,7 @@ pub record IsReplayable (entries : List Entry) (files : List ℕ → FileState) 
   pub others : (name : List ℕ) → name ≢ journal_name → IsFalse (is_named name entries)
       → IsStable (files name)
   pub texts : Image
-  pub takes : EachTakes entries texts files
+  pub takes : EachTakes false entries texts files
 
 -- all is on the disk, and the gate is closed
 pub record IsAtRest (files : List ℕ → FileState) : Type 0 where
@@ -149,6 +153,8 @@ pub record ReplaysOver {D : Type 0} (g : Ghosts D) (entries : List Entry) (old n
   pub any_moment : (can : IsReplayable entries (g.files old))
       → PassesOver g old new (RecoversTo can.texts)
   pub recoverable : IsReplayable entries (g.files old) → IsRecoverable (g.files new)
+  -- where a crash leaves each file as the entries allow at the start
+  pub left : (texts : Image) → EachTakes true entries texts (g.files old) → PassesOver g old new IsLeft
   pub alone : LeavesAlone g (IsUnwritten entries) old new
 
 -- The files are these now; what was at rest is at rest.
@@ -175,19 +181,23 @@ pub record CommitsEntriesOver {D : Type 0} (g : Ghosts D) (entries : List Entry)
   pub commits : CommitsOver g (replayed entries (contents (g.files old))) (IsUnwritten entries)
       old new result
   pub closed : OnOk result (IsClosedOver entries (g.files new))
+  -- where a crash leaves each file as the entries allow
+  pub left : IsAtRest (g.files old)
+      → EachTakes true entries (replayed entries (contents (g.files old))) (g.files old)
+      → PassesOver g old new IsLeft
 
 -- Calls over a disk that apply an entry to its file, all of it or a part: at each moment, and now,
 -- the entry makes the same text of whatever a crash leaves of the file, if it did so at the start.
 abbrev pub AppliesOver : {D : Type 0} → Ghosts D → Entry → D → D → Type 0
 AppliesOver g entry old new =
-    (to : List ℕ) → EachMadeBy entry to (g.files old entry.name)
-    → Applies entry to (g.instant old) (g.instant new) (g.left_since old) (g.left_since new)
+    (keep : Bool) (to : List ℕ) → EachMadeBy keep entry to (g.files old entry.name)
+    → Applies keep entry to (g.instant old) (g.instant new) (g.left_since old) (g.left_since new)
     (g.files old) (g.files new)
 
 -- The same of a record and its files, if the journal is on the disk.
 abbrev pub TakesOver : {D : Type 0} → Ghosts D → List Entry → D → D → Type 0
 TakesOver g entries old new =
     IsStable (g.files old journal_name)
-    → (texts : Image) → EachTakes entries texts (g.files old)
-    → Replays entries texts (g.instant old) (g.instant new) (g.left_since old)
+    → (keep : Bool) (texts : Image) → EachTakes keep entries texts (g.files old)
+    → Replays keep entries texts (g.instant old) (g.instant new) (g.left_since old)
     (g.left_since new) (g.files old) (g.files new)

@@ -4,7 +4,7 @@ use Rattle.std.specs.Global.{Global}
 use Rattle.std.specs.List.{All, AllByRecursion, Contains}
 use Rattle.std.specs.Map.{keys_of}
 use Rattle.org_disk.specs.declared.disk.Disk.{Ghosts}
-use Rattle.org_disk.specs.CountsFailures.{CountsFailures}
+use Rattle.org_disk.specs.CountsFailures.{CountsFailures, LeavesOver}
 use Rattle.org_disk.specs.Disk.{FileState}
 use Rattle.org_disk.specs.Names.{journal_name}
 use Rattle.org_splice.specs.Texts.{EditedText, IsEditOf}
@@ -15,10 +15,11 @@ use Rattle.org_fileset.specs.Entries.{HasRecordOf, changed}
 use Rattle.org_fileset.specs.declared.fault.SetFault.{SetFault}
 use Rattle.org_fileset.specs.declared.open.OpenRefused.{OpenRefused}
 use Rattle.org_fileset.specs.declared.fault.SetFault.TheVariants.{Broken, Device, OutOfMemory}
+use Rattle.org_fileset.specs.Left.{IsLeft}
 use Rattle.org_fileset.specs.Lengths.{AreLengths}
 use Rattle.org_fileset.specs.Names.{limit}
 use Rattle.org_fileset.specs.Opening.{IsOpenedFor, disk_in}
-use Rattle.org_fileset.specs.Replay.{CommitsOver}
+use Rattle.org_fileset.specs.Replay.{CommitsOver, IsAtRest}
 use Rattle.org_fileset.specs.Writes.{IsOther}
 
 -- A set of files: its disk, the names of its files, and whether a call of the disk failed.
@@ -82,6 +83,9 @@ pub record CommitsSet {D A : Type 0} (g : Ghosts D) (old : Opened D)
     : Type 0 where
   pub commits : Commits g old.disk changes new.disk result
   pub record_stands : LeavesRecord g changes new.disk result
+  -- What a crash leaves at any moment since the call began is as the record of an open journal
+  -- allows: no file is found to be changed by its bytes.
+  pub left : g.honest new.disk → IsAtRest (g.files old.disk) → LeavesOver g old.disk new.disk IsLeft
   -- want of memory leaves all as it was
   pub memory : IsErrOf result OutOfMemory → new ≡ old
   pub set : KeepsSet old new result

@@ -54,7 +54,8 @@ pub fn apply_entry<D: Disk>(disk: &mut D, entry: &Entry) -> Result<(), DiskFault
     apply_patches(disk, entry, before)
 }
 
-// How long the file of an entry was before: as the entry says, or as it is.
+// How long the file of an entry was before: as the entry says, or as it is. The file is asked in any
+// case, just before it is written, since a disk may see then that another program has changed it.
 fn length_before<D: Disk>(disk: &mut D, entry: &Entry) -> Result<u64, DiskFault>
     ensures length { IfOk result (λ n. D.honest disk.new
         → n ≡ length_before entry.now.before
@@ -62,9 +63,10 @@ fn length_before<D: Disk>(disk: &mut D, entry: &Entry) -> Result<u64, DiskFault>
     ensures looks { Looks D.Disk disk.old disk.new }
     ensures accounts { CountsFailures D.Disk disk.old disk.new (IsErr result) }
 {
+    let size = disk.length(&entry.name)?;
     match &entry.before {
         Some(before) => Ok(before.length),
-        None => disk.length(&entry.name),
+        None => Ok(size),
     }
 }
 

@@ -1,7 +1,7 @@
 //! The laws of applying records to files, for all values.
 //!
 //! Each is the contract of a function with nothing to do.
-ghost use Rattle.std.specs.Prelude.{◌≡◌, ◌≤◌, ◌+◌, ◌⊎◌, List, ℕ, Some, length, drop, slice_get, IsSomeAnd, IsFalse, IsTrue};
+ghost use Rattle.std.specs.Prelude.{◌≡◌, ◌≤◌, ◌+◌, ◌⊎◌, List, ℕ, Some, false, length, drop, slice_get, IsSomeAnd, IsFalse, IsTrue};
 ghost use Rattle.std.specs.List.{Contains};
 ghost use Rattle.org_disk.specs.CountsFailures.{LeavesOver};
 ghost use Rattle.org_disk.specs.Disk.{FileState, IsImage, IsStable, AreImages, write, cut, sync};
@@ -13,7 +13,7 @@ ghost use Rattle.org_splice.specs.declared.patch.Patch.{Patch};
 ghost use Rattle.org_journal.specs.Recovered.{Image, RecoversTo, SameFiles, recovered, contents, made_by, may_cut};
 ghost use Rattle.org_journal.specs.Left.{is_left};
 ghost use Rattle.org_fileset.specs.Entries.{IsEntryOf, changed};
-ghost use Rattle.org_fileset.specs.Left.{StaysLeftBy};
+ghost use Rattle.org_fileset.specs.Left.{EachIsLeft, IsLeft, StaysLeftBy};
 ghost use Rattle.org_fileset.specs.Recovery.{IsReopened, RecoversAsBefore};
 ghost use Rattle.org_fileset.specs.Replay.{IsAtRest, IsBeforeOrAfter, IsCommitted, IsMadeBy, RestsOn, files_on};
 ghost use Rattle.org_fileset.specs.Laws.{AllStable, AreAtRest, AreOtherFiles, IsOpenFor, IsBetween, IsFound, KeepsTexts, IsEachOldOrNew};
@@ -35,7 +35,7 @@ pub fn applied_twice_as_once()
     ensures entry { (entry : Entry) (text : List ℕ)
         → AreWellFormed (pairs_of entry.patches) entry.length
         → Fit (pairs_of entry.patches) entry.length (length text)
-        → IsMadeBy entry (made_by entry text) (made_by entry text) }
+        → IsMadeBy false entry (made_by entry text) (made_by entry text) }
 {}
 
 /// An entry that may not cut its file leaves all that the file has past the final length.
@@ -132,6 +132,9 @@ pub fn crashed_disk_opens_again()
     ensures again { (texts image : Image) (files : List ℕ → FileState) → AllStable files
         → RecoversTo texts (contents files) → RecoversAsBefore files image
         → RecoversTo texts image }
+    // Where that image has no file that is changed by its bytes, no image has one from then on.
+    ensures left { (files : List ℕ → FileState) → AllStable files → IsLeft (contents files)
+        → EachIsLeft files }
     // and where it is done, they are all there
     ensures opened { (texts : Image) (old new : List ℕ → FileState) → AllStable old
         → RecoversTo texts (contents old) → IsReopened old new → AreAtRest texts new }

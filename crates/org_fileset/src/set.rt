@@ -150,10 +150,10 @@ impl<D: Disk> FileSet<D> {
     /// is done the files are tried once more.
     ///
     /// Where all is on the disk when the call begins, then at every moment since what a crash
-    /// leaves recovers to all files as they were, or to all files with the changed texts; after Ok
-    /// all is on the disk again. No file is written but the changed ones and the journal, after
-    /// whose gate the record of the changes stays. Where nothing was changed, no call of the disk
-    /// is made.
+    /// leaves recovers to all files as they were, or to all files with the changed texts, and no file
+    /// of it is found to be changed by its bytes; after Ok all is on the disk again. No file is
+    /// written but the changed ones and the journal, after whose gate the record of the changes
+    /// stays. Where nothing was changed, no call of the disk is made.
     ///
     /// # Errors
     ///

@@ -80,15 +80,26 @@ def noted(calls: List[Call]) -> Iterator[int]:
         first += 1
 
 
+def of_calls(calls: List[Call], places: List[int]) -> Iterator[int]:
+    """Where the notes are that are of a call. Of a path that is too long the library makes none."""
+    before, made = 0, set(places)
+    for at in range(len(calls)):
+        if is_note(calls, at):
+            if made & set(range(before, at)):
+                yield at
+            before = at + 3
+
+
 def mutants(calls: List[Call], rng: random.Random) -> Iterator[Tuple[str, List[Call]]]:
     """One mutant of each kind, at a call by chance."""
     places = list(noted(calls))
     if not places:
         return
-    at = rng.choice(places)
+    # A listing takes as many calls as it needs, and what they list isn't noted.
+    single = [at for at in places if calls[at].name != "getdents64"]
+    at = rng.choice(single)
     yield "a call left out", calls[:at] + calls[at + 1:]
-    # A listing takes as many calls as it needs.
-    at = rng.choice([at for at in places if calls[at].name != "getdents64"])
+    at = rng.choice(single)
     yield "a call made twice", calls[:at + 1] + calls[at:]
     for kind, change in CHANGES.items():
         rng.shuffle(places)
@@ -97,6 +108,5 @@ def mutants(calls: List[Call], rng: random.Random) -> Iterator[Tuple[str, List[C
             if changed is not None:
                 yield kind, calls[:at] + [changed] + calls[at + 1:]
                 break
-    notes = [at for at in range(len(calls)) if is_note(calls, at)]
-    at = rng.choice(notes)
+    at = rng.choice(list(of_calls(calls, places)))
     yield "a note left out", calls[:at] + calls[at + 3:]

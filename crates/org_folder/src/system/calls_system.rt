@@ -288,12 +288,17 @@ fn cut_off<C: Calls>(calls: &mut C, opened: &Opened<C::File>, to: u64) -> io::Re
 }
 
 // The length of a file; what the system says of it is kept for the next try. While it is being
-// written for a record, it has to be as the calls so far left it: else another program wrote it
-// since, and the next try would take that for our own work.
+// written for a record, its name has to lead to it still, and it has to be as the calls so far left
+// it: else another program replaced or wrote it since, and the next try would take that for our own
+// work, or what is written next would go into a file that has no name.
 fn measured<C: Calls>(calls: &mut C, opened: &Opened<C::File>, is_written: bool) -> io::Result<u64>
     ensures { OnlyAsks (C.made calls.old) (C.made calls.new) }
 {
-    let status = calls.file_stat(&opened.handle)?;
+    let status = if is_written {
+        calls.stat(opened.name.as_str())?
+    } else {
+        calls.file_stat(&opened.handle)?
+    };
     if is_written {
         only_same(opened, &status)?;
     }

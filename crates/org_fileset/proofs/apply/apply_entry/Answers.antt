@@ -19,7 +19,7 @@ apply_patches-requires g c =
     }
 
 pub returns-in_err-before-clause-applies : goal.returns-in_err-before-clause-applies
-returns-in_err-before-clause-applies g c ended to takes =
+returns-in_err-before-clause-applies g c ended keep to takes =
     let looks = c.length_before.ensures.looks ended in
     applies_read (applies_none (g.D.Disk.instant c.args.disk.now) (g.D.Disk.left_since c.args.disk.now) (g.D.Disk.files c.args.disk.now) takes) looks.same looks.time
 
@@ -33,9 +33,9 @@ pub returns-in_err-before-clause-accounts : goal.returns-in_err-before-clause-ac
 returns-in_err-before-clause-accounts g c = accounts_failed c.from_residual.ensures.0 c.in_err-before.ensures.accounts
 
 pub returns-clause-applies : goal.returns-clause-applies
-returns-clause-applies g c ended to takes =
+returns-clause-applies g c ended keep to takes =
     let looks = c.length_before.ensures.looks (c.apply_patches.ensures.accounts.was_honest ended) in
-    applies_behind takes looks.same looks.time (λ still. c.apply_patches.ensures.applies ended to still)
+    applies_behind takes looks.same looks.time (λ still. c.apply_patches.ensures.applies ended keep to still)
 
 pub returns-clause-alone : goal.returns-clause-alone
 returns-clause-alone g c ended =

@@ -22,7 +22,7 @@ loop-patch-init g c = record {
   accounts = accounts_none g.D.Disk c.args.disk.now;
   content = λ honest. refl;
   alone = λ honest. alone_none g.D.Disk (λ other. other ≢ c.args.entry.now.name) c.args.disk.now;
-  applies = λ honest to takes. applies_none (g.D.Disk.instant c.args.disk.now) (g.D.Disk.left_since c.args.disk.now) (g.D.Disk.files c.args.disk.now) takes;
+  applies = λ honest keep to takes. applies_none (g.D.Disk.instant c.args.disk.now) (g.D.Disk.left_since c.args.disk.now) (g.D.Disk.files c.args.disk.now) takes;
 }
 
 pub write_patch-requires : goal.write_patch-requires
@@ -43,7 +43,7 @@ write_patch-requires g c =
     }
 
 pub returns-in_err-write_patch-clause-applies : goal.returns-in_err-write_patch-clause-applies
-returns-in_err-write_patch-clause-applies g c ended to takes =
+returns-in_err-write_patch-clause-applies g c ended keep to takes =
     let h = c.write_patch.ensures.accounts.was_honest ended in
     let can = c.requires.can (c.loop-patch.invariant.accounts.was_honest h) in
     let entry = c.args.entry.now in
@@ -51,7 +51,7 @@ returns-in_err-write_patch-clause-applies g c ended to takes =
     let is = pair_at c.as_slice-patch-items.result.now entry.patches c.loop-patch.patch-index patch c.as_slice-patch-items.ensures c.loop-patch-test.true c.patch-item.is in
     let le = next_within (pairs_of entry.patches) entry.length c.loop-patch.patch-index patch.from patch.bytes (g.D.Disk.files c.args.disk.now entry.name).content
     (g.D.Disk.files c.loop-patch.disk entry.name).content can.formed can.fits is (c.loop-patch.invariant.content h) in
-    applies_write c.loop-patch.patch-index c.write_patch.result can.formed is le (g.met.D.Disk.content_is_image c.loop-patch.disk entry.name h) (c.loop-patch.invariant.applies h to takes)
+    applies_write c.loop-patch.patch-index c.write_patch.result can.formed is le (g.met.D.Disk.content_is_image c.loop-patch.disk entry.name h) (c.loop-patch.invariant.applies h keep to takes)
     (c.write_patch.ensures.effect ended) (c.write_patch.ensures.time ended)
 
 pub loop-patch-preserved : goal.loop-patch-preserved
@@ -73,18 +73,18 @@ loop-patch-preserved g c =
           ∙ ap (λ (t : List ℕ). (write from bytes (record (mid name) { content = t })).content) (sofar.content (back ended))
           ∙ sym (patched_each-more patches c.loop-patch.patch-index from bytes (g.D.Disk.files c.args.disk.now name).content is);
       alone = λ ended. alone_more (sofar.alone (back ended)) (c.write_patch.ensures.effect ended) (c.write_patch.ensures.time ended);
-      applies = λ ended to takes.
+      applies = λ ended keep to takes.
           let can = c.requires.can (sofar.accounts.was_honest (back ended)) in
           let le = next_within patches c.args.entry.now.length c.loop-patch.patch-index from bytes (g.D.Disk.files c.args.disk.now name).content
           (mid name).content can.formed can.fits is (sofar.content (back ended)) in
-          applies_write c.loop-patch.patch-index c.write_patch.result can.formed is le (g.met.D.Disk.content_is_image c.loop-patch.disk name (back ended)) (sofar.applies (back ended) to takes)
+          applies_write c.loop-patch.patch-index c.write_patch.result can.formed is le (g.met.D.Disk.content_is_image c.loop-patch.disk name (back ended)) (sofar.applies (back ended) keep to takes)
           (c.write_patch.ensures.effect ended) (c.write_patch.ensures.time ended);
     }
 
 pub returns-in_err-length-clause-applies : goal.returns-in_err-length-clause-applies
-returns-in_err-length-clause-applies g c ended to takes =
+returns-in_err-length-clause-applies g c ended keep to takes =
     let looks = c.length.ensures.looks ended in
-    applies_read (c.loop-patch.invariant.applies (c.length.ensures.accounts.was_honest ended) to takes) looks.same looks.time
+    applies_read (c.loop-patch.invariant.applies (c.length.ensures.accounts.was_honest ended) keep to takes) looks.same looks.time
 
 pub cut-requires : goal.cut-requires
 cut-requires g c honest =
@@ -101,11 +101,11 @@ cuts g c h =
 
 -- .. and is cut
 cut_applies : (g : Over) (c : After-cut g) → g.D.Disk.honest c.cut.new.self → AppliesOver g.D.Disk c.args.entry.now c.args.disk.now c.cut.new.self
-cut_applies g c ended to takes =
+cut_applies g c ended keep to takes =
     let back = c.cut.ensures.accounts.was_honest ended in
     let h = c.length.ensures.accounts.was_honest back in
     let within : c.args.entry.now.length ≤ length (g.D.Disk.files c.loop-patch.disk c.args.entry.now.name).content = omega (arith, c.in_ok-length.ensures.value back) in
-    applies_cut c.cut.result (c.requires.can (c.loop-patch.invariant.accounts.was_honest h)).formed (cuts g c h) within (g.met.D.Disk.content_is_image c.length.new.self c.args.entry.now.name back) (c.loop-patch.invariant.applies h to takes)
+    applies_cut c.cut.result (c.requires.can (c.loop-patch.invariant.accounts.was_honest h)).formed (cuts g c h) within (g.met.D.Disk.content_is_image c.length.new.self c.args.entry.now.name back) (c.loop-patch.invariant.applies h keep to takes)
     (c.length.ensures.looks back).same (c.length.ensures.looks back).time (c.cut.ensures.effect ended) (c.cut.ensures.time ended)
 
 cut_alone : (g : Over) (c : After-cut g) → g.D.Disk.honest c.cut.new.self → LeavesAlone g.D.Disk (λ other. other ≢ c.args.entry.now.name) c.args.disk.now c.cut.new.self
@@ -120,9 +120,9 @@ pub returns-in_ok-cut-clause-applies : goal.returns-in_ok-cut-clause-applies
 returns-in_ok-cut-clause-applies g c = cut_applies g (goal.at.returns-in_ok-cut-clause-applies g c).After-cut
 
 pub returns-else-before-entry-clause-applies : goal.returns-else-before-entry-clause-applies
-returns-else-before-entry-clause-applies g c ended to takes =
+returns-else-before-entry-clause-applies g c ended keep to takes =
     let looks = c.length.ensures.looks ended in
-    applies_read (c.loop-patch.invariant.applies (c.length.ensures.accounts.was_honest ended) to takes) looks.same looks.time
+    applies_read (c.loop-patch.invariant.applies (c.length.ensures.accounts.was_honest ended) keep to takes) looks.same looks.time
 
 pub returns-in_err-write_patch-clause-alone : goal.returns-in_err-write_patch-clause-alone
 returns-in_err-write_patch-clause-alone g c ended =

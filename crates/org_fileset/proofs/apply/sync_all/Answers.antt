@@ -21,7 +21,7 @@ pub returns-in_err-sync-clause-replays : goal.returns-in_err-sync-clause-replays
 returns-in_err-sync-clause-replays g c =
     let is = slice_get_read c.args.entries.now (length c.args.entries.now) c.loop-entry.entry-index c.entry-item.result refl c.loop-entry-test.true c.entry-item.is in
     (calls_on g.D.Disk c.args.entries.now _ is c.requires c.loop-entry.invariant.goes c.sync.new.self c.sync.ensures.accounts.was_honest
-    (λ ended to takes. applies_sync c.sync.result takes (g.met.D.Disk.content_is_image c.loop-entry.disk c.entry-item.result.name (c.sync.ensures.accounts.was_honest ended)) (c.sync.ensures.effect ended) (c.sync.ensures.time ended))
+    (λ ended keep to takes. applies_sync c.sync.result takes (g.met.D.Disk.content_is_image c.loop-entry.disk c.entry-item.result.name (c.sync.ensures.accounts.was_honest ended)) (c.sync.ensures.effect ended) (c.sync.ensures.time ended))
     (λ ended. alone_called (c.sync.ensures.effect ended) (c.sync.ensures.time ended))).replays
 
 pub returns-in_err-sync-clause-alone : goal.returns-in_err-sync-clause-alone
@@ -42,7 +42,7 @@ loop-entry-preserved g c =
     let is = slice_get_read c.args.entries.now (length c.args.entries.now) c.loop-entry.entry-index entry refl c.loop-entry-test.true c.entry-item.is in
     record {
       goes = goes_on g.D.Disk c.args.entries.now _ is c.requires sofar.goes c.sync.new.self (accounts_call_ok c.in_ok-sync.ensures.accounts)
-          (λ ended to takes. applies_sync c.sync.result takes (g.met.D.Disk.content_is_image c.loop-entry.disk entry.name (back ended)) (c.sync.ensures.effect ended) (c.sync.ensures.time ended))
+          (λ ended keep to takes. applies_sync c.sync.result takes (g.met.D.Disk.content_is_image c.loop-entry.disk entry.name (back ended)) (c.sync.ensures.effect ended) (c.sync.ensures.time ended))
           (λ ended. alone_called (c.sync.ensures.effect ended) (c.sync.ensures.time ended));
       contents = λ ended name.
           elim (name_cases name entry.name) [

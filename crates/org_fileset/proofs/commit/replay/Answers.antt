@@ -1,4 +1,4 @@
-use Rattle.std.proofs.Common.{rules, ◌≡◌, inl, inr, ◌≤◌, ◌∷◌, ℕ, List, length, drop, IsErr, sym, ◌∙◌, ap, subst, arith}
+use Rattle.std.proofs.Common.{rules, ◌≡◌, inl, inr, ◌≤◌, ◌∷◌, ℕ, List, length, drop, IsErr, true, false, sym, ◌∙◌, ap, subst, arith}
 use Rattle.org_disk.specs.Disk.{FileState, IsStable}
 use Rattle.org_disk.specs.Names.{journal_name}
 use Rattle.org_disk.proofs.Accounting.{accounts_then, accounts_ok}
@@ -13,6 +13,7 @@ use Rattle.org_fileset.proofs.Writes.{alone_then, alone_applied, alone_journal}
 use Rattle.org_fileset.proofs.Takes.{journal_unnamed}
 use Rattle.org_fileset.proofs.Recovers.{replayed-takes}
 use Rattle.org_fileset.proofs.OpenGate.{replays_then, taking_recovers, replayable_open, still_open, still_replayable, IsDone, closing_recovers, closed_after, rest_after, open_long, on_ok_both, on_ok_never}
+use Rattle.org_fileset.proofs.Lefts.{body_left_by, taking_left}
 use Rattle.org_fileset.proofs.commit.replay.Goals as goal
 
 pub returns-in_err-apply_all : goal.returns-in_err-apply_all
@@ -24,12 +25,13 @@ returns-in_err-apply_all g c = record {
       let entries = c.args.entries.now in
       let files = g.D.Disk.files c.args.disk.now in
       let new = g.D.Disk.files c.apply_all.new.disk in
-      let applied = λ (can : IsReplayable entries files). c.apply_all.ensures.replays ended is.stable can.texts can.takes in
+      let applied = λ (can : IsReplayable entries files). c.apply_all.ensures.replays ended is.stable false can.texts can.takes in
       let failed : IsErr c.from_residual.result = search rules in
       record {
         any_moment = λ can. passes_as (applied can).any_moment (taking_recovers entries can.texts (files journal_name).content applicable is.opened is.found);
         recoverable = λ can. inr (replayable_open entries new applicable (still_open entries files new applicable is (c.apply_all.ensures.alone ended).same) (still_replayable can (applied can)));
         done = on_ok_never _ c.from_residual.result failed;
+        left = λ texts takes. passes_as (c.apply_all.ensures.replays ended is.stable true texts takes).any_moment (taking_left entries texts (files journal_name).content applicable is.found);
         alone = alone_applied g.D.Disk entries c.args.disk.now c.apply_all.new.disk (c.apply_all.ensures.alone ended);
       };
   accounts = accounts_failed c.from_residual.ensures.0 c.in_err-apply_all.ensures.accounts;
@@ -48,13 +50,17 @@ returns-in_err-sync_all g c = record {
       let last = g.D.Disk.files c.sync_all.new.disk in
       let is2 = still_open entries (g.D.Disk.files c.apply_all.new.disk) last applicable is1 (c.sync_all.ensures.alone ended).same in
       let synced = λ (can : IsReplayable entries files).
-      let applied = c.apply_all.ensures.replays h1 is.stable can.texts can.takes in
-      replays_then applicable applied (c.sync_all.ensures.replays ended is1.stable can.texts applied.takes) in
+      let applied = c.apply_all.ensures.replays h1 is.stable false can.texts can.takes in
+      replays_then applicable applied (c.sync_all.ensures.replays ended is1.stable false can.texts applied.takes) in
       let failed : IsErr c.from_residual-in_err-sync_all.result = search rules in
       record {
         any_moment = λ can. passes_as (synced can).any_moment (taking_recovers entries can.texts (files journal_name).content applicable is.opened is.found);
         recoverable = λ can. inr (replayable_open entries last applicable is2 (still_replayable can (synced can)));
         done = on_ok_never _ c.from_residual-in_err-sync_all.result failed;
+        left = λ texts takes.
+            let first = c.apply_all.ensures.replays h1 is.stable true texts takes in
+            let both = replays_then applicable first (c.sync_all.ensures.replays ended is1.stable true texts first.takes) in
+            passes_as both.any_moment (taking_left entries texts (files journal_name).content applicable is.found);
         alone = alone_then g.D.Disk (IsUnwritten entries) c.args.disk.now c.apply_all.new.disk c.sync_all.new.disk
             (alone_applied g.D.Disk entries c.args.disk.now c.apply_all.new.disk (c.apply_all.ensures.alone h1))
             (alone_applied g.D.Disk entries c.apply_all.new.disk c.sync_all.new.disk (c.sync_all.ensures.alone ended));
@@ -83,9 +89,9 @@ returns g c = record {
       let entries = c.args.entries.now in
       let applicable = (c.requires.applicable honest).applicable in
       let is = c.requires.opened honest in
-      let applied = λ (can : IsReplayable entries files). c.apply_all.ensures.replays h1 is.stable can.texts can.takes in
+      let applied = λ (can : IsReplayable entries files). c.apply_all.ensures.replays h1 is.stable false can.texts can.takes in
       let is1 = still_open entries files (g.D.Disk.files c.apply_all.new.disk) applicable is (c.apply_all.ensures.alone h1).same in
-      let synced = λ (can : IsReplayable entries files). replays_then applicable (applied can) (c.sync_all.ensures.replays h2 is1.stable can.texts (applied can).takes) in
+      let synced = λ (can : IsReplayable entries files). replays_then applicable (applied can) (c.sync_all.ensures.replays h2 is1.stable false can.texts (applied can).takes) in
       let last = g.D.Disk.files c.sync_all.new.disk in
       let is2 = still_open entries (g.D.Disk.files c.apply_all.new.disk) last applicable is1 (c.sync_all.ensures.alone h2).same in
       let made = λ (name : List ℕ). c.in_ok-sync_all.ensures.contents h2 name ∙ c.in_ok-apply_all.ensures.contents h1 name in
@@ -109,6 +115,11 @@ returns g c = record {
             (c.close_gate.ensures.any_moment ended)
             (closing_recovers entries can.texts last c.args.journal.now c.requires.journal applicable (λ name. g.met.D.Disk.content_is_image c.sync_all.new.disk name h2) (has can));
         recoverable = λ can. inl (λ name not. subst IsStable (sym (puts.others name not)) (stable can name));
+        left = λ texts takes.
+            let first = c.apply_all.ensures.replays h1 is.stable true texts takes in
+            let both = replays_then applicable first (c.sync_all.ensures.replays h2 is1.stable true texts first.takes) in
+            passes_then (passes_as both.any_moment (taking_left entries texts (files journal_name).content applicable is.found)) (c.close_gate.ensures.any_moment ended)
+            (body_left_by entries texts last c.args.journal.now c.requires.journal applicable is2.found both.takes);
         done = on_ok_both c.close_gate.result puts.stable puts.is (λ only zero. record {
           gate = closed_after (after journal_name) (drop 1 (last journal_name).content) only zero;
           journal = zero ∙ ap (λ (f : FileState). 0 ∷ drop 1 f.content) same;

@@ -14,6 +14,7 @@ use Rattle.org_fileset.proofs.Sizes.{recovered_few, answer_recovered, answer_siz
 use Rattle.org_fileset.proofs.Noted.{lengths_as}
 use Rattle.org_fileset.proofs.Starting.{since_start}
 use Rattle.org_fileset.proofs.Writes.{alone_looks, alone_then}
+use Rattle.org_fileset.proofs.Commits.{rest_left}
 use Rattle.org_fileset.proofs.Recovering.{as_before}
 use Rattle.org_fileset.proofs.Sorted.{left_after}
 use Rattle.org_fileset.proofs.open.make_ready.Goals as goal
@@ -21,7 +22,7 @@ use Rattle.org_fileset.proofs.open.make_ready.Goals as goal
 pub returns-in_err-recover-clause-reopens : goal.returns-in_err-recover-clause-reopens
 returns-in_err-recover-clause-reopens g c ended =
     let made = c.recover.ensures.reopens ended in
-    record { done = passed_never _ _ c.from_residual.result c.from_residual.ensures.1; any_moment = made.any_moment; recoverable = made.recoverable; bad = made.bad; idle = made.idle; alone = made.alone }
+    record { done = passed_never _ _ c.from_residual.result c.from_residual.ensures.1; any_moment = made.any_moment; recoverable = made.recoverable; left = made.left; bad = made.bad; idle = made.idle; alone = made.alone }
 
 pub returns-clause-reopens : goal.returns-clause-reopens
 returns-clause-reopens g c ended =
@@ -37,6 +38,8 @@ returns-clause-reopens g c ended =
       any_moment = λ fit each. since_start (passes_then (made.any_moment fit each).passes looks.time (left_after old mid own made.done.recovered_then (made.done.rest fit each)))
           old (g.met.D.Disk.only_now c.args.disk.now) honest (as_before old each);
       recoverable = λ fit each. subst IsRecoverable (sym looks.same) (made.recoverable fit each);
+      left = λ fit each kept. since_start (passes_then (made.left fit each kept).passes looks.time (rest_left mid (made.done.rest fit each)))
+          old (g.met.D.Disk.only_now c.args.disk.now) honest kept;
       bad = λ none. absurd (subst (λ (o : Option Image). IsSomeAnd o (SameFiles (contents mid))) none made.done.recovered_then);
       idle = λ closed.
           let leaves = made.idle closed in

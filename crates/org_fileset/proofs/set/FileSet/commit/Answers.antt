@@ -20,7 +20,7 @@ use Rattle.org_fileset.proofs.Recorded.{changes_applicable, changes_fit}
 use Rattle.org_disk.proofs.Accounting.{accounts_none, accounts_ok}
 use Rattle.org_journal.proofs.Accounted.{accounts_answered, accounts_failed, accounts_quiet}
 use Rattle.org_fileset.proofs.Sets.{keeps_whole, keeps_broken, keeps_refused, broken_apart, ok_apart, device_apart}
-use Rattle.org_fileset.proofs.Committing.{committable, all_edits, changes_formed, commits_none, commits_record, commits_refused, has_record}
+use Rattle.org_fileset.proofs.Committing.{committable, all_edits, changes_formed, commits_left, commits_none, none_left, commits_record, commits_refused, has_record}
 use Rattle.org_fileset.proofs.set.FileSet.commit.Given.{Over}
 use Rattle.org_fileset.proofs.set.FileSet.commit.Goals as goal
 use Rattle.org_fileset.proofs.set.FileSet.commit.Goals.{After-encode, Else-len-eq0}
@@ -37,6 +37,7 @@ returns-then-self-clause-commits g c = record {
       let after = changed (g.C.Changes.pairs c.args.changes.now) (contents (d.files disk)) in
       commits_none d after (IsOther (keys_of (g.C.Changes.pairs c.args.changes.now))) disk (Err Broken) (λ image left. g.met.D.Disk.only_now disk image honest left) tt;
   record_stands = λ honest. tt;
+  left = λ honest. none_left g.D.Disk c.args.self.now.disk (λ image left. g.met.D.Disk.only_now c.args.self.now.disk image honest left);
   memory = λ e. refl;
   set = rw (← c.self.view_is) (keeps_refused _ c.if-self.true);
   accounts = accounts_quiet broken_apart (accounts_none _ _);
@@ -56,6 +57,7 @@ returns-then-len-eq0-clause-commits g c = record {
       λ honest. let changes = g.C.Changes.pairs c.args.changes.now in
       let none : changes ≡ [] = nil_from_length changes (omega (arith, c.if-len-eq0.true, c.len.ensures.len)) in
       rw none tt;
+  left = λ honest. none_left g.D.Disk c.args.self.now.disk (λ image left. g.met.D.Disk.only_now c.args.self.now.disk image honest left);
   memory = λ e. refl;
   set = rw (← c.self.view_is) (keeps_whole _ _ refl c.if-self.false c.if-self.false (Ok (tt {0})) (λ e. cc e) (λ e. cc e));
   accounts = accounts_answered (accounts_none _ _);
@@ -84,6 +86,18 @@ says g c honest =
     says_lengths set.names.items set.lengths.items (contents (g.D.Disk.files set.disk)) changes c.in_ok-entries.entries.items (c.self.invariant.lengths_are c.if-self.false honest)
     c.in_ok-entries.ensures.entries (recursion_from_All (λ (change : List ℕ × EditedText). Contains set.names.items change.0) changes named) sizes
 
+-- .. and they can be applied
+can : (g : Over) (c : After-encode g) → g.D.Disk.honest c.self.inside.disk → AreApplicableTo c.in_ok-entries.entries.items (g.D.Disk.files c.self.inside.disk)
+can g c honest =
+    let named = rw (← c.self.view_is) at c.requires.named in
+    let edits = (rw (← c.self.view_is) at c.requires.edits) c.if-self.false in
+    let changes = g.C.Changes.pairs c.args.changes.now in
+    let are = c.in_ok-entries.ensures.entries in
+    record {
+      applicable = changes_applicable changes c.in_ok-entries.entries.items are c.in_ok-entries.ensures.distinct (committable c.self.inside.names.items changes c.self.invariant.each named c.requires.small);
+      fits = changes_fit changes c.in_ok-entries.entries.items (contents (g.D.Disk.files c.self.inside.disk)) are (all_edits (contents (g.D.Disk.files c.self.inside.disk)) changes (edits honest));
+    }
+
 pub returns-in-Ok : goal.returns-in-Ok
 returns-in-Ok g c = record {
   commits = record {
@@ -97,6 +111,12 @@ returns-in-Ok g c = record {
         λ ended. let journal = contents (g.D.Disk.files c.commit_entries.new.disk) journal_name in
         has_record (g.C.Changes.pairs c.args.changes.now) c.in_ok-entries.entries.items journal c.in_ok-entries.ensures.entries
         ((c.in-Ok.ensures.commits ended).closed.found ∙ ap (λ (l : List Entry). let o : Option (List Entry) = Some l in o) (c.as_slice.ensures ∙ c.new-record.ensures));
+    left = rw (← c.self.view_is) (λ ended rest.
+        let honest = c.commit_entries.ensures.accounts.was_honest ended in
+        let edits = (rw (← c.self.view_is) at c.requires.edits) c.if-self.false honest in
+        let at = (goal.at.returns-in-Ok g c).After-encode in
+        commits_left g.D.Disk (g.C.Changes.pairs c.args.changes.now) c.in_ok-entries.entries.items _ c.self.inside.disk c.commit_entries.new.disk (Ok tt) c.in_ok-entries.ensures.entries
+        (says g at honest) (c.as_slice.ensures ∙ c.new-record.ensures) edits (can g at honest) (λ image left. g.met.D.Disk.only_now c.self.inside.disk image honest left) (c.in-Ok.ensures.commits ended) rest);
     memory = λ e. absurd (ok_apart e);
     set = rw (← c.self.view_is) (keeps_whole _ _ refl c.if-self.false c.if-self.false (Ok (tt {0})) (λ e. cc e) (λ e. cc e));
     accounts = rw (← c.self.view_is) (accounts_answered (accounts_ok c.in-Ok.ensures.accounts));
@@ -114,6 +134,12 @@ returns g c = record {
         commits_record g.D.Disk (g.C.Changes.pairs c.args.changes.now) c.in_ok-entries.entries.items _ c.self.inside.disk c.commit_entries.new.disk c.commit_entries.result (Err Device) (some g (goal.at.returns g c).Else-len-eq0) c.in_ok-entries.ensures.entries
         (says g (goal.at.returns g c).After-encode honest) (c.as_slice.ensures ∙ c.new-record.ensures) edits (c.commit_entries.ensures.commits ended) (λ made. tt));
     record_stands = λ honest. tt;
+    left = rw (← c.self.view_is) (λ ended rest.
+        let honest = c.commit_entries.ensures.accounts.was_honest ended in
+        let edits = (rw (← c.self.view_is) at c.requires.edits) c.if-self.false honest in
+        let at = (goal.at.returns g c).After-encode in
+        commits_left g.D.Disk (g.C.Changes.pairs c.args.changes.now) c.in_ok-entries.entries.items _ c.self.inside.disk c.commit_entries.new.disk c.commit_entries.result c.in_ok-entries.ensures.entries
+        (says g at honest) (c.as_slice.ensures ∙ c.new-record.ensures) edits (can g at honest) (λ image left. g.met.D.Disk.only_now c.self.inside.disk image honest left) (c.commit_entries.ensures.commits ended) rest);
     memory = λ e. absurd (device_apart e);
     set = rw (← c.self.view_is) (keeps_broken _ _ refl c.if-self.false refl);
     accounts = rw (← c.self.view_is) (accounts_failed refl c.in-Err.ensures.accounts);

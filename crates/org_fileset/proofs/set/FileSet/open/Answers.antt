@@ -12,6 +12,7 @@ use Rattle.org_fileset.proofs.Accounted.{accounts_fault}
 use Rattle.org_fileset.proofs.Sets.{ok_apart}
 use Rattle.org_fileset.proofs.Sizes.{names_reason, names_apart}
 use Rattle.org_fileset.proofs.Starting.{since_start}
+use Rattle.org_fileset.specs.Left.{IsLeft}
 use Rattle.org_fileset.proofs.Recovering.{as_before}
 use Rattle.org_fileset.proofs.set.FileSet.open.Goals as goal
 
@@ -28,6 +29,7 @@ returns-in-Err-clause-opens g c =
             done = tt;
             any_moment = λ fit each. since_start (passes_none (d.instant disk) (d.left_since disk) (RecoversAsBefore old)) old (g.met.D.Disk.only_now disk) honest (as_before old each);
             recoverable = λ fit each. fit;
+            left = λ fit each kept. since_start (passes_none (d.instant disk) (d.left_since disk) IsLeft) old (g.met.D.Disk.only_now disk) honest kept;
             bad = λ none. same;
             idle = λ closed. same;
             alone = alone_none d (IsUnconcerned (contents old journal_name)) disk;
@@ -40,7 +42,7 @@ pub returns-in-Err-make_ready-clause-opens : goal.returns-in-Err-make_ready-clau
 returns-in-Err-make_ready-clause-opens g c = record {
   reopens = λ ended.
       let made = c.in-Err-make_ready.ensures.reopens ended in
-      record { done = tt; any_moment = made.any_moment; recoverable = made.recoverable; bad = made.bad; idle = made.idle; alone = made.alone };
+      record { done = tt; any_moment = made.any_moment; recoverable = made.recoverable; left = made.left; bad = made.bad; idle = made.idle; alone = made.alone };
   refused = record { reason = search rules; unused = λ is. absurd (c.in-Err-make_ready.ensures.not_too_many (ap (λ e. Err e) is)) };
   accounts = accounts_fault c.in-Err-make_ready.ensures.accounts;
 }
@@ -49,7 +51,7 @@ pub returns-in-Ok-make_ready-clause-opens : goal.returns-in-Ok-make_ready-clause
 returns-in-Ok-make_ready-clause-opens g c = record {
   reopens = λ ended.
       let made = c.in-Ok-make_ready.ensures.reopens ended in
-      record { done = made.done; any_moment = made.any_moment; recoverable = made.recoverable; bad = made.bad; idle = made.idle; alone = made.alone };
+      record { done = made.done; any_moment = made.any_moment; recoverable = made.recoverable; left = made.left; bad = made.bad; idle = made.idle; alone = made.alone };
   refused = tt;
   accounts = accounts_fine ok_apart c.in-Ok-make_ready.ensures.accounts;
 }
