@@ -104,6 +104,16 @@ static void look_at(const char *name)
         fail("statx");
 }
 
+/* Passes over what an entry says of its file as it was before: its length, and the bytes beside the patches. */
+static void pass_before(const unsigned char **at)
+{
+    number(at, 8);
+    for (int beside = 0; beside < 2; beside++) {
+        uint64_t count = number(at, 1);
+        *at += count;
+    }
+}
+
 /* Tries the files of a record. */
 static void try_files(const unsigned char *at)
 {
@@ -112,6 +122,7 @@ static void try_files(const unsigned char *at)
         struct file *one = opened(at, named);
         look_at(one->name);
         at += named + 8;
+        pass_before(&at);
         for (uint64_t patches = number(&at, 4); patches > 0; patches--) {
             number(&at, 8);
             uint64_t count = number(&at, 8);
@@ -127,9 +138,12 @@ static void lay(const unsigned char *at)
     uint64_t entries = number(&at, 4);
     for (uint64_t entry = 0; entry < entries; entry++) {
         size_t named = number(&at, 2);
-        int fd = changed[entry] = opened(at, named)->fd;
+        struct file *one = opened(at, named);
+        int fd = changed[entry] = one->fd;
         at += named;
         uint64_t final = number(&at, 8);
+        pass_before(&at);
+        look_at(one->name);
         for (uint64_t patches = number(&at, 4); patches > 0; patches--) {
             uint64_t from = number(&at, 8), count = number(&at, 8);
             if (count > 0)
@@ -155,6 +169,7 @@ static void commit(void)
     put_at(journal, script, body, 1);
     sync_data(journal);
     set_gate(1);
+    try_files(script + HEADER);
     lay(script + HEADER);
     set_gate(0);
     try_files(script + HEADER);
