@@ -1,0 +1,12 @@
+pub mod Accounts
+pub mod EachLine
+pub mod EachRow
+pub mod Files
+pub mod Filling
+pub mod InOrder
+pub mod Inside
+pub mod Merging
+pub mod Ordering
+pub mod Pieces
+pub mod Singles
+pub mod Tags

@@ -1,0 +1,13 @@
+use Rattle.std.proofs.Common.{◌≡◌, length, arith}
+use Rattle.std.proofs.lemmas.Grind.{common_steps}
+use Rattle.org_account.specs.Text.{IsAlone}
+use Rattle.org_account.proofs.EachLine.{each_none, each_more}
+use Rattle.org_account.proofs.union.are_alone.Goals as goal
+
+pub loop-left-preserved : goal.loop-left-preserved
+loop-left-preserved c = λ all. c.loop-left.invariant (each_more (IsAlone c.args.texts.now c.args.line.now) c.loop-left.left.now _ c.first_line.result.1.now c.first_line.ensures.lines (c.is_alone.ensures c.if-not-is_alone.false) all)
+
+pub returns : goal.returns
+returns c =
+    let empty : length c.loop-left.left.now ≡ 0 = grind (arith, common_steps) in
+    λ yes. c.loop-left.invariant (each_none (IsAlone c.args.texts.now c.args.line.now) c.loop-left.left.now empty)
