@@ -1,13 +1,10 @@
--- Templates filled in, piece by piece.
-use Rattle.std.proofs.Common.{arith, ◌≡◌, ℕ, ◌+◌, ◌<◌, true, false, List, [], ◌∷◌, ◌++◌, length, take, get_or, eqb, Some, None, Err, refl, sym, ◌∙◌, ap, append_assoc, inl, inr}
+-- The initial text put after a prefix, byte by byte.
+use Rattle.std.proofs.Common.{arith, ◌≡◌, ℕ, ◌+◌, ◌<◌, true, false, List, [], ◌∷◌, ◌++◌, length, take, get_or, eqb, refl, sym, ◌∙◌, ap, append_assoc, inl, inr}
 use Rattle.std.proofs.lemmas.Grind.{common_steps}
 use Rattle.std.specs.List.{list_any}
 use Rattle.std.proofs.lemmas.Bool.{cases_Bool}
 use Rattle.std.proofs.lemmas.List.{append-nil, take_more}
-use Rattle.org_stamp.specs.Calendar.{Moment}
-use Rattle.org_capture.specs.declared.piece.Piece.{Piece}
-use Rattle.org_fault.specs.declared.refusal.Refusal.TheVariants.{BadTemplate}
-use Rattle.org_capture.specs.Template.{last_line, with_prefix, text_of, filled}
+use Rattle.org_capture.specs.Template.{with_prefix}
 
 pub with_prefix-append : (prefix xs ys : List ℕ) → with_prefix prefix (xs ++ ys) ≡ with_prefix prefix xs ++ with_prefix prefix ys
 with_prefix-append prefix [] ys = refl
@@ -31,15 +28,6 @@ pushed_newline start prefix bytes old new i b lt is e was put =
     let one : with_prefix prefix (b ∷ []) ≡ b ∷ prefix = rw e (ap (λ (l : List ℕ). b ∷ l) (append-nil prefix)) in
     put ∙ append_assoc old (b ∷ []) prefix ∙ ap (λ l. l ++ (b ∷ prefix)) was ∙ append_assoc start (with_prefix prefix (take i bytes)) (b ∷ prefix)
     ∙ ap (λ l. start ++ (with_prefix prefix (take i bytes) ++ l)) (sym one) ∙ ap (λ l. start ++ l) (sym (more_is prefix bytes i b lt is))
-
--- ---- a piece more
-
-pub fills : (m : Moment) (initial old more new : List ℕ) (pieces rest : List Piece) (piece : Piece) → pieces ≡ piece ∷ rest → text_of m initial (last_line old) piece ≡ Some more → new ≡ old ++ more
-    → filled m initial old pieces ≡ filled m initial new rest
-fills m initial old more new pieces rest piece is said put = rw (is, said) (ap (λ t. filled m initial t rest) (sym put))
-
-pub fills_badly : (m : Moment) (initial old : List ℕ) (pieces rest : List Piece) (piece : Piece) → pieces ≡ piece ∷ rest → text_of m initial (last_line old) piece ≡ None → filled m initial old pieces ≡ Err BadTemplate
-fills_badly m initial old pieces rest piece is said = rw (is, said) refl
 
 -- bytes without a newline have no place for a prefix
 pub with_prefix-none : (prefix bytes : List ℕ) → list_any (λ b. eqb b 10) bytes ≡ false → with_prefix prefix bytes ≡ bytes

@@ -4,7 +4,6 @@ pub mod Insertions
 pub mod Walk
 pub mod DateTrees
 pub mod Fillings
-pub mod Counting
 pub mod Rows
 pub mod NoDigit
 pub mod Numbers

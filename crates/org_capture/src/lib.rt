@@ -7,7 +7,6 @@ mod dates;
 mod entries;
 mod inserting;
 pub mod laws;
-mod lengths;
 mod made_heads;
 mod piece;
 mod target;
@@ -15,6 +14,5 @@ mod template;
 
 pub use capturing::capture;
 pub use entries::entry;
-pub use lengths::expanded_length;
 pub use target::Target;
 pub use template::expand;

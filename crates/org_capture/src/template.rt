@@ -1,20 +1,20 @@
 //! Templates filled in (Org manual, "Template expansion").
 //!
 //! What was put in isn't read for escapes again.
-ghost use Rattle.std.specs.Prelude.{◌≡◌, ℕ, List, ◌++◌, ◌≤◌, length, not, ◌==◌, OnOk};
+ghost use Rattle.std.specs.Prelude.{◌≡◌, ℕ, List, ◌++◌, ◌+◌, ◌<◌, ◌≤◌, ◌^◌, count_by, length, not, ◌==◌, MatchResult, OnOk};
 ghost use Rattle.std.specs.List.{suffix_len};
 ghost use Rattle.org_stamp.specs.Calendar.{Moment};
 ghost use Rattle.org_capture.specs.Template.{expanded, filled, last_line, pieces_of, text_of, with_prefix};
 ghost use Rattle.org_capture.specs.Answers.{Adds, AnswersBytes};
 
 use crate::piece::{Piece, first_piece};
-use memchr::{memchr, memrchr};
+use memchr::{memchr, memchr_iter, memrchr};
 use org_fault::{Fault, Refusal};
 use org_stamp::{Moment, Stamp};
 use std::alloc::{AllocError, Global};
 
 /// How many bytes stand after the last newline.
-pub(crate) fn last_line_len(text: &[u8]) -> usize
+fn last_line_len(text: &[u8]) -> usize
     ensures count { result ≡ suffix_len (λ b. not (b == 10)) text.now }
     ensures within { result ≤ length text.now }
 {
@@ -32,7 +32,7 @@ fn last_line(text: &[u8]) -> &[u8]
 }
 
 /// What stands before the first percent sign, and what begins with it: the first stays as it is.
-pub(crate) fn split_plain(template: &[u8]) -> (&[u8], &[u8])
+fn split_plain(template: &[u8]) -> (&[u8], &[u8])
     ensures plain { (moment : Moment) (initial text : List ℕ)
         → filled moment initial text (pieces_of template.now)
         ≡ filled moment initial (text ++ result.0.now) (pieces_of result.1.now) }
@@ -55,6 +55,42 @@ fn push_with_prefix(text: &mut Vec<u8>, prefix: &[u8], bytes: &[u8]) -> Result<(
     Ok(())
 }
 
+/// The most bytes that a filled template has, twice those of the largest file. A line with many
+/// initial texts, of which each repeats those before it, would make some hundred thousand times as
+/// many as it has.
+const MOST: usize = 1 << 27;
+
+/// Whether so many bytes more are too many for a filled template: then there is no memory for them.
+fn check_room(text: &[u8], more: usize) -> Result<(), AllocError>
+    ensures { MatchResult result (λ _. length text.now + more ≤ 2 ^ 27)
+        (λ _. 2 ^ 27 < length text.now + more) }
+{
+    if text.len().saturating_add(more) > MOST {
+        return Err(AllocError);
+    }
+    Ok(())
+}
+
+/// How many newlines the text has.
+fn newlines(text: &[u8]) -> usize
+    ensures { result ≡ count_by (λ b. b == 10) text.now }
+{
+    memchr_iter(b'\n', text).count()
+}
+
+/// Puts the initial text after a text, each line of it but the first after what stands on the
+/// text's last one.
+fn push_initial(alloc: Global, text: &mut Vec<u8>, initial_text: &[u8]) -> Result<(), AllocError>
+    ensures { OnOk result (text.new.items
+        ≡ text.old.items ++ with_prefix (last_line text.old.items) initial_text.now) }
+{
+    let line = last_line(text.as_slice());
+    let prefixes = newlines(initial_text).saturating_mul(line.len());
+    check_room(text.as_slice(), prefixes.saturating_add(initial_text.len()))?;
+    let prefix = line.to_vec(alloc)?;
+    push_with_prefix(text, prefix.as_slice(), initial_text)
+}
+
 /// Puts what a piece stands for after the text.
 fn push_piece(
     alloc: Global,
@@ -74,11 +110,11 @@ fn push_piece(
         }
         // Without a newline no prefix is looked for, so that many of them on one line are put in at
         // once.
-        Piece::Initial if !initial_text.contains(&b'\n') => text.extend_from_slice(initial_text)?,
-        Piece::Initial => {
-            let prefix = last_line(text.as_slice()).to_vec(alloc)?;
-            push_with_prefix(text, prefix.as_slice(), initial_text)?;
+        Piece::Initial if !initial_text.contains(&b'\n') => {
+            check_room(text.as_slice(), initial_text.len())?;
+            text.extend_from_slice(initial_text)?;
         }
+        Piece::Initial => push_initial(alloc, text, initial_text)?,
         Piece::Cursor => {}
         Piece::Unknown => return Err(Fault::Refused(Refusal::BadTemplate)),
     }
@@ -94,7 +130,7 @@ fn push_piece(
 /// # Errors
 ///
 /// - `BadTemplate`: a percent sign before another letter, or before one of `( [ < ^ : * \`.
-/// - `OutOfMemory`.
+/// - `OutOfMemory`, also where it stands for more than 2^27 bytes.
 pub fn expand(
     alloc: Global,
     template: &[u8],

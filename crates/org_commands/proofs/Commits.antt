@@ -17,6 +17,7 @@ use Rattle.org_journal.specs.Recovered.{Image, SameFiles, contents}
 use Rattle.org_fileset.specs.Entries.{changed}
 use Rattle.org_fileset.specs.declared.fault.SetFault.{SetFault}
 use Rattle.org_fileset.specs.declared.fault.SetFault.TheVariants as set_fault
+use Rattle.org_fileset.specs.Left.{IsLeft}
 use Rattle.org_fileset.specs.Names.{limit}
 use Rattle.org_fileset.specs.Replay.{CommitsOver, IsAtRest}
 use Rattle.org_fileset.specs.Writes.{LeavesAlone, IsOther}
@@ -151,14 +152,15 @@ module _ {D : Type 0} (g : Ghosts D) (names : List (List ℕ)) (live : Type 0) (
   alone_dirty alone = subst (λ (ns : List (List ℕ)). LeavesAlone g (IsOther ns) old new) (pairs_keys set set.dirty) alone
 
   pub commit_failed : {A E : Type 0} (result : Result A E) (fault : E) → CommitsOver g (changed (pairs set) before) (IsOther (keys_of (pairs set))) old new result
-      → CommitsTexts {A = A} g names set.dirty after old new (Err fault)
-  commit_failed result fault commits = record { texts = tt; others = tt; rest = tt; any_moment = any_moment result commits; recoverable = commits.recoverable; alone = alone_dirty commits.alone }
+      → (IsAtRest (g.files old) → LeavesOver g old new IsLeft) → CommitsTexts {A = A} g names set.dirty after old new (Err fault)
+  commit_failed result fault commits left = record { texts = tt; others = tt; rest = tt; any_moment = any_moment result commits; left = left; recoverable = commits.recoverable; alone = alone_dirty commits.alone }
 
   pub made_held : SameFiles (contents (g.files new)) (changed (pairs set) before) → SameFiles (contents (g.files new)) (held_over set before)
   made_held made name not = made name not ∙ is_held name
 
-  pub commit_done : {A E : Type 0} (a : A) → CommitsOver {A = A} {E = E} g (changed (pairs set) before) (IsOther (keys_of (pairs set))) old new (Ok a) → CommitsTexts {A = A} {E = E} g names set.dirty after old new (Ok a)
-  commit_done a commits =
+  pub commit_done : {A E : Type 0} (a : A) → CommitsOver {A = A} {E = E} g (changed (pairs set) before) (IsOther (keys_of (pairs set))) old new (Ok a)
+      → (IsAtRest (g.files old) → LeavesOver g old new IsLeft) → CommitsTexts {A = A} {E = E} g names set.dirty after old new (Ok a)
+  commit_done a commits left =
       let now : texts_of (contents (g.files new)) names ≡ after = texts_same (contents (g.files new)) (held_over set before) names
       (λ name there. made_held commits.done.made name (apart_from names apart name there)) in
       record {
@@ -166,6 +168,7 @@ module _ {D : Type 0} (g : Ghosts D) (names : List (List ℕ)) (live : Type 0) (
         others = subst (λ (texts : List (List ℕ)). SameFiles (contents (g.files new)) (with_texts names texts before)) now (others_committed names before (contents (g.files new)) (changed (pairs set) before) outside commits.done.made);
         rest = commits.done.rest;
         any_moment = any_moment (Ok a) commits;
+        left = left;
         recoverable = commits.recoverable;
         alone = alone_dirty commits.alone;
       }

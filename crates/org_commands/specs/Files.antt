@@ -12,6 +12,7 @@ use Rattle.org_journal.specs.Recovered.{Image, IsRecoverable, SameFiles, content
 use Rattle.org_fileset.specs.declared.fault.SetFault.{SetFault}
 use Rattle.org_fileset.specs.declared.fault.SetFault.TheVariants as set_fault
 use Rattle.org_fileset.specs.declared.open.OpenRefused.{OpenRefused}
+use Rattle.org_fileset.specs.Left.{IsLeft}
 use Rattle.org_fileset.specs.Names.{limit}
 use Rattle.org_fileset.specs.Opening.{IsOpenedFor, disk_in}
 use Rattle.org_fileset.specs.Replay.{IsAtRest}
@@ -183,6 +184,8 @@ pub record CommitsTexts {D A E : Type 0} (g : Ghosts D)
   -- where all was on the disk: what a crash at any moment since the call began leaves
   pub any_moment : IsAtRest (g.files old)
       → LeavesOver g old new (HoldsEither names (contents (g.files old)) after)
+  -- .. and in it no file is found to be changed by its bytes
+  pub left : IsAtRest (g.files old) → LeavesOver g old new IsLeft
   -- after a failure too, it may be opened again
   pub recoverable : IsAtRest (g.files old) → IsRecoverable (g.files new)
   pub alone : LeavesAlone g (IsOther dirty) old new

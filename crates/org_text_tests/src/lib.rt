@@ -2,8 +2,6 @@
 #![tactic(auto)]
 
 #[cfg(test)]
-mod capture;
-#[cfg(test)]
 mod meta;
 #[cfg(test)]
 mod outline;

@@ -221,17 +221,24 @@ EXPANDED_BELOW = [
     ("a%ib%ic", "1\n2", "a1\na2b1\na2b2c"),
 ]
 
-# The same where they are nearly as long as a line may be.
+# The same where they are nearly as long as a line may be; or the reply where they would make too much.
 MANY = 1 << 17
+FITS_NO_FILE, TAKES_TOO_MUCH = "refused %s\n" % TOO_LARGE, "fault OutOfMemory\n"
 LONG = [
     (MANY * "- ab\n", "", MANY * "- ab\n"),
     (MANY * "1%?%", "", MANY * "1%" + "\n"),
     (MANY * "%i", "x", MANY * "x" + "\n"),
     (MANY * "%i" + "x", "", "x\n"),
     ("> %i", MANY * "\n", MANY * "> \n" + "> \n"),
-    (513 * "%i", MANY * "y", TOO_LARGE),
+    (513 * "%i", MANY * "y", FITS_NO_FILE),
+    (1023 * "%i", MANY * "y", FITS_NO_FILE),
+    (1024 * "%i", MANY * "y", TAKES_TOO_MUCH),
+    ("> " + (MANY - 2) * ">" + "%i", 1022 * "\n", FITS_NO_FILE),
+    ("> " + (MANY - 2) * ">" + "%i", 1023 * "\n", TAKES_TOO_MUCH),
     # each initial text has one byte more of its line before it than the last one had
     (4096 * "%i", "b\nb", "".join(n * "b" + "\n" for n in range(1, 4097)) + 4096 * "b" + "\n"),
+    # .. so that these would have 8 GiB
+    (MANY * "%i", "b\nb", TAKES_TOO_MUCH),
 ]
 
 # What a.org is, the file of a capture, what its entry goes below, its template, and why it is refused.
@@ -307,8 +314,8 @@ def long_templates(room):
     for template, initial, made in LONG:
         folder = room.folder({"a.org": ""})
         reply = run(folder, capture("a.org", "top", "last", "* N\n" + template, initial))
-        is_refused = made is TOO_LARGE
-        wanted = ("refused %s\n" % made, b"") if is_refused else (SAFE, b"* N\n" + made.encode())
+        stays = made in (FITS_NO_FILE, TAKES_TOO_MUCH)
+        wanted = (made, b"") if stays else (SAFE, b"* N\n" + made.encode())
         room.judge("a long template: " + template[:10], (reply, held(folder, "a.org")) == wanted, True)
 
 

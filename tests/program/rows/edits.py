@@ -1,4 +1,4 @@
-"""Edits: bytes of a file in the place of others."""
+"""Edits: bytes of a file in place of others."""
 import os
 import random
 import re

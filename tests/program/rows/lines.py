@@ -91,7 +91,7 @@ ARCHIVE_LINES = [
      + shown("#+archive:  b.org::* Old \n",
              "* Old\n** x\n** A\n:PROPERTIES:\n:ARCHIVE_TIME: 2026-07-01 Wed 10:00\n:ARCHIVE_FILE: a.org\n"
              ":ARCHIVE_CATEGORY: a\n:END:\n* New\n")),
-    # the first line alone, and the name in the place of each sign for it
+    # the first line alone, and the name in place of each sign for it
     ("x\n  #+ARCHIVE: %s_archive::\n#+ARCHIVE: b.org::\n* A\n", "",
      "archive\ta.org\tA\t2026-07-01 10:00\nshow\ta.org_archive\nshow\tb.org\n",
      "ok 1\nsafe 1\n"

@@ -96,7 +96,7 @@ CAPTURED = [
 
 
 def line(text):
-    """The command line that is written with commas in the place of tabs, and M in that of the moment."""
+    """The command line that is written with commas for tabs, and M for the moment."""
     return text.replace(",", "\t").replace("M", NOW) + "\n"
 
 

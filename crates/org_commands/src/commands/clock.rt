@@ -150,7 +150,8 @@ fn plan_move<'a>(
     Ok(plan_of_two(alloc, file, stop, to_file, start))
 }
 
-/// The heading at a path of one of the files. No text changes.
+/// The heading at a path of one of the files. No text changes: where a clock is to be stopped in
+/// another file, that one is touched first.
 fn look_up_in<D: Disk>(
     files: &mut Files<D>,
     states: &States,

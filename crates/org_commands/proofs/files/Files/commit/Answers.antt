@@ -47,7 +47,7 @@ returns-in_err-commit-clause-commits g c =
       commits = rw (← c.self.view_is) (λ honest.
           subst (λ r. CommitsTexts d inside.set.names inside.texts.now.dirty (texts_of (held_over inside.texts.now (contents (d.files inside.set.disk))) inside.set.names) inside.set.disk c.commit.new.self.disk r) (sym given)
           (commit_failed d inside.set.names ((inside.set.broken ≡ false) × d.honest inside.set.disk) inside.set.disk c.commit.new.self.disk inside.texts.now c.self.invariant.0.apart c.self.invariant.0.now
-          (unbroken, c.commit.ensures.commits.accounts.was_honest honest) c.commit.result fault (c.commit.ensures.commits.commits honest)));
+          (unbroken, c.commit.ensures.commits.accounts.was_honest honest) c.commit.result fault (c.commit.ensures.commits.commits honest) (c.commit.ensures.commits.left honest)));
       texts = search rules;
     }
 
@@ -78,7 +78,7 @@ returns-clause-commits g c =
     record {
       commits = rw (← c.self.view_is) (λ honest.
           commit_done d inside.set.names live inside.set.disk c.commit.new.self.disk inside.texts.now c.self.invariant.0.apart c.self.invariant.0.now
-          (unbroken, c.commit.ensures.commits.accounts.was_honest honest) tt (c.in_ok-commit.ensures.commits.commits honest));
+          (unbroken, c.commit.ensures.commits.accounts.was_honest honest) tt (c.in_ok-commit.ensures.commits.commits honest) (c.in_ok-commit.ensures.commits.left honest));
       texts = rw (← c.self.view_is) (λ honest.
           ap (λ (s : TextSet). texts_of (held_over s left) inside.set.names) c.settle.ensures.before
           ∙ texts_settled_are inside.set.names files left inside.texts.now c.self.invariant.0.apart

@@ -1,7 +1,7 @@
 use Rattle.std.proofs.Common.{length, ap, ◌∙◌}
 use Rattle.memchr.specs.Find.{is_byte}
 use Rattle.memchr.proofs.lemmas.CallerLemmas.{length-places}
-use Rattle.org_capture.proofs.lengths.newlines.Goals as goal
+use Rattle.org_capture.proofs.template.newlines.Goals as goal
 
 pub returns : goal.returns
 returns c = c.count.ensures ∙ ap length c.memchr_iter.ensures.value ∙ length-places (is_byte 10) c.args.text.now
