@@ -11,7 +11,7 @@
 #include <sys/stat.h>
 #include <unistd.h>
 
-enum { PIECE = 4096, NAME = 256, FILES = 512, HEADER = 15 };
+enum { PIECE = 4096, NAME = 256, FILES = 512, HEADER = 15, BACK = 16384 };
 
 struct file {
     char name[NAME];
@@ -19,6 +19,7 @@ struct file {
 };
 
 static const char *folder;
+static int folder_fd;
 static int journal;
 static struct file files[FILES];
 static size_t file_count;
@@ -94,14 +95,23 @@ static uint64_t number(const unsigned char **at, int bytes)
     return value;
 }
 
-/* Looks at what a name leads to; the empty name is the folder's own. */
-static void look_at(const char *name)
+/* Looks at a file, and before that at the folder, which has changed no entry. */
+static uint64_t look_at(const struct file *one)
 {
-    char path[PIECE];
-    struct statx now;
-    path_of(path, name);
-    if (statx(AT_FDCWD, path, 0, STATX_BASIC_STATS, &now) != 0)
-        fail("statx");
+    length_of(folder_fd);
+    return length_of(one->fd);
+}
+
+/* Reads a file back. */
+static void read_back(const struct file *one)
+{
+    static char back[BACK];
+    uint64_t length = look_at(one);
+    for (uint64_t from = 0; from < length; from += BACK) {
+        size_t size = length - from < BACK ? (size_t)(length - from) : BACK;
+        if (pread(one->fd, back, size, (off_t)from) != (ssize_t)size)
+            fail("pread");
+    }
 }
 
 /* Passes over what an entry says of its file as it was before: its length, and the bytes beside the patches. */
@@ -114,13 +124,13 @@ static void pass_before(const unsigned char **at)
     }
 }
 
-/* Tries the files of a record. */
-static void try_files(const unsigned char *at)
+/* Does this with each file of a record. */
+static void each_file(const unsigned char *at, void (*with)(const struct file *))
 {
     for (uint64_t entries = number(&at, 4); entries > 0; entries--) {
         size_t named = number(&at, 2);
         struct file *one = opened(at, named);
-        look_at(one->name);
+        with(one);
         at += named + 8;
         pass_before(&at);
         for (uint64_t patches = number(&at, 4); patches > 0; patches--) {
@@ -129,6 +139,11 @@ static void try_files(const unsigned char *at)
             at += count;
         }
     }
+}
+
+static void try_file(const struct file *one)
+{
+    look_at(one);
 }
 
 /* Lays the patches of a record, and syncs its files. */
@@ -143,15 +158,18 @@ static void lay(const unsigned char *at)
         at += named;
         uint64_t final = number(&at, 8);
         pass_before(&at);
-        look_at(one->name);
+        look_at(one);
         for (uint64_t patches = number(&at, 4); patches > 0; patches--) {
             uint64_t from = number(&at, 8), count = number(&at, 8);
             if (count > 0)
                 put_at(fd, at, count, (off_t)from);
             at += count;
         }
-        if (length_of(fd) > final && ftruncate(fd, (off_t)final) != 0)
-            fail("ftruncate");
+        if (look_at(one) > final) {
+            if (ftruncate(fd, (off_t)final) != 0)
+                fail("ftruncate");
+            look_at(one);
+        }
     }
     for (uint64_t entry = 0; entry < entries; entry++)
         sync_data(changed[entry]);
@@ -164,15 +182,15 @@ static void commit(void)
         exit(1);
     }
     size_t body = number(&script, 8);
-    look_at("");
-    try_files(script + HEADER);
+    length_of(folder_fd);
+    each_file(script + HEADER, try_file);
     put_at(journal, script, body, 1);
     sync_data(journal);
     set_gate(1);
-    try_files(script + HEADER);
+    each_file(script + HEADER, try_file);
     lay(script + HEADER);
     set_gate(0);
-    try_files(script + HEADER);
+    each_file(script + HEADER, read_back);
     script += body;
     acknowledged = accepted;
 }
@@ -226,6 +244,9 @@ int main(int count, char **words)
         return 2;
     }
     folder = words[1];
+    folder_fd = open(folder, O_RDONLY | O_CLOEXEC);
+    if (folder_fd < 0)
+        fail(folder);
     uint64_t group = strtoull(words[2], NULL, 10);
     load(words[3]);
     journal = open_in("orgstore.journal");

@@ -429,7 +429,7 @@ def options(about):
     parser.add_argument("folder", help="lies on the disk to measure; the files are made in a new folder in it")
     parser.add_argument("--program", help="the program; without it the one of ./run, built where need be")
     parser.add_argument("--beside", metavar="PROGRAM", type=runnable,
-                        help="another program, as one of an older commit, in the place of the bare loop")
+                        help="another program, as one of an older commit, in place of the bare loop")
     parser.add_argument("--rounds", type=int, default=5, help="by turns of both, of which the medians are printed (5)")
     parser.add_argument("--quick", action="store_true", help="small counts and sizes, to try the script; no figures")
     return parser

@@ -2,9 +2,10 @@
 // from 1, is in MEANWHILE_AT. Calls that open, look at, read, write, cut and sync files count. MEANWHILE_HOW says how the
 // bytes of the file MEANWHILE_FROM get into the file MEANWHILE_TO:
 //   append   at its end, in place
-//   save     in the place of its bytes, as an editor saves in place
+//   save     in place of its bytes, as an editor saves in place
 //   replace  by rename, as an editor saves that keeps a backup
-// Each call is noted in the file MEANWHILE_CALLS, by its name and the name of its file.
+// Each call is noted in the file MEANWHILE_CALLS, by its name and the name of its file. A look at a file by its name is noted
+// as look, one at an open file as see.
 #include "open.h"
 #include <limits.h>
 #include <stdio.h>
@@ -84,6 +85,6 @@ int fdatasync(int file) {
 
 int statx(int folder, const char *path, int flags, unsigned int mask, struct statx *into) {
     if (path && *path) count("look", path);
-    else count_file("look", folder);
+    else count_file("see", folder);
     return REAL(int (*)(int, const char *, int, unsigned int, struct statx *), "statx")(folder, path, flags, mask, into);
 }

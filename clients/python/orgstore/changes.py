@@ -260,7 +260,7 @@ def deleted(entry: Entry) -> Change:
 
 
 def replaced(entry: Entry, new: bytes) -> Change:
-    """Puts another text in the place of a subtree. It must be headings of the entry's level and below, the first of
+    """Puts another text in place of a subtree. It must be headings of the entry's level and below, the first of
     them in its first line; a newline is added at its end where more follows.
 
     Raises `ValueError` where it is something else; a text of blanks alone deletes the subtree.

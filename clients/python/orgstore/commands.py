@@ -101,7 +101,7 @@ class CaptureTemplate(Command):
 
 @record(frozen=True)
 class Edit(Command):
-    r"""Puts `new` in the place of the bytes `old`, which must stand at a position of a file, in bytes from 0 on.
+    r"""Puts `new` in place of the bytes `old`, which must stand at a position of a file, in bytes from 0 on.
     Nothing else of the file changes, and nothing is read into the bytes.
 
     >>> Edit("a.org", 2, "A", "B\n").line()

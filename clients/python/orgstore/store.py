@@ -309,7 +309,7 @@ class Store:
         return answers
 
     def edit(self, file: str, at: int, old: Text, new: Text) -> Done:
-        """Puts bytes in the place of those that stand at a position of a file. Raises `NotThere` where they don't."""
+        """Puts bytes in place of those that stand at a position of a file. Raises `NotThere` where they don't."""
         return self._run(Edit(file, at, old, new))
 
     # -- other programs -------------------------------------------------------------------------------------------

@@ -1,4 +1,4 @@
-"""Folders for the tests, and programs that stand in the place of the store's own."""
+"""Folders for the tests, and programs that stand in place of the store's own."""
 import datetime
 import os
 import shutil

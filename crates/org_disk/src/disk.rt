@@ -108,6 +108,14 @@ pub trait Disk {
             (AreLeftBy sync name.now (files self.old)) }
         ensures accounts { AccountsOfCall truthful honest failures self.old self.new result };
 
+    /// Asks whether a file holds the bytes that it is to hold by now. It fails where the disk sees
+    /// others, or another file in its place: another program wrote it. It changes nothing, failed
+    /// or not.
+    fn confirm(&mut self, name: &FileName, bytes: &[u8]) -> Result<(), DiskFault>
+        requires { honest self.old → (files self.old name.now).content ≡ bytes.now }
+        ensures looks { honest self.new → LooksInCall files instant left_since self.old self.new }
+        ensures accounts { AccountsOfCall truthful honest failures self.old self.new result };
+
     /// How the file of a name stands, beside the journal. Where nothing was written since a crash,
     /// that says whether the journal's record may be done. No clause says what is answered. It
     /// changes nothing, failed or not.

@@ -56,6 +56,16 @@ Change = List ℕ × EditedText
 of_name : (P : List ℕ → Type 0) (names : List (List ℕ)) (name : List ℕ) → AllByRecursion P names → Contains names name → P name
 of_name P names name each at = subst P at.2 (All-from_recursion P names each at.0 name at.1)
 
+names_apart : (names : List (List ℕ)) (changes : List Change) → AllByRecursion (λ name. name ≢ journal_name) names → AllByRecursion (λ (change : Change). Contains names change.0) changes
+    → AllByRecursion (λ (change : Change). change.0 ≢ journal_name) changes
+names_apart names [] each named = tt
+names_apart names (change ∷ changes) each named = (of_name (λ name. name ≢ journal_name) names change.0 each named.0, names_apart names changes each named.1)
+
+-- no change is of the journal
+pub changes_named : (names : List (List ℕ)) (changes : List Change) → AllByRecursion (λ name. name ≢ journal_name) names → All (λ (change : Change). Contains names change.0) changes
+    → AllByRecursion (λ (change : Change). change.0 ≢ journal_name) changes
+changes_named names changes each named = names_apart names changes each (recursion_from_All (λ (change : Change). Contains names change.0) changes named)
+
 all_committable : (names : List (List ℕ)) (changes : List Change) → AllByRecursion (λ name. name ≢ journal_name) names → AllByRecursion (λ (change : Change). Contains names change.0) changes
     → AllByRecursion (λ (change : Change). length change.1.bytes ≤ greatest_length Two) changes → AllByRecursion IsCommittable changes
 all_committable names [] each named small = tt

@@ -25,6 +25,7 @@ pub mod Recovering
 mod Reopening
 pub mod Openings
 mod Committing
+mod Confirming
 mod Kept
 pub mod Crashed
 pub mod Middle

@@ -1,5 +1,5 @@
 -- Files that were tried, by writes of no bytes, and a commit that begins with that.
-use Rattle.std.proofs.Common.{◌≡◌, ◌≢◌, ◌⊎◌, inl, inr, ⊎_elim, ℕ, suc, ◌+◌, ◌<◌, ◌++◌, List, [], ◌∷◌, length, drop, get_or, take, set, Result, Ok, Err, IsErr, true, sym, ◌∙◌, ap, subst, arith}
+use Rattle.std.proofs.Common.{◌≡◌, ◌≢◌, ◌⊎◌, inl, inr, ⊎_elim, ℕ, suc, ◌+◌, ◌<◌, ◌++◌, List, [], ◌∷◌, length, drop, get_or, take, set, Result, Ok, Err, IsErr, OnOk, true, sym, ◌∙◌, ap, subst, arith}
 use Rattle.std.proofs.lemmas.Bool.{cases_lt}
 use Rattle.std.proofs.lemmas.Result.{on_ok_weaker}
 use Rattle.std.proofs.lemmas.List.{get_or-take, get_or_append_left, get_or-set_same, get_or-set_other, length-append, length-set, length-take-le}
@@ -136,6 +136,11 @@ module _ {D : Type 0} (g : Ghosts D) (entries : List Entry) (name : List ℕ) (o
     others = λ n is. changes.others n (tried n is);
   }
 
+-- an answer is Ok or not
+on_ok_all : (result : Result (Unit {0}) DiskFault) → OnOk result (Unit {0})
+on_ok_all (Ok done) = tt
+on_ok_all (Err fault) = tt
+
 -- Tries, one after another
 
 module _ {D : Type 0} (g : Ghosts D) (entries : List Entry) where
@@ -158,6 +163,15 @@ module _ {D : Type 0} (g : Ghosts D) (entries : List Entry) where
     time = tries.time;
     images = tries.images;
     others = tries.others;
+  }
+
+  -- calls that only look tried nothing, and did no more
+  pub looks_tries : (old new : D) (result : Result (Unit {0}) DiskFault) → LooksOver g old new → TriesOver g entries old new result
+  looks_tries old new result looks = record {
+    ok = on_ok_weaker result (λ done. looks) (on_ok_all result);
+    time = looks.time;
+    images = λ n bytes image. subst (λ (f : List ℕ → FileState). IsImage (f n) bytes) looks.same image;
+    others = λ n is. ap (λ (f : List ℕ → FileState). f n) looks.same;
   }
 
 -- A record that is written once its files were tried: they are as at the start.

@@ -61,3 +61,7 @@ abbrev pub changed : List (List ℕ × EditedText) → Image → Image
 changed [] files name = files name
 changed (change ∷ changes) files name =
     if bytes_eq change.0 name then change.1.bytes else changed changes files name
+
+-- each changed file holds its text
+abbrev pub HoldTexts : List (List ℕ × EditedText) → Image → Type 0
+HoldTexts changes files = AllByRecursion (λ change. files change.0 ≡ change.1.bytes) changes

@@ -38,10 +38,17 @@ fn write_patch<D: Disk>(disk: &mut D, name: &FileName, patch: &Patch) -> Result<
 /// and after it, also where it fails, the entry makes the same text of whatever a crash leaves of
 /// the file.
 ///
+/// The file is looked at before it is written, unless that was just done: a disk may see then that
+/// another program has changed it.
+///
 /// # Errors
 ///
 /// `DiskFault`: a call of the disk failed.
-pub fn apply_entry<D: Disk>(disk: &mut D, entry: &Entry) -> Result<(), DiskFault>
+pub fn apply_entry<D: Disk>(
+    disk: &mut D,
+    entry: &Entry,
+    is_looked_at: bool,
+) -> Result<(), DiskFault>
     requires { D.honest disk.old → CanPatch entry.now (D.files disk.old entry.now.name).content }
     ensures applies { D.honest disk.new → AppliesOver D.Disk entry.now disk.old disk.new }
     ensures content { OnOk result (D.honest disk.new → (D.files disk.new entry.now.name).content
@@ -50,23 +57,26 @@ pub fn apply_entry<D: Disk>(disk: &mut D, entry: &Entry) -> Result<(), DiskFault
         (λ other. other ≢ entry.now.name) disk.old disk.new }
     ensures accounts { CountsFailures D.Disk disk.old disk.new (IsErr result) }
 {
-    let before = length_before(disk, entry)?;
+    let before = length_before(disk, entry, is_looked_at)?;
     apply_patches(disk, entry, before)
 }
 
-// How long the file of an entry was before: as the entry says, or as it is. The file is asked in any
-// case, just before it is written, since a disk may see then that another program has changed it.
-fn length_before<D: Disk>(disk: &mut D, entry: &Entry) -> Result<u64, DiskFault>
+// How long the file of an entry was before: as the entry says, or as it is. The file is looked at in
+// any case, unless that was just done.
+fn length_before<D: Disk>(disk: &mut D, entry: &Entry, is_looked_at: bool) -> Result<u64, DiskFault>
     ensures length { IfOk result (λ n. D.honest disk.new
         → n ≡ length_before entry.now.before
         (length (D.files disk.old entry.now.name).content)) }
     ensures looks { Looks D.Disk disk.old disk.new }
     ensures accounts { CountsFailures D.Disk disk.old disk.new (IsErr result) }
 {
-    let size = disk.length(&entry.name)?;
     match &entry.before {
-        Some(before) => Ok(before.length),
-        None => Ok(size),
+        Some(before) if is_looked_at => Ok(before.length),
+        Some(before) => {
+            disk.length(&entry.name)?;
+            Ok(before.length)
+        }
+        None => disk.length(&entry.name),
     }
 }
 
@@ -94,14 +104,34 @@ fn apply_patches<D: Disk>(disk: &mut D, entry: &Entry, before: u64) -> Result<()
     Ok(())
 }
 
-/// Applies the entries of a record to their files, one after the other. Before, within and after
-/// it, also where it fails, the record makes the same texts of whatever a crash leaves of the
+/// Looks at the file that is written first.
+///
+/// # Errors
+///
+/// `DiskFault`: a call of the disk failed.
+pub fn look_at_first<D: Disk>(disk: &mut D, entries: &[Entry]) -> Result<(), DiskFault>
+    ensures looks { Looks D.Disk disk.old disk.new }
+    ensures accounts { CountsFailures D.Disk disk.old disk.new (IsErr result) }
+{
+    if let Some(first) = entries.first() {
+        disk.length(&first.name)?;
+    }
+    Ok(())
+}
+
+/// Applies the entries of a record to their files, one after the other. Each file is looked at
+/// before it is written; the first one may have been just now (`look_at_first`). Before, within and
+/// after it, also where it fails, the record makes the same texts of whatever a crash leaves of the
 /// files, if it did so at the start.
 ///
 /// # Errors
 ///
 /// `DiskFault`: a call of the disk failed.
-pub fn apply_all<D: Disk>(disk: &mut D, entries: &[Entry]) -> Result<(), DiskFault>
+pub fn apply_all<D: Disk>(
+    disk: &mut D,
+    entries: &[Entry],
+    is_first_looked_at: bool,
+) -> Result<(), DiskFault>
     requires { D.honest disk.old → AreApplicableTo entries.now (D.files disk.old) }
     ensures replays { D.honest disk.new → TakesOver D.Disk entries.now disk.old disk.new }
     ensures contents { OnOk result (D.honest disk.new → (name : List ℕ)
@@ -111,8 +141,10 @@ pub fn apply_all<D: Disk>(disk: &mut D, entries: &[Entry]) -> Result<(), DiskFau
         (λ name. IsFalse (is_named name entries.now)) disk.old disk.new }
     ensures accounts { CountsFailures D.Disk disk.old disk.new (IsErr result) }
 {
+    let mut is_looked_at = is_first_looked_at;
     for entry in entries {
-        apply_entry(disk, entry)?;
+        apply_entry(disk, entry, is_looked_at)?;
+        is_looked_at = false;
     }
     Ok(())
 }

@@ -1,6 +1,6 @@
 //! A record made to count: written to the journal, applied to its files, and done with.
 //!
-//! The order is that of FORMATS: tries, record, sync, gate, sync, files, syncs, gate, sync, tries.
+//! The order is that of FORMATS: tries, record, sync, gate, sync, tries, files, syncs, gate, sync.
 //! What a commit has to do it does for any entries that fit their files; that they are changes of a
 //! set is `set`'s matter.
 ghost use Rattle.std.specs.Prelude.{◌≡◌, IsErr};
@@ -9,28 +9,34 @@ ghost use Rattle.org_disk.specs.Names.{journal_name};
 ghost use Rattle.org_journal.specs.Gate.{HasClosedGate};
 ghost use Rattle.org_journal.specs.Record.{BeginsWith};
 ghost use Rattle.org_fileset.specs.Replay.{AreApplicableTo, CommitsEntriesOver, IsOpenOver, ReplaysOver};
-ghost use Rattle.org_fileset.specs.Writes.{TriesAgainOver};
+ghost use Rattle.org_fileset.specs.Writes.{TriesAgainOver, TriesOver};
 
-use crate::apply::{apply_all, sync_all};
+use crate::apply::{apply_all, look_at_first, sync_all};
 use crate::trying::{try_all, try_files};
 use org_disk::{Disk, DiskFault, FileName};
 use org_journal::{Entry, arm, close_gate, open_gate};
 
 /// Does what an open journal's record says: applies it to its files, syncs them, and closes the
 /// gate. Where the record makes the same texts of whatever a crash leaves at the start, every image
-/// recovers to them at every moment since.
+/// recovers to them at every moment since. Each file is looked at before it is written, but the
+/// first one if that was just done.
 ///
 /// # Errors
 ///
 /// `DiskFault`: a call of the disk failed.
-pub fn replay<D: Disk>(disk: &mut D, journal: &FileName, entries: &[Entry]) -> Result<(), DiskFault>
+pub fn replay<D: Disk>(
+    disk: &mut D,
+    journal: &FileName,
+    entries: &[Entry],
+    is_first_looked_at: bool,
+) -> Result<(), DiskFault>
     requires journal { journal.now ≡ journal_name }
     requires applicable { D.honest disk.old → AreApplicableTo entries.now (D.files disk.old) }
     requires opened { D.honest disk.old → IsOpenOver entries.now (D.files disk.old) }
     ensures replays { D.honest disk.new → ReplaysOver D.Disk entries.now disk.old disk.new result }
     ensures accounts { CountsFailures D.Disk disk.old disk.new (IsErr result) }
 {
-    apply_all(disk, entries)?;
+    apply_all(disk, entries, is_first_looked_at)?;
     sync_all(disk, entries)?;
     close_gate(disk, journal)
 }
@@ -43,8 +49,7 @@ pub fn replay<D: Disk>(disk: &mut D, journal: &FileName, entries: &[Entry]) -> R
 /// Before anything is written, the journal and the files are tried: where one can't be written, the
 /// gate stays closed. After the opened gate the files are tried again, just before the first of
 /// them is written: where another program changed one meanwhile, the gate is closed, and none is
-/// written. Once all is done they are tried a last time: where another program replaced one
-/// meanwhile, its change went astray, and isn't reported as done.
+/// written.
 ///
 /// # Errors
 ///
@@ -67,8 +72,7 @@ pub fn commit_entries<D: Disk>(
     arm(disk, journal, body)?;
     open_gate(disk, journal)?;
     try_again(disk, journal, entries)?;
-    replay(disk, journal, entries)?;
-    try_files(disk, entries)
+    replay(disk, journal, entries, true)
 }
 
 // Tries the files once more after the opened gate. Where another program changed one meanwhile,
@@ -80,11 +84,20 @@ fn try_again<D: Disk>(disk: &mut D, journal: &FileName, entries: &[Entry]) -> Re
     ensures again { D.honest disk.new → TriesAgainOver D.Disk entries.now disk.old disk.new result }
     ensures accounts { CountsFailures D.Disk disk.old disk.new (IsErr result) }
 {
-    match try_files(disk, entries) {
+    match look_last(disk, entries) {
         Ok(()) => Ok(()),
         Err(fault) => {
             close_gate(disk, journal)?;
             Err(fault)
         }
     }
+}
+
+// Tries the files, and looks once more at the one that is written first.
+fn look_last<D: Disk>(disk: &mut D, entries: &[Entry]) -> Result<(), DiskFault>
+    ensures tries { D.honest disk.new → TriesOver D.Disk entries.now disk.old disk.new result }
+    ensures accounts { CountsFailures D.Disk disk.old disk.new (IsErr result) }
+{
+    try_files(disk, entries)?;
+    look_at_first(disk, entries)
 }

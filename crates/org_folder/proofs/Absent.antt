@@ -5,7 +5,7 @@ use Rattle.org_folder.specs.Calls.{Event, World, files, reading, IsLeftAlone, Is
 use Rattle.org_folder.specs.Calls.Event.{Filled, Locked, Entry, Listed, There, Unseen, Absent, Length, Read, Write, Cut, Sync, Made, Entered}
 use Rattle.org_folder.specs.CallsLaws.{changed_other}
 
-still_as_first : (world : World) (calls : List Event) (name : List ℕ) → IsLeftAlone name calls → files world calls name ≡ world.start name
+pub still_as_first : (world : World) (calls : List Event) (name : List ℕ) → IsLeftAlone name calls → files world calls name ≡ world.start name
 still_as_first world [] name alone = refl
 still_as_first world (Filled path ∷ earlier) name alone = still_as_first world earlier name alone
 still_as_first world (Locked path ∷ earlier) name alone = still_as_first world earlier name alone

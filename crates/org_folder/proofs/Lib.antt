@@ -1,9 +1,11 @@
 mod Names
 mod Recorded
 mod Absent
+mod Unwritten
 mod Places
 mod Entries
 pub mod Looked
+mod Seen
 mod Entered
 mod Listed
 mod Accounting

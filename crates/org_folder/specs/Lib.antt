@@ -9,3 +9,4 @@ pub mod Note
 pub mod OrgFiles
 pub mod Raw
 pub mod Right
+pub mod Unwritten

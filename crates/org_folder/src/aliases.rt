@@ -3,7 +3,7 @@
 //! Two names of one file (links) would be written as two. It looks and changes nothing.
 ghost use Rattle.std.specs.Prelude.{◌≡◌, ◌<◌, ℕ, List, length, IfOk, IfErr, IfSome, IfNone, IsTrue, IsFalse};
 ghost use Rattle.std.specs.List.{list_any};
-ghost use Rattle.org_folder.specs.Aliases.{is_again, is_same, MayReport};
+ghost use Rattle.org_folder.specs.Aliases.{is_again, is_same, AreApart, AreSeen, IsSeen, MayReport};
 ghost use Rattle.org_folder.specs.Right.{HaveNoFiles};
 ghost use Rattle.org_folder.specs.Calls.{IsHeld, OnlyLooks};
 ghost use Rattle.org_folder.specs.declared.aliases.AliasFault.TheVariants.{SameFile, Unseen};
@@ -97,6 +97,7 @@ pub fn check_aliases<S: System>(
 ) -> Result<IndexSet<FileName>, AliasFault>
     ensures fault { IfErr result (MayReport names.now) }
     ensures absent { IfOk result (λ absent. HaveNoFiles S.System system.new absent.keys) }
+    ensures apart { IfOk result (λ _. AreApart (S.history system.new) names.now) }
     ensures held { IsHeld (S.history system.old) → IsHeld (S.history system.new) }
     ensures looks { OnlyLooks (S.history system.old) (S.history system.new) }
 {
@@ -130,6 +131,7 @@ fn nodes_of<S: System>(
     ensures absent { HaveNoFiles S.System system.new absent.new.keys }
     ensures looks { OnlyLooks (S.history system.old) (S.history system.new) }
     ensures size { IfOk result (λ nodes. length nodes.items ≡ length names.now) }
+    ensures seen { IfOk result (λ nodes. AreSeen (S.history system.new) names.now nodes.items) }
 {
     let mut nodes = Vec::new(alloc);
     for name in names {
@@ -148,6 +150,7 @@ fn node_of<S: System>(
     ensures fault { IfErr result (λ fault. (names : List (List ℕ)) → MayReport names fault) }
     ensures absent { HaveNoFiles S.System system.new absent.new.keys }
     ensures looks { OnlyLooks (S.history system.old) (S.history system.new) }
+    ensures seen { IfOk result (IsSeen (S.history system.new) name.now) }
 {
     match system.look(name)? {
         Some(found) if !found.is_plain && is_journal(name) => Err(AliasFault::Linked),

@@ -137,6 +137,10 @@ where
         counted(self.folder.sync(name), &mut self.failures)
     }
 
+    fn confirm(&mut self, name: &FileName, bytes: &[u8]) -> Result<(), DiskFault> {
+        counted(self.folder.confirm(name, bytes), &mut self.failures)
+    }
+
     fn standing(&mut self, name: &FileName) -> Result<Standing, DiskFault> {
         if self.adopts {
             return Ok(Standing::Adopted);

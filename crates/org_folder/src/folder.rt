@@ -104,6 +104,16 @@ where
         }
     }
 
+    pub fn confirm(&mut self, name: &FileName, bytes: &[u8]) -> Result<(), DiskFault>
+        ensures { LooksRight S.System self.old.system self.new.system }
+    {
+        match self.find(name)? {
+            Some(at) => self.system.confirm(&self.files[at], bytes),
+            None if bytes.is_empty() => Ok(()),
+            None => Err(DiskFault),
+        }
+    }
+
     pub fn standing(&mut self, name: &FileName) -> Result<Standing, DiskFault>
         ensures { LooksRight S.System self.old.system self.new.system }
     {

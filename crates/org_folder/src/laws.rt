@@ -1,12 +1,13 @@
 //! The laws of the record of calls, for all values.
 //!
 //! Each is the contract of a function with nothing to do.
-ghost use Rattle.std.specs.Prelude.{◌≡◌, List, ℕ, [], ◌∷◌, IsFalse};
+ghost use Rattle.std.specs.Prelude.{◌≡◌, Bool, List, ℕ, [], ◌∷◌, IsFalse};
 ghost use Rattle.std.specs.List.{list_any};
 ghost use Rattle.std.specs.Str.{bytes_eq};
 ghost use Rattle.org_disk.specs.Disk.{stable};
-ghost use Rattle.org_folder.specs.Calls.{Event, IsLeftAlone, IsRight, IsRightList, World, files, with_entries};
+ghost use Rattle.org_folder.specs.Calls.{AreRight, Event, IsLeftAlone, IsRight, IsRightList, LeftSince, World, files, with_entries};
 ghost use Rattle.org_folder.specs.Calls.Event.{Absent, Listed, Locked};
+ghost use Rattle.org_folder.specs.Unwritten.{AreLeftAlone, with_first, with_stable};
 
 /// That there is no file of a name is a right answer, as often as it is given, where the file was
 /// empty and on the device at first, and no write, cut or sync was made on it. A `CallsDisk` makes
@@ -25,4 +26,18 @@ pub fn unlisted_is_absent()
         (name : List ℕ) → IsFalse (list_any (bytes_eq name) names)
         → IsRightList world (with_entries names (Locked path ∷ earlier))
         → files world (Listed ∷ with_entries names (Locked path ∷ earlier)) name ≡ stable [] }
+{}
+
+/// What a crash may leave of files that no call wrote, cut or synced makes no difference to a run,
+/// such as of a picture that was just copied into the folder: the same answers are right where
+/// these files were on the device at first, as they read then, and a crash leaves the same images
+/// there, but for these files.
+pub fn unwritten_files_make_no_difference()
+    ensures right { (world : World) (calls : List Event) (these : List ℕ → Bool)
+        → AreLeftAlone these calls → AreRight world calls
+        → AreRight (with_stable these world) calls }
+    ensures images { (world : World) (calls : List Event) (these : List ℕ → Bool)
+        (since : ℕ) (image : List ℕ → List ℕ)
+        → AreLeftAlone these calls → LeftSince world calls since image
+        → LeftSince (with_stable these world) calls since (with_first these world image) }
 {}

@@ -12,12 +12,13 @@ use crate::list::ListFault;
 use crate::lock;
 use org_disk::{DiskFault, FileName, Standing};
 use org_fault::Fault;
-use seen::Seen;
+use seen::{Change, Seen};
 use std::alloc::AllocError;
 use std::cell::Cell;
 
 mod access;
 mod calls_system;
+mod looks;
 mod reach;
 mod seen;
 mod standing;
@@ -48,6 +49,8 @@ pub struct Opened<F> {
     is_entered: bool,
     // what the system last said of it
     seen: Cell<Seen>,
+    // the folder's last change when this was found in it, where any later one shows
+    found: Cell<Option<Change>>,
     // the system opened it under this name
     ghost reached: { string_bytes handle.path ≡ name },
 }
@@ -66,6 +69,7 @@ impl<F: Drop> Opened<F> {
                 is_own: file.is_own,
                 is_entered: false,
                 seen: Cell::new(file.seen),
+                found: Cell::new(None),
             }),
             Err(_) => Err(DiskFault),
         }
@@ -76,6 +80,14 @@ impl<F: Drop> Opened<F> {
         ensures { result.now ≡ self.now.name }
     {
         &self.name
+    }
+
+    // Whether its name still leads to it, as far as the folder's last change shows that.
+    fn is_found(&self, folder: &Change) -> bool {
+        match self.found.get() {
+            Some(before) => before.is_still(folder),
+            None => false,
+        }
     }
 
     /// Whether its entry in the folder is known to be on the device.
@@ -215,6 +227,12 @@ pub trait System {
         ensures err { OnErr result (opened.new ≡ opened.old) }
         ensures entered { history self.new
             ≡ Entered opened.old.name (is_ok result) ∷ history self.old };
+
+    /// Reads a file back. It fails where that doesn't hold these bytes, or where another program is
+    /// seen to have changed or replaced it since these calls looked at it. It is no call of the
+    /// record: nothing that is said of the files depends on it.
+    fn confirm(&mut self, opened: &Opened<Self::File>, bytes: &[u8]) -> Result<(), DiskFault>
+        ensures { history self.new ≡ history self.old };
 
     /// How the file of a name stands beside the journal, by what the system says of both. It is no
     /// call of the record: nothing that is said of the files depends on it.

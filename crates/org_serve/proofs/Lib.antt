@@ -24,6 +24,7 @@ mod Settled
 mod Opened
 mod Times
 mod Reported
+mod Lefts
 mod Listed
 mod Again
 mod Files

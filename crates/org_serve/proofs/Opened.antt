@@ -2,10 +2,12 @@
 use Rattle.std.proofs.Common.{◌≡◌, ◌⊎◌, inl, inr, ⊎_elim, ℕ, ◌≤◌, Bool, true, false, ◌||◌, if◌then◌else◌, nat_lt, is_some, List, [], ◌∷◌, Option, Some, None, Result, Ok, Err, refl, sym, ap, ◌∙◌, subst, arith}
 use Rattle.org_disk.specs.declared.disk.Disk.{Ghosts}
 use Rattle.std.specs.Prelude.{IsSomeAnd, IsTrue, IsFalse, slice_get}
+use Rattle.org_disk.specs.CountsFailures.{LeavesOver}
 use Rattle.org_disk.specs.Disk.{AreImages, HasRisen, LeavesOnly}
 use Rattle.org_disk.specs.Names.{journal_name}
 use Rattle.org_disk.proofs.Moments.{Image, passes_as, passes_then, leaves_only}
 use Rattle.org_journal.specs.Recovered.{SameFiles, RecoversTo, IsRecoverable, recovered, contents}
+use Rattle.org_fileset.specs.Left.{EachIsLeft, IsLeft}
 use Rattle.org_fileset.specs.Names.{with_archives, AreFew, AreSorted, first_large}
 use Rattle.org_fileset.specs.Recovery.{EachRecovers, IsReopened, RecoversAsBefore}
 use Rattle.org_fileset.specs.Replay.{IsAtRest}
@@ -33,6 +35,7 @@ use Rattle.org_serve.specs.History.{Reaches}
 use Rattle.org_serve.specs.Serving.{EndsBy, FinishesGroups, MayHaveSettled, RunsLines, RunsAndWrites, Serves, ServesAll, ServesInput, WritesSome, end_of, stores_while_honest, traces_while_honest, whole_end}
 use Rattle.org_serve.specs.Whole.{Begins, ServesOver, ServesDisk, HoldsServed, HoldsWhole, IsForeign, IsIntermediate, IsIntermediateTo, IsDurable}
 use Rattle.org_serve.proofs.Foreign.{leaves_foreign}
+use Rattle.org_serve.proofs.Lefts.{none_changed}
 use Rattle.org_serve.proofs.Places.{lists_begun, lists_files}
 use Rattle.org_serve.proofs.Settled.{group_lines, whole_since}
 use Rattle.org_serve.proofs.History.{at_first, lift_run, lift_wrote, session_of_traced, since, whole_prefix}
@@ -328,10 +331,11 @@ module _ {D : Type 0} (g : Ghosts D)
       → (ran : RunsAndWrites (stores_while_honest g) begun after end io)
       → (g.honest now → Serves begun.session end after.session io)
       → (IsRecoverable (g.files disk) → EachRecovers (g.files disk) → g.honest begun.disk → LeavesOnly (g.instant disk) (g.instant begun.disk) (g.left_since disk) (g.left_since begun.disk) (RecoversAsBefore (g.files disk)))
+      → (IsRecoverable (g.files disk) → EachRecovers (g.files disk) → EachIsLeft (g.files disk) → g.honest begun.disk → LeavesOver g disk begun.disk IsLeft)
       → (IsTrue after.session.broken → HasRisen (g.failures disk) (g.failures now)) × (IsFalse after.session.broken → g.failures now ≡ g.failures disk)
       → ServesDisk g setup disk now end io
   unfolding serves
-  serves_lasting few sorted sized began reopened dirty_files alone after now given_up run reported opening counts =
+  serves_lasting few sorted sized began reopened dirty_files alone after now given_up run reported opening opening_left counts =
       let served = serves g setup disk store begun is opens few sorted sized began reopened dirty_files alone after now given_up run reported in
       record {
         served = served;
@@ -339,4 +343,5 @@ module _ {D : Type 0} (g : Ghosts D)
         alone = leaves_foreign served;
         lists = lists_files served;
         lasts = λ fit each. lasts only_now counts_now served (λ honestly. (reopened honestly).rest fit each) (λ honestly. opening fit each honestly);
+        left = λ fit each kept. none_changed only_now served (λ honestly. (reopened honestly).rest fit each) (λ honestly. opening_left fit each kept honestly);
       }

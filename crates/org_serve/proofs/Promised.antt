@@ -53,14 +53,14 @@ promises g setup max_reads disk now (Ok end) io runs =
     let run = serves.served in (
       run,
       record {
-        one_prefix = λ outside. record {
+        one_prefix = λ once. record {
           any_moment = λ state way honestly.
-              leaves_as ((runs.served.lasts_found outside).any_moment state way honestly)
+              leaves_as ((runs.served.lasts_found once).any_moment state way honestly)
               (λ image left. ⊎_elim (λ found. inl found) (λ holds. inr (prefix_from run state run.first.store.session.acknowledged image (prefix_of run run.first state image holds))) left);
-          whole = (runs.served.lasts_found outside).whole_moment;
+          whole = (runs.served.lasts_found once).whole_moment;
         };
-        safe_stays = λ outside here later way honestly sound.
-            leaves_as ((runs.served.lasts_found outside).since here later way honestly sound) (λ image holds. prefix_of run here later image holds);
+        safe_stays = λ once here later way honestly sound.
+            leaves_as ((runs.served.lasts_found once).since here later way honestly sound) (λ image holds. prefix_of run here later image holds);
         refused_changes_nothing = λ old way new command why called honestly. refused run old new command why called honestly;
         as_the_model = record { reopened = run.reopened; begins = run.begins; so_far = run.so_far; lists = serves.lists; serves = run.serves };
         faults_are_counted = record { reported = runs.accounts; breaks = serves.breaks };
@@ -68,7 +68,7 @@ promises g setup max_reads disk now (Ok end) io runs =
       },
     )
 promises g setup max_reads disk now (Err fault) io runs = record {
-  one_prefix = λ outside honestly. (runs.leaves_disk honestly).unopened_as_found outside;
+  one_prefix = λ once honestly. (runs.leaves_disk honestly).unopened_as_found once;
   nothing_served = runs.unserved;
   as_the_model = runs.refused;
   faults_are_counted = runs.accounts;

@@ -10,6 +10,7 @@ use Rattle.org_disk.specs.Names.{journal_name}
 use Rattle.org_disk.proofs.Moments.{Image, passes_as}
 use Rattle.org_journal.specs.Recovered.{SameFiles, IsRecoverable, recovered, contents}
 use Rattle.org_journal.proofs.Accounted.{accounts_after}
+use Rattle.org_fileset.specs.Left.{EachIsLeft, IsLeft}
 use Rattle.org_fileset.specs.declared.open.OpenFault.{OpenFault}
 use Rattle.org_fileset.specs.declared.open.OpenFault.TheVariants as open_fault
 use Rattle.org_fileset.specs.Opening.{IsFoundOver, IsRecovered, IsReason, IsRefusedFor}
@@ -22,12 +23,13 @@ use Rattle.org_serve.specs.Pipes.{Exchange}
 use Rattle.org_serve.specs.declared.end.ServeEnd.{ServeEnd}
 use Rattle.org_store.specs.History.{Trace}
 use Rattle.org_store.proofs.Sortings.{few_or_many}
-use Rattle.org_serve.specs.Syncing.{AnswersSync, AreSynced, IsNotStored, OutsideStable, IsAsFound, Syncs, stored}
-use Rattle.org_serve.specs.Whole.{ServesOver, BreaksByCount, IsForeign, IsIntermediate, IsIntermediateTo, IsDurable, DurableFrom, LeavesDiskOfRun, LeavesSyncedDisk, RunsAs, RunsSynced, SaysFailure, ServesDisk}
+use Rattle.org_serve.specs.Syncing.{AnswersSync, AreSynced, IsNotStored, IsRecoverableOnceSynced, IsAsFound, Syncs, stored}
+use Rattle.org_serve.specs.Whole.{LeavesNoneChanged, ServesOver, BreaksByCount, IsForeign, IsIntermediate, IsIntermediateTo, IsDurable, DurableFrom, LeavesDiskOfRun, LeavesSyncedDisk, RunsAs, RunsSynced, SaysFailure, ServesDisk}
 use Rattle.org_serve.proofs.Foreign.{leaves_foreign, synced_alone}
 use Rattle.org_serve.proofs.Honest.{sound_traced, up_to}
+use Rattle.org_serve.proofs.Lefts.{left_then}
 use Rattle.org_serve.proofs.Places.{lists_files}
-use Rattle.org_serve.proofs.Syncs.{all_images, each_image, ok_apart, some_or_none, still_recoverable, still_recovers, still_outside, as_at_first, as_read, now_recoverable, now_recovers, some_recovers}
+use Rattle.org_serve.proofs.Syncs.{all_images, each_image, ok_apart, some_or_none, still_recoverable, still_recovers, still_stable, as_at_first, as_read, now_recoverable, now_recovers, some_recovers}
 
 pub if_err : {A E : Type 0} {P Q : E → Type 0} (r : Result A E) → ((e : E) → P e → Q e) → IfErr r P → IfErr r Q
 if_err (Ok x) more held = tt
@@ -69,10 +71,12 @@ unsynced_leaves_disk g setup disk now own images others time = record {
     unopened_bad = λ none. (refl, time);
     unopened_closed = λ closed. time;
     recoverable = λ fit each. (still_recoverable (g.files disk) (g.files now) own images fit, still_recovers (g.files disk) (g.files now) own images each);
+    left = λ fit each kept. (leaves_as time kept, λ image left. kept image (all_images images image left));
     alone = synced_alone g setup.names.items (contents (g.files disk) journal_name) disk now others time;
   };
-  unopened_as_found = λ outside. leaves_as time (λ image left. inl left);
-  recoverable_once_synced = λ outside. inr (refl, still_outside (g.files disk) (g.files now) own images setup.names.items outside);
+  unopened_as_found = λ once. leaves_as time (λ image left. inl left);
+  recoverable_once_synced = λ once. inr (refl, λ name none. still_stable (g.files disk) (g.files now) own images name);
+  left_once_synced = λ once kept. (leaves_as time kept, λ image left. kept image (all_images images image left));
 }
 
 module _ {D : Type 0} (g : Ghosts D)
@@ -157,31 +161,50 @@ module _ {D : Type 0} (g : Ghosts D)
             (lasts (sound_traced g served.run last).1).ended h well image left;
       }
 
+    -- a crash leaves no changed file
+    pub left_from : (IsRecoverable (g.files mid) → EachRecovers (g.files mid) → EachIsLeft (g.files mid) → LeavesNoneChanged served)
+        → (g.honest served.first.store.disk → IsRecoverable (g.files mid) × EachRecovers (g.files mid)) → EachIsLeft (g.files disk) → LeavesNoneChanged served_from
+    unfolding served_from
+    left_from leaving ready kept later way h =
+        let first = first_honest later way h in
+        let m = served.began first in
+        left_then g disk mid later.store.disk (leaves_as (time m) kept) (leaving (ready first).0 (ready first).1 (λ image left. kept image (all_images (images m) image left)) later way h)
+
     -- over a disk that was recoverable
+    pub ready_recoverable : IsRecoverable (g.files disk) → EachRecovers (g.files disk) → g.honest served.first.store.disk → IsRecoverable (g.files mid) × EachRecovers (g.files mid)
+    ready_recoverable fit each h =
+        let m = served.began h in
+        (still_recoverable (g.files disk) (g.files mid) (own m) (images m) fit, still_recovers (g.files disk) (g.files mid) (own m) (images m) each)
+
     pub lasts_recoverable : (IsRecoverable (g.files mid) → EachRecovers (g.files mid) → IsDurable served) → IsRecoverable (g.files disk) → EachRecovers (g.files disk) → IsDurable served_from
     lasts_recoverable lasting fit each =
-        lasts_from lasting (RecoversAsBefore (g.files disk))
-        (λ h.
-        let m = served.began h in
-        (still_recoverable (g.files disk) (g.files mid) (own m) (images m) fit, still_recovers (g.files disk) (g.files mid) (own m) (images m) each))
+        lasts_from lasting (RecoversAsBefore (g.files disk)) (ready_recoverable fit each)
         (as_before (g.files disk) each)
         (λ h image before. let m = served.began h in as_at_first (g.files disk) (g.files mid) (own m) (images m) image before)
 
-    -- over one of which the other files were on the disk
-    pub lasts_found : (IsRecoverable (g.files mid) → EachRecovers (g.files mid) → IsDurable served) → OutsideStable setup.names.items (g.files disk) → DurableFrom served_from (IsAsFound (g.files disk))
-    lasts_found lasting outside =
-        lasts_from lasting (IsAsFound (g.files disk))
-        (λ h.
+    -- over one that is recoverable now
+    pub ready_found : IsRecoverableOnceSynced setup.names.items (g.files disk) → g.honest served.first.store.disk → IsRecoverable (g.files mid) × EachRecovers (g.files mid)
+    ready_found once h =
         let m = served.began h in
         let good = subst (λ (f : Image). IsTrue (is_some (recovered f))) (synced m).same (some_recovers (contents (g.files mid)) (contents (g.files served.first.store.disk)) (served.reopened h).recovered_then) in (
-          now_recoverable (g.files disk) (g.files mid) (own m) (images m) setup.names.items (synced m) outside,
-          now_recovers (g.files disk) (g.files mid) (own m) (images m) setup.names.items (synced m) outside good,
-        ))
+          now_recoverable (g.files disk) (g.files mid) (own m) setup.names.items (synced m) (others m) once,
+          now_recovers (g.files disk) (g.files mid) (own m) setup.names.items (synced m) (others m) once good,
+        )
+
+    pub lasts_found : (IsRecoverable (g.files mid) → EachRecovers (g.files mid) → IsDurable served) → IsRecoverableOnceSynced setup.names.items (g.files disk) → DurableFrom served_from (IsAsFound (g.files disk))
+    lasts_found lasting once =
+        lasts_from lasting (IsAsFound (g.files disk)) (ready_found once)
         (λ image left. inl left)
-        (λ h image before. let m = served.began h in inr (as_read (g.files disk) (g.files mid) (own m) (images m) setup.names.items (synced m) outside image before))
+        (λ h image before. let m = served.began h in inr (as_read (g.files disk) (g.files mid) (own m) setup.names.items (synced m) (others m) once image before))
 
   -- what is setup.names.items back of a run after the syncs
   module _ {now : D} {end : Result ServeEnd OpenFault} (h : g.honest mid) (later : LeavesDiskOfRun g setup mid now end) where
+    left_behind : EachIsLeft (g.files disk) → LeavesOver g mid now IsLeft × EachIsLeft (g.files now) → LeavesOver g disk now IsLeft × EachIsLeft (g.files now)
+    left_behind kept left = (left_then g disk mid now (leaves_as (time h) kept) left.0, left.1)
+
+    kept_mid : EachIsLeft (g.files disk) → EachIsLeft (g.files mid)
+    kept_mid kept image left = kept image (all_images (images h) image left)
+
     still_leaves_disk : LeavesDiskOfRun g setup disk now end
     still_leaves_disk = record {
       unopened = λ fit each. if_err end (λ fault left. leaves_behind (time h) left (as_before (g.files disk) each) (as_at_first (g.files disk) (g.files mid) (own h) (images h)))
@@ -192,6 +215,8 @@ module _ {D : Type 0} (g : Ghosts D)
       unopened_closed = λ closed. if_err end (λ fault left. leaves_behind (time h) left (λ image left. left) (all_images (images h)))
           (later.unopened_closed (subst (λ (f : Image). IsTrue (is_closed (f journal_name))) (sym (synced h).same) closed));
       recoverable = λ fit each. later.recoverable (still_recoverable (g.files disk) (g.files mid) (own h) (images h) fit) (still_recovers (g.files disk) (g.files mid) (own h) (images h) each);
+      left = λ fit each kept. left_behind kept
+          (later.left (still_recoverable (g.files disk) (g.files mid) (own h) (images h) fit) (still_recovers (g.files disk) (g.files mid) (own h) (images h) each) (kept_mid kept));
       alone = alone_behind now h later.alone;
     }
 
@@ -199,19 +224,27 @@ module _ {D : Type 0} (g : Ghosts D)
         → ((t : ℕ) (image : Image) → t ≤ g.instant now → AreImages (g.files now) image → g.left_since now t image) → LeavesSyncedDisk g setup disk now end
     synced_leaves_disk own_now counts_now = record {
       leaves_disk = still_leaves_disk;
-      unopened_as_found = λ outside. elim (some_or_none (contents (g.files disk))) [
+      unopened_as_found = λ once. elim (some_or_none (contents (g.files disk))) [
         | inl good ↦ if_err end
-            (λ fault left. leaves_behind (time h) left (λ image found. inl found) (λ image before. inr (as_read (g.files disk) (g.files mid) (own h) (images h) setup.names.items (synced h) outside image before)))
-            (later.unopened (now_recoverable (g.files disk) (g.files mid) (own h) (images h) setup.names.items (synced h) outside) (now_recovers (g.files disk) (g.files mid) (own h) (images h) setup.names.items (synced h) outside good))
+            (λ fault left. leaves_behind (time h) left (λ image found. inl found) (λ image before. inr (as_read (g.files disk) (g.files mid) (own h) setup.names.items (synced h) (others h) once image before)))
+            (later.unopened (now_recoverable (g.files disk) (g.files mid) (own h) setup.names.items (synced h) (others h) once)
+            (now_recovers (g.files disk) (g.files mid) (own h) setup.names.items (synced h) (others h) once good))
         | inr none ↦ if_err_always end (leaves_as (still_leaves_disk.unopened_bad none).1 (λ image left. inl left))
       ];
-      recoverable_once_synced = λ outside. elim (some_or_none (contents (g.files disk))) [
-        | inl good ↦ inl (later.recoverable (now_recoverable (g.files disk) (g.files mid) (own h) (images h) setup.names.items (synced h) outside)
-            (now_recovers (g.files disk) (g.files mid) (own h) (images h) setup.names.items (synced h) outside good))
+      recoverable_once_synced = λ once. elim (some_or_none (contents (g.files disk))) [
+        | inl good ↦ inl (later.recoverable (now_recoverable (g.files disk) (g.files mid) (own h) setup.names.items (synced h) (others h) once)
+            (now_recovers (g.files disk) (g.files mid) (own h) setup.names.items (synced h) (others h) once good))
         | inr none ↦
             let bad = later.unopened_bad (ap recovered (synced h).same ∙ none) in
             let kept = each_image own_now (λ image left. bad.1.each image (counts_now (g.instant mid) image bad.1.passes.later left)) in
-            inr (bad.0, still_outside (g.files mid) (g.files now) own_now kept setup.names.items (still_outside (g.files disk) (g.files mid) (own h) (images h) setup.names.items outside))
+            inr (bad.0, λ name outside stable. still_stable (g.files mid) (g.files now) own_now kept name (still_stable (g.files disk) (g.files mid) (own h) (images h) name stable))
+      ];
+      left_once_synced = λ once kept. elim (some_or_none (contents (g.files disk))) [
+        | inl good ↦ left_behind kept
+            (later.left (now_recoverable (g.files disk) (g.files mid) (own h) setup.names.items (synced h) (others h) once)
+            (now_recovers (g.files disk) (g.files mid) (own h) setup.names.items (synced h) (others h) once good) (kept_mid kept))
+        | inr none ↦
+            let bad = (still_leaves_disk.unopened_bad none).1 in (leaves_as bad kept, λ image left. kept image (bad.each image (counts_now (g.instant disk) image bad.passes.later left)))
       ];
     }
 
@@ -243,8 +276,10 @@ runs_synced g own counts_now setup disk mid now end syncs answers counts run =
           alone = leaves_foreign (served_from g setup disk mid began own_mid done images others time had.served);
           lists = lists_files (served_from g setup disk mid began own_mid done images others time had.served);
           lasts = lasts_recoverable g setup disk mid began own_mid done images others time had.served had.lasts;
+          left = λ fit each kept. left_from g setup disk mid began own_mid done images others time had.served had.left (ready_recoverable g setup disk mid began own_mid done images others time had.served fit each) kept;
         };
         lasts_found = lasts_found g setup disk mid began own_mid done images others time had.served had.lasts;
+        left_found = λ once kept. left_from g setup disk mid began own_mid done images others time had.served had.left (ready_found g setup disk mid began own_mid done images others time had.served once) kept;
       }) run.served;
       leaves_disk = λ honest. synced_leaves_disk g setup disk mid began own_mid done images others time
           (run.accounts.was_honest honest) (run.leaves_disk honest) (λ name. own now name honest) (λ t image within left. counts_now now t image honest within left);

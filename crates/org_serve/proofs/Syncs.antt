@@ -6,14 +6,16 @@ use Rattle.std.specs.List.{Contains}
 use Rattle.std.proofs.lemmas.List.{take_more}
 use Rattle.std.proofs.lemmas.List.Elements.{Contains-push_cases}
 use Rattle.org_disk.specs.Disk.{FileState, IsImage, IsStable, AreImages, Changes, sync}
+use Rattle.org_disk.specs.Names.{journal_name}
+use Rattle.org_disk.specs.OwnImages.{IsOwnImage}
 use Rattle.org_disk.proofs.Images.{only_image, stable_is}
 use Rattle.org_disk.proofs.Names.{name_cases}
-use Rattle.org_journal.specs.Recovered.{Image, SameFiles, RecoversTo, IsRecoverable, recovered, contents}
-use Rattle.org_fileset.specs.Names.{AreSorted}
+use Rattle.org_journal.specs.Recovered.{Image, SameFiles, RecoversTo, IsRecoverable, OthersStable, recovered, contents}
+use Rattle.org_fileset.specs.Names.{AreSorted, with_archives}
 use Rattle.org_fileset.specs.Recovery.{EachRecovers, RecoversAsBefore}
 use Rattle.org_fileset.proofs.Elements.{no_member, cons_cases, cons_here, cons_later}
 use Rattle.org_fileset.proofs.Recovering.{stable_from_only, with_bytes, one_image, here_is}
-use Rattle.org_serve.specs.Syncing.{AreSynced, IsNotStored, OutsideStable, RecoversAsRead, stored}
+use Rattle.org_serve.specs.Syncing.{AreSynced, IsNotStored, IsRecoverableOnceSynced, OutsideStable, RecoversAsRead, stored}
 
 -- One sync after others
 
@@ -101,44 +103,84 @@ module _ (old new : List ℕ → FileState) (own : (name : List ℕ) → IsImage
   pub still_recovers : EachRecovers old → EachRecovers new
   still_recovers each image left = each image (all_images images image left)
 
-  pub still_outside : (given : List (List ℕ)) → OutsideStable given old → OutsideStable given new
-  still_outside given outside name none = still_stable name (outside name none)
-
   pub as_at_first : (image : Image) → RecoversAsBefore new image → RecoversAsBefore old image
   as_at_first image before = record { start = before.start; left = all_images images before.start before.left; texts = before.texts; recovered_then = before.recovered_then; recovers_now = before.recovers_now }
 
-  -- the store's files were synced, and the others were on the disk
-  module _ (given : List (List ℕ)) (synced : AreSynced (stored given) old new) (outside : OutsideStable given old) where
-    pub all_stable : (name : List ℕ) → IsStable (new name)
-    all_stable name = ⊎_elim (synced.stable name) (λ none. still_stable name (outside name none)) (among_cases (stored given) name)
+-- files that recover to the same
+alike : (found : Option Image) (one other : Image) → IsSomeAnd found (λ files. SameFiles files one) → IsSomeAnd found (λ files. SameFiles files other) → SameFiles one other
+alike None one other held also = absurd held
+alike (Some files) one other held also = λ name not. sym (held name not) ∙ also name not
 
-    pub now_recoverable : IsRecoverable new
-    now_recoverable = inl (λ name not. all_stable name)
+recovers_alike : (found : Option Image) (one other : Image) → SameFiles one other → IsSomeAnd found (λ files. SameFiles files one) → IsSomeAnd found (λ files. SameFiles files other)
+recovers_alike None one other same held = absurd held
+recovers_alike (Some files) one other same held = λ name not. held name not ∙ same name not
 
-    only_read : (image : Image) → AreImages new image → image ≡ contents old
-    only_read image left = (λ i name. only_image (all_stable name) (image name) (left name) i) ∙ synced.same
+there : (found : Option Image) (P : Image → Type 0) → IsSomeAnd found P → is_some found ≡ true
+there None P held = absurd held
+there (Some files) P held = refl
 
-    pub now_recovers : IsTrue (is_some (recovered (contents old))) → EachRecovers new
-    now_recovers stand image left = subst (λ (f : Image). IsTrue (is_some (recovered f))) (sym (only_read image left)) stand
+-- The store's files were synced, and the disk is recoverable now: whatever a crash leaves recovers
+-- to the same files.
+module _ (old new : List ℕ → FileState) (own : (name : List ℕ) → IsImage (new name) (new name).content)
+    (given : List (List ℕ)) (synced : AreSynced (stored given) old new) (others : (name : List ℕ) → IsNotStored given name → new name ≡ old name) (once : IsRecoverableOnceSynced given old) where
+  pub now_recoverable : IsRecoverable new
+  now_recoverable = once new (record { own = synced; others = others })
 
-    pub as_read : (image : Image) → RecoversAsBefore new image → RecoversAsRead old image
-    as_read image before = read (recovered (contents old)) (subst (λ (f : Image). RecoversTo before.texts f) (only_read before.start before.left) before.recovered_then)
-      where
-        moved : (texts found : Image) → SameFiles found texts → (o : Option Image) → IsSomeAnd o (λ f. SameFiles f texts) → IsSomeAnd o (λ f. SameFiles f found)
-        moved texts found same None held = absurd held
-        moved texts found same (Some f) held = λ name not. held name not ∙ sym (same name not)
+  all_stable : OthersStable new → (name : List ℕ) → IsStable (new name)
+  all_stable stable name = elim (name_cases name journal_name) [
+    | inl is ↦ subst (λ (n : List ℕ). IsStable (new n)) (sym is.0) (synced.stable journal_name (cons_here journal_name (with_archives given)))
+    | inr apart ↦ stable name apart.0
+  ]
 
-        read : (o : Option Image) → IsSomeAnd o (λ found. SameFiles found before.texts) → IsSomeAnd o (λ found. RecoversTo found image)
-        read None held = absurd held
-        read (Some found) held = moved before.texts found held (recovered image) before.recovers_now
+  only_read : OthersStable new → (image : Image) → AreImages new image → image ≡ contents new
+  only_read stable image left = λ i name. only_image (all_stable stable name) (image name) (left name) i
+
+  one_recovery : (texts one other : Image) → AreImages new one → AreImages new other → RecoversTo texts one → RecoversTo texts other
+  one_recovery texts one other left also held = go now_recoverable
+    where
+      go : IsRecoverable new → RecoversTo texts other
+      go (inl stable) = subst (λ (f : Image). RecoversTo texts f) (only_read stable one left ∙ sym (only_read stable other also)) held
+      go (inr over_record) = recovers_alike (recovered other) over_record.texts texts (alike (recovered one) over_record.texts texts (over_record.same one left) held) (over_record.same other also)
+
+  pub now_recovers : IsTrue (is_some (recovered (contents old))) → EachRecovers new
+  now_recovers stand image left = go (recovered (contents new)) refl (subst (λ (f : Image). IsTrue (is_some (recovered f))) (sym synced.same) stand)
+    where
+      go : (found : Option Image) → recovered (contents new) ≡ found → IsTrue (is_some found) → IsTrue (is_some (recovered image))
+      go None is none = absurd (true≢false (sym none))
+      go (Some found) is good =
+          let read : RecoversTo found (contents new) = subst (λ (o : Option Image). IsSomeAnd o (λ files. SameFiles files found)) (sym is) (λ name not. refl) in
+          there (recovered image) (λ files. SameFiles files found) (one_recovery found (contents new) image own left read)
+
+  pub as_read : (image : Image) → RecoversAsBefore new image → RecoversAsRead old image
+  as_read image before =
+      read (recovered (contents old)) (subst (λ (f : Image). RecoversTo before.texts f) synced.same (one_recovery before.texts before.start (contents new) before.left own before.recovered_then))
+    where
+      read : (o : Option Image) → IsSomeAnd o (λ found. SameFiles found before.texts) → IsSomeAnd o (λ found. RecoversTo found image)
+      read None held = absurd held
+      read (Some found) held = recovers_alike (recovered image) before.texts found (λ name not. sym (held name not)) before.recovers_now
+
+-- Which folders are recoverable then.
+
+own_stable : {file : FileState} → IsStable file → IsOwnImage file
+own_stable {file} is = record { no_shorter = omega (arith, is.least); no_longer = omega (arith, is.greatest); fixed = λ i fixed. refl }
+
+pub outside_once_synced : (given : List (List ℕ)) (files : List ℕ → FileState) → OutsideStable given files → IsRecoverableOnceSynced given files
+outside_once_synced given files outside synced is =
+    inl (λ name not. ⊎_elim (is.own.stable name) (λ none. subst IsStable (sym (is.others name none)) (outside name none)) (among_cases (stored given) name))
+
+pub still_once_synced : (given : List (List ℕ)) (files : List ℕ → FileState) → ((name : List ℕ) → IsOwnImage (files name)) → IsRecoverable files → IsRecoverableOnceSynced given files
+still_once_synced given files own fit synced is =
+    still_recoverable files synced
+    (λ name. ⊎_elim (λ among. own_stable (is.own.stable name among)) (λ none. subst IsOwnImage (sym (is.others name none)) (own name)) (among_cases (stored given) name))
+    (λ name bytes image. ⊎_elim
+    (λ among. subst (IsImage (files name)) (sym (only_image (is.own.stable name among) bytes image ∙ ap (λ (f : Image). f name) is.own.same)) (own name))
+    (λ none. subst (λ (file : FileState). IsImage file bytes) (is.others name none) image)
+    (among_cases (stored given) name))
+    fit
 
 -- a disk whose files recover to something as they read
 pub some_recovers : (files made : Image) → IsSomeAnd (recovered files) (SameFiles made) → IsTrue (is_some (recovered files))
-some_recovers files made held = some (recovered files) held
-  where
-    some : (o : Option Image) → IsSomeAnd o (SameFiles made) → is_some o ≡ true
-    some None held = absurd held
-    some (Some found) held = refl
+some_recovers files made held = there (recovered files) (SameFiles made) held
 
 -- or they don't
 pub some_or_none : (files : Image) → IsTrue (is_some (recovered files)) ⊎ (recovered files ≡ None)

@@ -8,10 +8,10 @@
 --
 -- `LeavesOver g old new P` says that a crash at any moment between two disks leaves what has P: an
 -- image of all files. An image recovers to the files that the next opening finds.
-use Rattle.std.specs.Prelude.{◌≡◌, ◌⊎◌, ℕ, ◌≤◌, Result, Ok, Err, slice_get, IsSomeAnd, IsFalse}
+use Rattle.std.specs.Prelude.{◌≡◌, ◌⊎◌, ℕ, ◌≤◌, List, Result, Ok, Err, slice_get, IsSomeAnd, IsFalse}
 use Rattle.org_disk.specs.declared.disk.Disk.{Ghosts}
 use Rattle.org_disk.specs.CountsFailures.{CountsFailures, LeavesOver}
-use Rattle.org_journal.specs.Recovered.{Image, contents}
+use Rattle.org_journal.specs.Recovered.{Image, RecoversTo, contents}
 use Rattle.org_fileset.specs.declared.open.OpenFault.{OpenFault}
 use Rattle.org_fileset.specs.Opening.{IsRefusedFor}
 use Rattle.org_fileset.specs.Recovery.{IsReopened}
@@ -21,7 +21,7 @@ use Rattle.org_fault.specs.declared.refusal.Refusal.{Refusal}
 use Rattle.org_commands.specs.declared.command.RunFault.TheVariants.{Refused}
 use Rattle.org_commands.specs.declared.tally.Group.TheVariants.{Whole}
 use Rattle.org_commands.specs.Outcome.{Refuses, outcome}
-use Rattle.org_commands.specs.Session.{Holds}
+use Rattle.org_commands.specs.InOrder.{with_texts}
 use Rattle.org_store.specs.Calls.{model}
 use Rattle.org_store.specs.Calls.Call.{Ran}
 use Rattle.org_store.specs.History.{Trace}
@@ -30,18 +30,23 @@ use Rattle.org_serve.specs.declared.whole.Setup.{Setup}
 use Rattle.org_serve.specs.History.{Reaches}
 use Rattle.org_serve.specs.Pipes.{Exchange}
 use Rattle.org_serve.specs.Serving.{Answers, Serves, traces_while_honest}
-use Rattle.org_serve.specs.Syncing.{OutsideStable, IsAsFound}
+use Rattle.org_serve.specs.Syncing.{IsRecoverableOnceSynced, IsAsFound}
 use Rattle.org_serve.specs.Whole.{Begins, BreaksByCount, HoldsWhole, IsForeignTo, IsIntermediate, IsIntermediateTo, LeavesForeign, ListsFiles, SaysFailure, ServesOver}
 
 module _ {D : Type 0} {g : Ghosts D} {setup : Setup} {disk now : D} {end : ServeEnd} {io : Exchange}
     (run : ServesOver g setup disk now end io) where
+  -- all files where the store's own have these texts: the others are as they were once it had
+  -- opened
+  abbrev pub files_after : List (List ℕ) → Image
+  files_after texts =
+      with_texts run.first.store.session.names texts (contents (g.files run.first.store.disk))
+
   -- The image recovers to all files as they were after the first n of the commands that are
   -- accepted at the state; n is at least this.
   abbrev pub IsAfterPrefix : Trace D → (least : ℕ) → Image → Type 0
   IsAfterPrefix state least image =
       (n : ℕ) × (least ≤ n) × (n ≤ state.store.session.accepted)
-      × IsSomeAnd (slice_get state.texts n) (λ texts.
-      Holds run.first.store.session (contents (g.files run.first.store.disk)) texts image)
+      × IsSomeAnd (slice_get state.texts n) (λ texts. RecoversTo (files_after texts) image)
 
   -- Wherever the run is stopped up to a state, the files are as they were found, or as after a
   -- prefix of the accepted commands.
@@ -98,15 +103,17 @@ module _ {D : Type 0} {g : Ghosts D} {setup : Setup} {disk now : D} {end : Serve
     pub states : LeavesForeign run
     pub ended : g.honest now → LeavesAlone g (IsForeignTo g setup disk) disk now
 
-  -- What a run promises that opened its store. The first two suppose that the files that aren't the
-  -- store's were on the device.
+  -- What a run promises that opened its store. The first two suppose that the folder is recoverable
+  -- once the store's files are synced. It is if every other file is on the device; and if it is
+  -- recoverable as it is, whichever files the store has (`folders_are_recoverable_once_synced`, a
+  -- law).
   pub record KeepsPromises : Type 0 where
     -- 1. Wherever a run is stopped, opening the folder again leaves all files as they were after
     -- the first n accepted commands, for one n.
-    pub one_prefix : OutsideStable setup.names.items (g.files disk) → StopsAtPrefix
+    pub one_prefix : IsRecoverableOnceSynced setup.names.items (g.files disk) → StopsAtPrefix
     -- 2. Since a state that wasn't broken, that n is at least the count that was acknowledged
     -- there, as `safe n` says (`safe_is_acknowledged`, a law).
-    pub safe_stays : OutsideStable setup.names.items (g.files disk)
+    pub safe_stays : IsRecoverableOnceSynced setup.names.items (g.files disk)
         → (here later : Trace D) → IsIntermediateTo run here later → g.honest later.store.disk
         → IsFalse here.store.session.broken
         → LeavesOver g here.store.disk later.store.disk
@@ -116,7 +123,8 @@ module _ {D : Type 0} {g : Ghosts D} {setup : Setup} {disk now : D} {end : Serve
         → (new : Trace D) (command : Command) (why : Refusal)
         → (traces_while_honest g).makes old (Ran command (Err (Refused why))) new
         → g.honest new.store.disk → ChangesNothing old new command why
-    -- 4. What a command makes of the files is what the model says.
+    -- 4. What a command makes of the files is what the model says. Refiles and archives neither
+    -- lose nor double an entry: `refiles_keep_counts` and `archives_keep_counts`, laws of org_store.
     pub as_the_model : FollowsModel
     -- 5. A fault of the device is reported, and only where a call failed.
     pub faults_are_counted : CountsFaults
@@ -126,7 +134,7 @@ module _ {D : Type 0} {g : Ghosts D} {setup : Setup} {disk now : D} {end : Serve
 -- .. and of a run whose store wasn't opened, for this reason: no line is read or answered
 pub record KeepsUnopened {D : Type 0} (g : Ghosts D) (setup : Setup) (disk now : D)
     (fault : OpenFault) (io : Exchange) : Type 0 where
-  pub one_prefix : OutsideStable setup.names.items (g.files disk) → g.honest now
+  pub one_prefix : IsRecoverableOnceSynced setup.names.items (g.files disk) → g.honest now
       → LeavesOver g disk now (IsAsFound (g.files disk))
   pub nothing_served : io.after ≡ io.before
   pub as_the_model : IsRefusedFor g setup.names.items disk now fault

@@ -5,7 +5,7 @@ use Rattle.org_disk.specs.declared.disk.Disk.{Ghosts}
 use Rattle.org_disk.specs.CountsFailures.{LeavesOver}
 use Rattle.org_disk.specs.Disk.{FileState, IsImage, IsStable, AreImages}
 use Rattle.org_disk.specs.Names.{journal_name}
-use Rattle.org_journal.specs.Recovered.{Image, RecoversTo, recovered, contents}
+use Rattle.org_journal.specs.Recovered.{Image, IsRecoverable, RecoversTo, recovered, contents}
 use Rattle.org_fileset.specs.Names.{with_archives, AreFew, AreTooMany}
 use Rattle.org_fileset.specs.declared.open.OpenFault.{OpenFault}
 use Rattle.org_fileset.specs.declared.open.OpenFault.TheVariants.{TooManyFiles, Device, OutOfMemory}
@@ -53,9 +53,26 @@ pub record AnswersSync {D A : Type 0} (given : List (List ℕ)) (old new : D)
   pub refused : IfErr result (IsSyncFault given)
   pub unused : result ≡ Err TooManyFiles → new ≡ old
 
+-- The store's files were synced, and all others are as they were.
+pub record AreOwnSynced (given : List (List ℕ)) (old new : List ℕ → FileState) : Type 0 where
+  pub own : AreSynced (stored given) old new
+  pub others : (name : List ℕ) → IsNotStored given name → new name ≡ old name
+
+-- What a run supposes of its folder: once the store's files are synced, the disk is recoverable. So
+-- every other file is on the disk, unless the record of an open journal names it; and that record
+-- makes the same of whatever a crash leaves of the files that it names.
+abbrev pub IsRecoverableOnceSynced : List (List ℕ) → (List ℕ → FileState) → Type 0
+IsRecoverableOnceSynced given files =
+    (synced : List ℕ → FileState) → AreOwnSynced given files synced → IsRecoverable synced
+
 -- every file but the store's is on the disk
 abbrev pub OutsideStable : List (List ℕ) → (List ℕ → FileState) → Type 0
 OutsideStable given files = (name : List ℕ) → IsNotStored given name → IsStable (files name)
+
+-- of the files that aren't the store's, those that were on the disk still are
+abbrev pub OutsideStaysStable : List (List ℕ) → (old new : List ℕ → FileState) → Type 0
+OutsideStaysStable given old new =
+    (name : List ℕ) → IsNotStored given name → IsStable (old name) → IsStable (new name)
 
 -- the image recovers to what the files recover to as they read
 abbrev pub RecoversAsRead : (List ℕ → FileState) → Image → Type 0

@@ -8,6 +8,7 @@ use Rattle.org_disk.specs.Names.{journal_name}
 use Rattle.org_journal.specs.Recovered.{Image, IsRecoverable, contents, recovered}
 use Rattle.org_fileset.specs.declared.open.OpenFault.{OpenFault}
 use Rattle.org_fileset.specs.declared.open.OpenFault.TheVariants as open_fault
+use Rattle.org_fileset.specs.Left.{EachIsLeft, IsLeft}
 use Rattle.org_fileset.specs.Names.{with_archives, AreFew, AreSorted, first_large}
 use Rattle.org_fileset.specs.Opening.{IsRefusedFor}
 use Rattle.org_fileset.specs.Recovery.{EachRecovers, IsReopened, RecoversAsBefore, is_closed}
@@ -24,7 +25,7 @@ use Rattle.org_serve.specs.declared.whole.Setup.{Setup}
 use Rattle.org_serve.specs.History.{HoldsSettled, HoldsSince, Reaches}
 use Rattle.org_serve.specs.Pipes.{EndsForCause, Exchange, output_of}
 use Rattle.org_serve.specs.Serving.{Answers, MayHaveSettled, RunsLines, Serves, WritesSome, traces_while_honest}
-use Rattle.org_serve.specs.Syncing.{IsNotStored, OutsideStable, IsAsFound}
+use Rattle.org_serve.specs.Syncing.{IsNotStored, IsRecoverableOnceSynced, OutsideStaysStable, IsAsFound}
 
 -- The session of a store that was just opened over these files, as it was set up: it has the given
 -- names, which are few, and those of their archive files.
@@ -131,6 +132,13 @@ module _ {D : Type 0} {g : Ghosts D} {setup : Setup} {disk now : D} {end : Serve
       (here : Trace D) → IsIntermediate here → g.honest here.store.disk
       → Lists here.store.session here.texts
 
+  -- Up to each intermediate store over a disk that is honest there, a crash leaves no file that an
+  -- opening finds changed by its bytes.
+  abbrev pub LeavesNoneChanged : Type 0
+  LeavesNoneChanged =
+      (later : Trace D) → IsIntermediate later → g.honest later.store.disk
+      → LeavesOver g disk later.store.disk IsLeft
+
   -- What a crash leaves of a run: up to each intermediate store over a disk that is honest there,
   -- at the last to the end. `Before` is what it leaves of what was there when the run began.
   pub record DurableFrom (Before : Image → Type 0) : Type 0 where
@@ -188,14 +196,19 @@ pub record ServesDisk {D : Type 0} (g : Ghosts D) (setup : Setup) (disk now : D)
   pub lists : ListsFiles served
   -- over a disk that was recoverable, of which each image recovered to files
   pub lasts : IsRecoverable (g.files disk) → EachRecovers (g.files disk) → IsDurable served
+  -- .. and left no file that is changed by its bytes
+  pub left : IsRecoverable (g.files disk) → EachRecovers (g.files disk) → EachIsLeft (g.files disk)
+      → LeavesNoneChanged served
 
 -- .. and of one that syncs the store's files before it opens the store
 pub record ServesSynced {D : Type 0} (g : Ghosts D) (setup : Setup) (disk now : D) (end : ServeEnd)
     (io : Exchange) : Type 0 where
   pub serves : ServesDisk g setup disk now end io
-  -- over a disk of which all other files were on the device
-  pub lasts_found : OutsideStable setup.names.items (g.files disk)
+  -- over a disk that is recoverable once the store's files are synced
+  pub lasts_found : IsRecoverableOnceSynced setup.names.items (g.files disk)
       → DurableFrom serves.served (IsAsFound (g.files disk))
+  pub left_found : IsRecoverableOnceSynced setup.names.items (g.files disk)
+      → EachIsLeft (g.files disk) → LeavesNoneChanged serves.served
 
 -- What a run makes of a disk that is honest at the end: `disk` is what it was given, and `now` what
 -- it gives back.
@@ -216,24 +229,30 @@ pub record LeavesDiskOfRun {D : Type 0} (g : Ghosts D) (setup : Setup) (disk now
   -- the disk is as recoverable at the end, so that all this may be done again
   pub recoverable : IsRecoverable (g.files disk) → EachRecovers (g.files disk)
       → IsRecoverable (g.files now) × EachRecovers (g.files now)
+  -- Where a crash left no file that is changed by its bytes, it leaves none, however this ends; so
+  -- none is left for the next run.
+  pub left : IsRecoverable (g.files disk) → EachRecovers (g.files disk) → EachIsLeft (g.files disk)
+      → LeavesOver g disk now IsLeft × EachIsLeft (g.files now)
   -- files that are none of the run's are left alone, however it ends, and whatever is on the disk
   pub alone : LeavesAlone g (IsForeignTo g setup disk) disk now
 
--- The same of a run that syncs the store's files before it opens the store, and more where all
--- other files are on the disk at first.
+-- The same of a run that syncs the store's files before it opens the store, and more where the disk
+-- is recoverable then.
 pub record LeavesSyncedDisk {D : Type 0} (g : Ghosts D) (setup : Setup) (disk now : D)
     (end : Result ServeEnd OpenFault) : Type 0 where
   -- whatever is on the disk at first
   pub leaves_disk : LeavesDiskOfRun g setup disk now end
   -- where the opening is refused, a crash leaves the files as they were found, or what recovers to
   -- what they read as
-  pub unopened_as_found : OutsideStable setup.names.items (g.files disk)
+  pub unopened_as_found : IsRecoverableOnceSynced setup.names.items (g.files disk)
       → IfErr end (λ _. LeavesOver g disk now (IsAsFound (g.files disk)))
-  -- the disk is recoverable at the end; or the store wasn't opened, and the other files are on the
-  -- disk as before
-  pub recoverable_once_synced : OutsideStable setup.names.items (g.files disk)
+  -- the disk is recoverable at the end; or the store wasn't opened, and those of the other files
+  -- that were on the disk still are
+  pub recoverable_once_synced : IsRecoverableOnceSynced setup.names.items (g.files disk)
       → (IsRecoverable (g.files now) × EachRecovers (g.files now))
-      ⊎ (IsErr end × OutsideStable setup.names.items (g.files now))
+      ⊎ (IsErr end × OutsideStaysStable setup.names.items (g.files disk) (g.files now))
+  pub left_once_synced : IsRecoverableOnceSynced setup.names.items (g.files disk)
+      → EachIsLeft (g.files disk) → LeavesOver g disk now IsLeft × EachIsLeft (g.files now)
 
 -- The disk failed in a run that ended so: the fault of the opening says it, or the end. An end
 -- with a failed read or write says nothing of the disk.

@@ -3,10 +3,14 @@
 //! Each is the contract of a function with nothing to do.
 ghost use Rattle.std.specs.Prelude.{ℕ, List, [], ◌≡◌, ◌∷◌, ◌++◌, ◌<◌, ◌≤◌, ◌^◌, slice_get};
 ghost use Rattle.std.specs.List.{AllByRecursion};
-ghost use Rattle.std.specs.Prelude.{All, Some, Result, IsFalse};
+ghost use Rattle.std.specs.Prelude.{All, Some, Result, IsFalse, IsSomeAnd};
 ghost use Rattle.org_disk.specs.CountsFailures.{LeavesOver};
-ghost use Rattle.org_disk.specs.Names.{IsOrgFile};
-ghost use Rattle.org_journal.specs.Recovered.{Image};
+ghost use Rattle.org_disk.specs.Disk.{FileState, IsImage};
+ghost use Rattle.org_disk.specs.Names.{IsOrgFile, journal_name};
+ghost use Rattle.org_disk.specs.OwnImages.{IsOwnImage};
+ghost use Rattle.org_journal.specs.Gate.{is_open};
+ghost use Rattle.org_journal.specs.Recovered.{Image, IsRecoverable};
+ghost use Rattle.org_fileset.specs.Left.{EachIsLeft};
 ghost use Rattle.org_fileset.specs.Replay.{RestsOn, files_on};
 ghost use Rattle.org_fileset.specs.Names.{AreFew};
 ghost use Rattle.org_fileset.specs.Writes.{LeavesAlone};
@@ -19,7 +23,7 @@ ghost use Rattle.org_commands.specs.declared.command.Reply.{Reply};
 ghost use Rattle.org_commands.specs.declared.command.RunFault.{RunFault};
 ghost use Rattle.org_commands.specs.declared.tally.Group.TheVariants.{Whole};
 ghost use Rattle.org_store.specs.History.{Trace, Lists, HoldsPrefix};
-ghost use Rattle.org_commands.specs.InOrder.{AreNames};
+ghost use Rattle.org_commands.specs.InOrder.{AreNames, texts_of};
 ghost use Rattle.org_store.specs.Left.{IsApart};
 ghost use Rattle.org_store.specs.OnePlace.{HaveSameNodes, HasNodesOf, HasNodesOfPrefix, IsSessionOf};
 ghost use Rattle.org_store.specs.Opening.{opened};
@@ -31,10 +35,11 @@ ghost use Rattle.org_serve.specs.History.{HoldsSettled, HoldsSince, OnlyRefiles}
 ghost use Rattle.org_serve.specs.declared.end.ServeEnd.{ServeEnd};
 ghost use Rattle.org_serve.specs.Serving.{RunsAndWrites, RunsLines, stores_while_honest, traces_while_honest};
 ghost use Rattle.org_serve.specs.Pipes.{Exchange};
-ghost use Rattle.org_serve.specs.Promises.{IsAfterPrefix};
+ghost use Rattle.org_serve.specs.Promises.{IsAfterPrefix, files_after};
 ghost use Rattle.org_serve.specs.Whole.{IsIntermediate, ServesOver};
 ghost use Rattle.org_serve.specs.declared.whole.Setup.{Setup};
 ghost use Rattle.org_serve.specs.Spelling.{line_of, IsSpellable};
+ghost use Rattle.org_serve.specs.Syncing.{IsRecoverableOnceSynced, OutsideStable};
 ghost use Rattle.org_serve.specs.Grammar.{command_of, IsWritten, escaped, unescaped, path_of, path_field};
 ghost use Rattle.org_serve.specs.Lines.{cut, joined, HasNoNewline};
 ghost use Rattle.org_serve.specs.Replies.{answer_text, safe_line, reported_safe};
@@ -150,11 +155,26 @@ pub fn every_image_opens<D: Disk>()
         → IsOpenable setup.names.items image }
 {}
 
-/// One run after another. Where the second is given a disk that reads as what a crash left of the
-/// first, and the same names, it begins with the files after a prefix of the first one's accepted
-/// commands: the one of which `Promises` speaks, and which has at least as many as it says.
+/// One run after another, whichever files each has. Where the second is given a disk that reads as
+/// what a crash left of the first, it begins with all files as they are after a prefix of the first
+/// one's accepted commands: the one of which `Promises` speaks, and which has at least as many as
+/// it says. So a file of both has its text after these commands, and a file of the second one alone
+/// is as it was once the first had opened.
 pub fn next_run_goes_on<D: Disk, E: Disk>()
-    ensures { (one other : Setup) (disk now : D) (left after : E) (end last : ServeEnd)
+    ensures any { (one other : Setup) (disk now : D) (left after : E) (end last : ServeEnd)
+        (io more : Exchange) (first : ServesOver D.Disk one disk now end io)
+        (second : ServesOver E.Disk other left after last more)
+        (state : Trace D) (least : ℕ) (image : Image)
+        → All IsOrgFile other.names.items
+        → IsAfterPrefix first state least image
+        → ((name : List ℕ) → files_on E.Disk left name ≡ image name)
+        → E.honest second.first.store.disk
+        → (n : ℕ) × (least ≤ n) × (n ≤ state.store.session.accepted)
+        × IsSomeAnd (slice_get state.texts n) (λ texts.
+        second.first.store.session.files
+        ≡ texts_of (files_after first texts) second.first.store.session.names) }
+    // with the same names: its texts are those of the first one's list
+    ensures same { (one other : Setup) (disk now : D) (left after : E) (end last : ServeEnd)
         (io more : Exchange) (first : ServesOver D.Disk one disk now end io)
         (second : ServesOver E.Disk other left after last more)
         (state : Trace D) (least : ℕ) (image : Image)
@@ -166,6 +186,29 @@ pub fn next_run_goes_on<D: Disk, E: Disk>()
         → E.honest second.first.store.disk
         → (n : ℕ) × (least ≤ n) × (n ≤ state.store.session.accepted)
         × (slice_get state.texts n ≡ Some second.first.store.session.files) }
+{}
+
+/// Over which folders a run promises one prefix, and that what was acknowledged stays
+/// (`KeepsPromises`): those that are recoverable once the store's files are synced. A folder of
+/// which all other files are on the disk is one of them. So is one that is recoverable as it is,
+/// such as a run leaves that was cut short, whichever files the next run has.
+pub fn folders_are_recoverable_once_synced()
+    ensures outside { (given : List (List ℕ)) (files : List ℕ → FileState)
+        → OutsideStable given files → IsRecoverableOnceSynced given files }
+    // each file reads as a crash may leave it, as on any honest disk
+    ensures recoverable { (given : List (List ℕ)) (files : List ℕ → FileState)
+        → ((name : List ℕ) → IsOwnImage (files name)) → IsRecoverable files
+        → IsRecoverableOnceSynced given files }
+{}
+
+/// Of which folders a run supposes that a crash leaves no file which an opening finds changed by its
+/// bytes (`left_once_synced`): of those whose journal is closed, whatever a crash leaves of it. A
+/// run leaves such a folder, and `crashed_disk_opens_again` of org_fileset says it of one that a
+/// crash left.
+pub fn closed_folders_have_no_changed_file()
+    ensures { (files : List ℕ → FileState)
+        → ((bytes : List ℕ) → IsImage (files journal_name) bytes → IsFalse (is_open bytes))
+        → EachIsLeft files }
 {}
 
 /// No file is written but the store's own and the journal while lines are served

@@ -38,48 +38,17 @@ pub struct Served<D> {
 
 /// Syncs the files of a store, opens it over them, answers the lines of a reader by it as `serve`
 /// does, and gives the disk back. The files are the journal, those of the names, and their archive
-/// files. For proofs alone there is each intermediate store, and one list: the texts of all files
-/// as they were opened, and after each accepted command.
+/// files.
 ///
-/// What is said of a step is said where the disk is honest after it: a wrong answer later takes
-/// nothing from it. Up to each intermediate store the replies to the lines so far are the model's.
-/// An opening finishes what a crash had cut short, and leaves a journal whose gate is closed as it
-/// is.
+/// What a user is promised of a run is one record of `specs/Promises.antt` (`promises`). All that
+/// is known of it is another, of `specs/Whole.antt` (`runs`): what was served, what a crash leaves
+/// at each moment and over which disks, and why the run ended. What is said of a step is said where
+/// the disk is honest after it: a wrong answer later takes nothing from it.
 ///
-/// On a disk that is recoverable, of which each image recovers to files, every image at every
-/// moment since the call began, up to an intermediate store, recovers to what an image at the start
-/// recovered to, or to the files after one prefix of the commands accepted by then. Since an
-/// earlier intermediate store that wasn't broken, that prefix is the commands that were
-/// acknowledged there, or it has all that were accepted there (`HoldsSince`): so at one moment
-/// nothing between the two is on the disk, and since a reply `safe a` was answered, the first a
-/// commands are (`laws::safe_is_acknowledged`). Where it ends with `End`, each image at the end
-/// recovers to the files after all of them. The disk is as recoverable at the end, so that all this
-/// may be done again.
+/// # Errors
 ///
-/// Only the other files have to be on the disk at first: where they are, whatever the store's own
-/// files held that wasn't on the disk, a crash at any moment since this began leaves one image of
-/// the files as they were found, or what recovers to what they read as, or to the files after one
-/// prefix of the commands accepted by then; from each intermediate store on, what it leaves is as
-/// above. The disk is then left recoverable, and each image of it recovers to files; or the store
-/// wasn't opened, and the other files are on the disk as before.
-///
-/// Where the group is whole, that prefix is the commands that were acknowledged, or all that were
-/// accepted as a line `settle` was run (`HoldsSettled`): nothing of a step that no line settled is
-/// ever on the disk.
-///
-/// No file is written but the store's own, the journal and those that the record of an open journal
-/// names: up to an intermediate store, and at the end, each other file is as it was, and a crash
-/// leaves of it what it might have left before, on any disk (`LeavesForeign`).
-///
-/// The faults are those of `Store::open`, and then nothing is read or written; a sync that fails is
-/// an opening that is refused with `Device`. The ends, when each comes, and what is written then,
-/// are those of `serve`. The store at the end is broken where the disk counted a failure, and isn't
-/// where it counted none. Too many names leave the disk unused. Where the journal is bad, as it
-/// reads, a crash leaves what it might have left before, whatever fault is reported. With `Device`,
-/// or an opening that is refused so, it ends only where the disk counted a failure, and with `End`
-/// or `Unsettled` only where it counted none.
-///
-/// What a user is promised of all this is said once more in one record (`promises`).
+/// The faults are those of `Store::open`, and then nothing is read or written. A sync that fails is
+/// an opening that is refused with `Device`. The ends are those of `serve`.
 pub fn serve_synced<D: Disk, R: Source, W: Sink>(
     alloc: Global,
     disk: D,

@@ -71,6 +71,7 @@ module _ {D : Type 0} (g : Ghosts D) where
         disk = record {
           any_moment = λ rest. leaves_as (ran.disk.any_moment rest)
               (λ image left. left_as old.session (contents (g.files old.disk)) AsksToSettle answer (reply_of n answer) new.session.accepted image (settle_wrote n answer) left);
+          left = ran.disk.left;
           others = λ fine. ran.disk.others (λ failed. fine (ap (reply_of n) failed));
           rest = λ fine. ran.disk.rest (λ failed. fine (ap (reply_of n) failed));
           recoverable = ran.disk.recoverable;

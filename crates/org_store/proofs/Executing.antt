@@ -141,6 +141,7 @@ module _ {D : Type 0} (g : Ghosts D) (old : StoreView D)
     leaves_filled given answer new full counted wrote failed leaves = record {
       any_moment = λ rest. leaves_as (leaves.any_moment rest) (λ image left. ⊎_elim (λ held. inl held)
           (λ put. inr (wrote put.0, (put.1.0, subst (λ (o : Outcome). PutsOnDisk old.session o new.session.accepted put.1.0) (sym accepts) (put.1.1, full, counted), put.1.2))) left);
+      left = leaves.left;
       others = λ fine. leaves.others (λ fell. fine (failed fell));
       rest = λ fine. leaves.rest (λ fell. fine (failed fell));
       recoverable = leaves.recoverable;
@@ -171,7 +172,7 @@ module _ {D : Type 0} (g : Ghosts D) (old : StoreView D)
           step = λ h. (unbroken, inr (inl (texts, files, (torn_now h).1, (names, accepts), full, ap (λ (s : Session). record s { files = files }) (torn_now h).2)));
           disk = λ h.
               let leaves = leaves_filled (Err Device) (Err Device) mid full settles.counts.accepted (λ wrote. wrote) (λ fell. refl) (settles.did h).disk in
-              record { any_moment = leaves.any_moment; others = leaves.others; rest = leaves.rest; recoverable = leaves.recoverable; alone = leaves.alone };
+              record { any_moment = leaves.any_moment; left = leaves.left; others = leaves.others; rest = leaves.rest; recoverable = leaves.recoverable; alone = leaves.alone };
           dirty_files = λ h. refl;
           counts = (inr settles.counts.accepted, settles.counts.acknowledged, settles.counts.group);
           broken = says_broken old.session (record mid.session { files = files }) (Err Device) unbroken (λ broken. absurd (cc)) (λ fell. broke, λ broken. refl);

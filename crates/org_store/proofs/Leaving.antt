@@ -5,6 +5,7 @@ use Rattle.org_disk.specs.Disk.{FileState, AreImages, Passes}
 use Rattle.org_disk.proofs.Moments.{passes_none, passes_as, passes_then, leaves_only}
 use Rattle.org_journal.specs.Recovered.{Image, SameFiles, IsRecoverable, contents}
 use Rattle.org_fileset.specs.Replay.{IsAtRest}
+use Rattle.org_fileset.proofs.Commits.{rest_left}
 use Rattle.org_fileset.proofs.Writes.{alone_fewer, alone_looks, alone_then}
 use Rattle.org_commands.specs.InOrder.{texts_of, with_texts}
 use Rattle.org_commands.specs.Session.{StoreView, Holds}
@@ -24,6 +25,7 @@ module _ {D : Type 0} (g : Ghosts D) where
         → new.session.settled ≡ texts_of (contents (g.files new.disk)) new.session.names → LeavesDisk g old new Left Alone Failed
     leaves_same new passes same now = record {
       any_moment = λ rest. leaves_only (passes_as passes (still rest)) (λ image since. still rest image (start image since));
+      left = λ rest. leaves_only (passes_as passes (rest_left (g.files old.disk) rest)) (λ image since. rest_left (g.files old.disk) rest image (start image since));
       others = λ fine. others_unwritten new.session.names new.session.settled (g.files old.disk) (g.files new.disk) now same;
       rest = λ fine rest. subst IsAtRest (sym same) rest;
       recoverable = λ rest. subst IsRecoverable (sym same) (inl (λ name not. rest.stable name));
@@ -44,6 +46,8 @@ module _ {D : Type 0} (g : Ghosts D) where
     leaves_after mid new Later Under Fell passes same later weaker fewer failed = record {
       any_moment = λ rest. leaves_only
           (passes_then (passes_as passes (still rest)) (later.any_moment (subst IsAtRest (sym same) rest)).passes weaker) (λ image since. still rest image (start image since));
+      left = λ rest. leaves_only
+          (passes_then (passes_as passes (rest_left (g.files old.disk) rest)) (later.left (subst IsAtRest (sym same) rest)).passes (λ image left. left)) (λ image since. rest_left (g.files old.disk) rest image (start image since));
       others = λ fine. subst (λ (f : List ℕ → FileState). SameFiles (contents (g.files new.disk)) (with_texts new.session.names new.session.settled (contents f))) same (later.others (λ fell. fine (failed fell)));
       rest = λ fine rest. later.rest (λ fell. fine (failed fell)) (subst IsAtRest (sym same) rest);
       recoverable = λ rest. later.recoverable (subst IsAtRest (sym same) rest);

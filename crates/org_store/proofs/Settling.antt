@@ -2,11 +2,13 @@
 use Rattle.std.proofs.Common.{◌≡◌, ℕ, List, inl, inr, ⊎_elim, false, true, Result, Ok, Err, refl, sym, ◌∙◌, ap, subst}
 use Rattle.std.specs.Prelude.{◌↔◌, IsErrOf, IsTrue}
 use Rattle.org_disk.specs.declared.disk.Disk.{Ghosts}
+use Rattle.org_disk.specs.CountsFailures.{LeavesOver}
 use Rattle.org_disk.specs.Disk.{AreImages, FileState, LeavesOnly}
 use Rattle.org_outline.specs.States.{Keywords}
 use Rattle.org_journal.specs.Recovered.{Image, IsRecoverable, contents}
 use Rattle.org_fileset.specs.declared.fault.SetFault.{SetFault}
 use Rattle.org_fileset.specs.declared.fault.SetFault.TheVariants as set
+use Rattle.org_fileset.specs.Left as of_set
 use Rattle.org_fileset.specs.Replay.{IsAtRest}
 use Rattle.org_fileset.specs.Writes.{LeavesAlone, IsOther}
 use Rattle.org_fileset.proofs.Writes.{alone_fewer}
@@ -62,18 +64,19 @@ module _ {D : Type 0} (g : Ghosts D) (states : Keywords) (old new : OpenFiles D)
 
   pub settle_leaves : (result : Result (Unit {0}) SetFault) (fault : SetFault) → Fails old new result fault
       → (IsAtRest (g.files old.disk) → LeavesOnly (g.instant old.disk) (g.instant new.disk) (g.left_since old.disk) (g.left_since new.disk) (HoldsEither old.names (contents (g.files old.disk)) before.session.files))
-      → (IsAtRest (g.files old.disk) → IsRecoverable (g.files new.disk)) → LeavesAlone g (IsOther old.held.before.dirty) old.disk new.disk
+      → (IsAtRest (g.files old.disk) → LeavesOver g old.disk new.disk of_set.IsLeft) → (IsAtRest (g.files old.disk) → IsRecoverable (g.files new.disk)) → LeavesAlone g (IsOther old.held.before.dirty) old.disk new.disk
       → LeavesDisk g before now (IsLeft {A = Unit {0}} before.session (contents (g.files old.disk)) AsksToSettle (Err (fault_of_set fault)) now.session.accepted)
       (IsLeftAlone {A = Unit {0}} before.session before.dirty AsksToSettle (Err (fault_of_set fault)) now.session.accepted) (IsErrOf {T = Unit {0}} (Err (fault_of_set fault)) Device)
-  settle_leaves result set.OutOfMemory fails leaves fit alone = settle_unwritten OutOfMemory (fails.memory fails.is)
-  settle_leaves result set.Device fails leaves fit alone = record {
+  settle_leaves result set.OutOfMemory fails leaves left fit alone = settle_unwritten OutOfMemory (fails.memory fails.is)
+  settle_leaves result set.Device fails leaves left fit alone = record {
     any_moment = λ rest. leaves_as (leaves rest) (λ image either. ⊎_elim (λ held. inl held) (λ all. inr (refl, (before.session.files, refl, all))) either);
+    left = left;
     others = λ fine. absurd (fine refl);
     rest = λ fine. absurd (fine refl);
     recoverable = fit;
     alone = alone_fewer g (IsLeftAlone {A = Unit {0}} before.session before.dirty AsksToSettle (Err Device) now.session.accepted) (IsOther old.held.before.dirty) old.disk new.disk alone (λ name this. this refl);
   }
-  settle_leaves result set.Broken fails leaves fit alone = absurd (fails.works fails.is)
+  settle_leaves result set.Broken fails leaves left fit alone = absurd (fails.works fails.is)
 
 -- what a settling that is done leaves of the disk
 pub leaves_settled : {D : Type 0} (g : Ghosts D) (states : Keywords) (old new : OpenFiles D) (was now : Tally) → new.names ≡ old.names
@@ -82,6 +85,7 @@ pub leaves_settled : {D : Type 0} (g : Ghosts D) (states : Keywords) (old new : 
     (IsLeftAlone {A = Unit {0}} (view_over g.files states old was).session old.held.before.dirty AsksToSettle (Ok (tt {0})) now.accepted) (IsErrOf {T = Unit {0}} {E = RunFault} (Ok (tt {0})) Device)
 leaves_settled g states old new was now names made = record {
   any_moment = λ rest. leaves_as (made.any_moment rest) (λ image either. ⊎_elim (λ held. inl held) (λ all. inr (tt, ((session_over (λ disk. contents (g.files disk)) states old was).files, refl, all))) either);
+  left = made.left;
   others = λ fine. rw (names, made.texts) made.others;
   rest = λ fine. made.rest;
   recoverable = made.recoverable;

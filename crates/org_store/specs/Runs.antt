@@ -2,8 +2,10 @@
 -- meanwhile.
 use Rattle.std.specs.Prelude.{◌≡◌, ◌⊎◌, ◌↔◌, ℕ, List, [], Result, IsErrOf, IsTrue}
 use Rattle.org_disk.specs.declared.disk.Disk.{Ghosts}
+use Rattle.org_disk.specs.CountsFailures.{LeavesOver}
 use Rattle.org_disk.specs.Disk.{LeavesOnly}
 use Rattle.org_journal.specs.Recovered.{Image, SameFiles, IsRecoverable, contents}
+use Rattle.org_fileset.specs.Left as of_set
 use Rattle.org_fileset.specs.Replay.{IsAtRest}
 use Rattle.org_fileset.specs.Writes.{LeavesAlone}
 use Rattle.org_commands.specs.declared.command.Command.{Command}
@@ -27,6 +29,8 @@ pub record LeavesDisk {D : Type 0} (g : Ghosts D) (old new : StoreView D) (Left 
   pub any_moment : IsAtRest (g.files old.disk)
       → LeavesOnly (g.instant old.disk) (g.instant new.disk) (g.left_since old.disk)
       (g.left_since new.disk) Left
+  -- .. in which no file is found to be changed by its bytes
+  pub left : IsAtRest (g.files old.disk) → LeavesOver g old.disk new.disk of_set.IsLeft
   -- where the disk didn't fail: the store's files have the texts that are settled, and all others
   -- are as they were
   pub others : (Failed → ⊥)

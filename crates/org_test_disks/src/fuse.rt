@@ -159,6 +159,18 @@ impl<D: Disk> Disk for Fuse<D> {
         self.disk.sync(name)
     }
 
+    fn confirm(&mut self, name: &FileName, bytes: &[u8]) -> Result<(), DiskFault>
+        requires { D.honest self.old.disk → (D.files self.old.disk name.now).content ≡ bytes.now }
+        ensures looks { Looks D.Disk self.old.disk self.new.disk }
+        ensures accounts { AccountsOfFuse D.Disk self.old self.new result }
+        ensures burns { Burns self.old self.new result }
+    {
+        if !self.burn() {
+            return Err(DiskFault);
+        }
+        self.disk.confirm(name, bytes)
+    }
+
     fn standing(&mut self, name: &FileName) -> Result<Standing, DiskFault>
         ensures looks { Looks D.Disk self.old.disk self.new.disk }
         ensures accounts { AccountsOfFuse D.Disk self.old self.new result }

@@ -421,6 +421,15 @@ impl Disk for MemoryDisk {
     }
 
     /// Nobody else writes this disk.
+    fn confirm(&mut self, name: &FileName, bytes: &[u8]) -> Result<(), DiskFault>
+        requires { (memory_files self.old name.now).content ≡ bytes.now }
+        ensures looks { HasNoEffect self.old self.new }
+        ensures turn { TakesTurn self.old self.new result }
+        ensures recorded { OnOk result (call_count self.new ≡ call_count self.old + 1) }
+    {
+        self.look(name)
+    }
+
     fn standing(&mut self, _name: &FileName) -> Result<Standing, DiskFault> {
         Ok(Standing::Left)
     }

@@ -1,4 +1,4 @@
-// Stands in the place of a program, and runs it under strace, each run with a trace of its own. It is linked statically, so
+// Stands in place of a program, and runs it under strace, each run with a trace of its own. It is linked statically, so
 // that a library that is preloaded isn't loaded into it. A run beside such a library, or with a limit that would be strace's
 // too, isn't traced.
 #include <stdio.h>

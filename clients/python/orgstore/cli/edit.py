@@ -49,7 +49,7 @@ def edit(run: Run) -> int:
 
 
 def put_back(run: Run, entry: Entry, before: bytes, after: bytes, path: str) -> int:
-    """Puts the edited text in the place of the entry, where that is still as it was."""
+    """Puts the edited text in place of the entry, where that is still as it was."""
     where = Place(entry.file, path=entry.heading.steps)
 
     def act(store: Store, found: List[Entry]) -> int:

@@ -11,8 +11,8 @@ ghost use Rattle.org_folder.specs.Calls.Event.{Listed};
 ghost use Rattle.org_folder.specs.Raw.{AreOwnModes, CutsOff, Enters, GoesWith, IsFolderSynced, IsMadeAt, IsPathOf, OnlyAsks, SyncsFolder, acts, effects};
 
 use super::access::is_shared;
+use super::looks::{last_change, length_of, look_again, read_back, same_in};
 use super::reach::{find, find_or_make, found, is_journal, narrow};
-use super::seen::{Change, Seen};
 use super::standing::{Times, stands};
 use super::{Found, Opened, System};
 use crate::calls::{Calls, Handle, HostCalls, How, Locks, Status};
@@ -49,8 +49,6 @@ pub struct CallsSystem<C: Calls, S: Start> {
     is_synced: bool,
     // a sync of an entry failed
     has_failed: bool,
-    // the folder's last change when the journal was found in it, where any later one shows
-    unchanged: Option<Change>,
     // the times of the journal when it was opened
     journal: Option<Times>,
     // more than those whom it is for may use the journal
@@ -79,7 +77,6 @@ impl<C: Calls + Drop, S: Start> CallsSystem<C, S> {
             streams: [None, None, None],
             is_synced: false,
             has_failed: false,
-            unchanged: None,
             journal: None,
             is_wide: false,
             is_open: false,
@@ -124,6 +121,8 @@ impl<C: Calls + Drop, S: Start> CallsSystem<C, S> {
     }
 
     // A file that may be written, and to which its name leads; it is as the calls so far left it.
+    // Where the journal's name leads to it still, the journal isn't looked at: many systems note
+    // times at greater cost where these were looked at.
     fn try_file(&mut self, opened: &Opened<C::File>) -> io::Result<()>
         ensures asks { OnlyAsks (C.made self.old.calls) (C.made self.new.calls) }
         ensures log { self.new.log ≡ self.old.log }
@@ -131,35 +130,12 @@ impl<C: Calls + Drop, S: Start> CallsSystem<C, S> {
         if !opened.is_writable {
             return Err(Error::from(ErrorKind::PermissionDenied));
         }
-        if is_journal(&opened.name) {
-            return self.try_journal(opened);
-        }
-        only_same(opened, &self.calls.stat(opened.name.as_str())?)
-    }
-
-    // Where the folder has changed no entry since the journal was found in it, its name leads there
-    // still. So the journal isn't looked at before each write: many systems note times at greater
-    // cost where these were looked at.
-    fn try_journal(&mut self, opened: &Opened<C::File>) -> io::Result<()>
-        ensures asks { OnlyAsks (C.made self.old.calls) (C.made self.new.calls) }
-        ensures log { self.new.log ≡ self.old.log }
-    {
-        let folder = Change::of(&self.calls.stat("")?);
-        if self.is_unchanged(&folder) {
+        let folder = last_change(&mut self.calls, self.lock.as_ref())?;
+        if is_journal(&opened.name) && opened.is_found(&folder) {
             return Ok(());
         }
-        only_same(opened, &self.calls.stat(opened.name.as_str())?)?;
-        let entry = self.calls.link_stat(opened.name.as_str())?;
-        let is_shown = entry.is_file() && Change::of(&entry).is_later_than(&folder);
-        self.unchanged = if is_shown { Some(folder) } else { None };
+        same_in(&mut self.calls, &folder, opened)?;
         Ok(())
-    }
-
-    fn is_unchanged(&self, folder: &Change) -> bool {
-        match self.unchanged {
-            Some(before) => before.is_still(folder),
-            None => false,
-        }
     }
 }
 
@@ -202,14 +178,6 @@ fn folder_path(alloc: Global, path: &str) -> Result<String, AllocError>
         folder.push('/')?;
     }
     Ok(folder)
-}
-
-// What a name leads to now is the file that was opened, and it is as the calls so far left it.
-fn only_same<F>(opened: &Opened<F>, now: &Status) -> io::Result<()> {
-    if !opened.seen.get().is_still(&Seen::of(now)) {
-        return Err(Error::from(ErrorKind::Other));
-    }
-    Ok(())
 }
 
 // The folder at a path, where the system opens and locks it.
@@ -276,34 +244,20 @@ fn note_write<F>(opened: &Opened<F>, from: u64, bytes: &[u8], is_written: bool) 
     });
 }
 
-fn cut_off<C: Calls>(calls: &mut C, opened: &Opened<C::File>, to: u64) -> io::Result<()>
+fn cut_off<C: Calls>(
+    calls: &mut C,
+    lock: Option<&Handle<C::File>>,
+    opened: &Opened<C::File>,
+    to: u64,
+) -> io::Result<()>
     ensures { CutsOff opened.now.name to (C.made calls.old) (C.made calls.new) (is_ok result) }
 {
     let before = opened.seen.get();
     opened.seen.set(before.left(None));
     calls.truncate(&opened.handle, to)?;
     opened.seen.set(before.left(Some(to)));
-    measured(calls, opened, true)?;
+    look_again(calls, lock, opened)?;
     Ok(())
-}
-
-// The length of a file; what the system says of it is kept for the next try. While it is being
-// written for a record, its name has to lead to it still, and it has to be as the calls so far left
-// it: else another program replaced or wrote it since, and the next try would take that for our own
-// work, or what is written next would go into a file that has no name.
-fn measured<C: Calls>(calls: &mut C, opened: &Opened<C::File>, is_written: bool) -> io::Result<u64>
-    ensures { OnlyAsks (C.made calls.old) (C.made calls.new) }
-{
-    let status = if is_written {
-        calls.stat(opened.name.as_str())?
-    } else {
-        calls.file_stat(&opened.handle)?
-    };
-    if is_written {
-        only_same(opened, &status)?;
-    }
-    opened.seen.set(Seen::of(&status));
-    Ok(status.length)
 }
 
 // A fault says no more than that the call failed.
@@ -389,7 +343,11 @@ impl<C: Calls + Drop, S: Start> System for CallsSystem<C, S> {
     }
 
     fn length(&mut self, opened: &Opened<C::File>) -> Result<u64, DiskFault> {
-        let length = answered(measured(&mut self.calls, opened, self.is_open))?;
+        let length = if self.is_open {
+            answered(look_again(&mut self.calls, self.lock.as_ref(), opened))?
+        } else {
+            answered(length_of(&mut self.calls, opened))?
+        };
         self.log.note_file(Call::Length(length), &opened.name, &[]);
         Ok(length)
     }
@@ -429,7 +387,7 @@ impl<C: Calls + Drop, S: Start> System for CallsSystem<C, S> {
     }
 
     fn cut(&mut self, opened: &Opened<C::File>, to: u64) -> Result<(), DiskFault> {
-        let answer = answered(cut_off(&mut self.calls, opened, to));
+        let answer = answered(cut_off(&mut self.calls, self.lock.as_ref(), opened, to));
         self.log
             .note_file(Call::Cut(to, answer.is_ok()), &opened.name, &[]);
         answer
@@ -454,6 +412,10 @@ impl<C: Calls + Drop, S: Start> System for CallsSystem<C, S> {
         self.is_synced = self.is_synced || opened.is_own;
         opened.is_entered = true;
         Ok(())
+    }
+
+    fn confirm(&mut self, opened: &Opened<C::File>, bytes: &[u8]) -> Result<(), DiskFault> {
+        answered(read_back(&mut self.calls, self.lock.as_ref(), opened, bytes))
     }
 
     fn standing(&mut self, name: &FileName) -> Result<Standing, DiskFault> {

@@ -44,7 +44,11 @@ fn looked_at<C: Calls>(calls: &mut C, name: &FileName) -> io::Result<Status>
 }
 
 // The same, where this stands in the folder itself.
-fn followed<C: Calls>(calls: &mut C, name: &FileName, entry: Status) -> io::Result<Status>
+pub(super) fn followed<C: Calls>(
+    calls: &mut C,
+    name: &FileName,
+    entry: Status,
+) -> io::Result<Status>
     ensures { OnlyAsks (C.made calls.old) (C.made calls.new) }
 {
     if entry.is_file() || is_journal(name) {

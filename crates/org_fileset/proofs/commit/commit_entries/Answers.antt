@@ -3,7 +3,7 @@ use Rattle.org_disk.proofs.Accounting.{accounts_then, accounts_ok}
 use Rattle.org_journal.proofs.Accounted.{accounts_failed}
 use Rattle.org_fileset.proofs.OpenGate.{on_ok_never}
 use Rattle.org_fileset.proofs.Commits.{WritesRecord, open_writes, opened_writes, still_can}
-use Rattle.org_fileset.proofs.Tried.{applicable_tried, gate_tried, writes_tried, commits_failed, commits_unwritten, commits_written, commits_err, commits_tried}
+use Rattle.org_fileset.proofs.Tried.{applicable_tried, gate_tried, writes_tried, commits_failed, commits_unwritten, commits_written}
 use Rattle.org_fileset.proofs.Again.{commits_again, writes_again}
 use Rattle.org_fileset.proofs.commit.commit_entries.Given.{Over}
 use Rattle.org_fileset.proofs.commit.commit_entries.Goals as goal
@@ -119,8 +119,8 @@ replay-requires-clause-opened g c ended =
     let at = goal.at.replay-requires-clause-opened g c in
     (tried_again g at.In_ok-try_again (written g at.In_ok-open_gate) ended).opened
 
-pub returns-in_err-replay : goal.returns-in_err-replay
-returns-in_err-replay g c = record {
+pub returns : goal.returns
+returns g c = record {
   commits = λ ended.
       let d = g.D.Disk in
       let again = c.replay.ensures.accounts.was_honest ended in
@@ -128,32 +128,10 @@ returns-in_err-replay g c = record {
       let tried = c.arm.ensures.accounts.was_honest (c.open_gate.ensures.put.accounts.was_honest opened) in
       let honest = c.try_all.ensures.accounts.was_honest tried in
       let disk = c.args.disk.now in
-      let at = goal.at.returns-in_err-replay g c in
-      commits_err d c.args.entries.now disk (λ image left. g.met.D.Disk.only_now disk image honest left) c.replay.new.disk c.replay.result c.from_residual-in_err-replay.result
-      (commits_written d c.args.entries.now disk (λ image left. g.met.D.Disk.only_now disk image honest left) (c.requires.applicable honest) c.try_again.new.disk c.replay.new.disk tt
-      (tried_again g at.In_ok-try_again (written g at.In_ok-open_gate) again) c.replay.result (c.replay.ensures.replays ended))
-      c.from_residual-in_err-replay.ensures.0;
-  accounts = accounts_then (accounts_ok c.in_ok-try_all.ensures.accounts) (accounts_then (accounts_ok c.in_ok-arm.ensures.accounts)
-      (accounts_then (accounts_ok c.in_ok-open_gate.ensures.put.accounts) (accounts_then (accounts_ok c.in_ok-try_again.ensures.accounts)
-      (accounts_failed c.from_residual-in_err-replay.ensures.0 c.in_err-replay.ensures.accounts))));
-}
-
-pub returns : goal.returns
-returns g c = record {
-  commits = λ ended.
-      let d = g.D.Disk in
-      let replayed = c.try_files.ensures.accounts.was_honest ended in
-      let again = c.replay.ensures.accounts.was_honest replayed in
-      let opened = c.try_again.ensures.accounts.was_honest again in
-      let tried = c.arm.ensures.accounts.was_honest (c.open_gate.ensures.put.accounts.was_honest opened) in
-      let honest = c.try_all.ensures.accounts.was_honest tried in
-      let disk = c.args.disk.now in
       let at = goal.at.returns g c in
-      commits_tried d c.args.entries.now disk (λ image left. g.met.D.Disk.only_now disk image honest left) c.replay.new.disk c.try_files.new.disk tt c.try_files.result
-      (commits_written d c.args.entries.now disk (λ image left. g.met.D.Disk.only_now disk image honest left) (c.requires.applicable honest) c.try_again.new.disk c.replay.new.disk tt
-      (tried_again g at.In_ok-try_again (written g at.In_ok-open_gate) again) (Ok tt) (c.in_ok-replay.ensures.replays replayed))
-      (c.try_files.ensures.tries ended) (λ n. g.met.D.Disk.content_is_image c.try_files.new.disk n ended);
+      commits_written d c.args.entries.now disk (λ image left. g.met.D.Disk.only_now disk image honest left) (c.requires.applicable honest) c.try_again.new.disk c.replay.new.disk tt
+      (tried_again g at.In_ok-try_again (written g at.In_ok-open_gate) again) c.replay.result (c.replay.ensures.replays ended);
   accounts = accounts_then (accounts_ok c.in_ok-try_all.ensures.accounts) (accounts_then (accounts_ok c.in_ok-arm.ensures.accounts)
       (accounts_then (accounts_ok c.in_ok-open_gate.ensures.put.accounts) (accounts_then (accounts_ok c.in_ok-try_again.ensures.accounts)
-      (accounts_then (accounts_ok c.in_ok-replay.ensures.accounts) c.try_files.ensures.accounts))));
+      c.replay.ensures.accounts)));
 }

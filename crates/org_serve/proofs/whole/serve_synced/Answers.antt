@@ -4,6 +4,7 @@ use Rattle.org_disk.specs.CountsFailures.{CountsFailures, LeavesOver}
 use Rattle.org_disk.specs.Names.{journal_name}
 use Rattle.org_journal.specs.Recovered.{Image, SameFiles, contents}
 use Rattle.org_fileset.specs.declared.open.OpenFault.{OpenFault}
+use Rattle.org_fileset.specs.Left.{IsLeft}
 use Rattle.org_fileset.specs.Recovery.{IsReopened, RecoversAsBefore}
 use Rattle.org_fileset.specs.Replay.{IsAtRest}
 use Rattle.org_fileset.specs.Writes.{LeavesAlone, IsUnconcerned}
@@ -14,6 +15,7 @@ use Rattle.org_serve.specs.Writes.{pipes}
 use Rattle.org_serve.proofs.Breaking.{breaks_by_count, served_accounts}
 use Rattle.org_serve.proofs.Counting.{ended_unserved}
 use Rattle.org_serve.proofs.Foreign.{given_back_alone}
+use Rattle.org_serve.proofs.Lefts.{each_left, none_changed_at_end}
 use Rattle.org_serve.proofs.Opened.{of_disk, is_sound, serves_lasting, left_recovers, each_recovers}
 use Rattle.org_serve.proofs.Promised.{promises}
 use Rattle.org_serve.proofs.Synced.{runs_synced, unsynced_leaves_disk}
@@ -41,6 +43,7 @@ returns-in-Ok-clause-runs g c =
     c.serve-end.new.store c.into_disk.result c.into_disk.ensures c.serve-end.ensures.calls
     (λ honest. (c.serve-end.ensures.did (rw (← c.into_disk.ensures) honest)).0)
     (λ fit each. here (λ k. d.honest k → LeavesOver d mid k (RecoversAsBefore (d.files mid))) (λ honestly. (reopens honestly).any_moment fit each))
+    (λ fit each kept. here (λ k. d.honest k → LeavesOver d mid k IsLeft) (λ honestly. (reopens honestly).left fit each kept))
     (breaks_by_count begun c.serve-end.new.store counts c.serve-end.ensures.accounts
     sound c.into_disk.ensures) in
     runs_synced d laws.content_is_image laws.counts_now setup c.args.disk mid c.into_disk.result (Ok c.serve-end.result)
@@ -59,6 +62,9 @@ returns-in-Ok-clause-runs g c =
             recoverable = λ fit each.
                 let rest = here (λ k. IsAtRest (d.files k)) (reopened.rest fit each) in
                 (rw c.into_disk.ensures ((c.serve-end.ensures.did now).1.recoverable rest), left_recovers laws.only_now laws.counts_now served.served honest (served.lasts fit each));
+            left = λ fit each kept.
+                let leaves = none_changed_at_end served.served (served.left fit each kept) honest in
+                (leaves, each_left d mid c.into_disk.result (λ image left. laws.counts_now c.into_disk.result (d.instant mid) image honest leaves.passes.later left) leaves);
             alone = given_back_alone served.served honest;
           };
       refused = tt;
@@ -90,6 +96,9 @@ returns-in-Err-open-clause-runs g c =
                   each_recovers d mid now (RecoversAsBefore (d.files mid))
                       (λ image left. laws.counts_now now (d.instant mid) image honest leaves.passes.later left) leaves (λ image left. (left.texts, left.recovers_now)),
                 );
+            left = λ fit each kept.
+                let leaves = reopens.left fit each kept in
+                (leaves, each_left d mid now (λ image left. laws.counts_now now (d.instant mid) image honest leaves.passes.later left) leaves);
             alone = alone_fewer d (IsForeign c.args.setup.names.items (contents (d.files mid) journal_name)) (IsUnconcerned (contents (d.files mid) journal_name)) mid now reopens.alone
                 (λ name foreign. foreign.unconcerned);
           };

@@ -64,7 +64,7 @@ returns-in_err-commit-clause-settles g c states =
       did = λ honest. record {
         step = rw given (settle_failed (λ disk. contents (d.files disk)) states (kept files) (kept new) tally c.commit.result fault fails);
         disk = rw given (settle_leaves d states (kept files) (kept new) tally (λ image left. g.met.D.Disk.only_now files.disk image (made.accounts.was_honest honest) left) c.commit.result fault fails
-            (λ rest. (made.commits.commits honest).any_moment rest) (made.commits.commits honest).recoverable (made.commits.commits honest).alone);
+            (λ rest. (made.commits.commits honest).any_moment rest) (made.commits.commits honest).left (made.commits.commits honest).recoverable (made.commits.commits honest).alone);
         dirty_files = rw given (ap (λ (held : Holding). held.now.dirty) c.in_err-commit.ensures.keeps.held);
         idle = idle;
       };

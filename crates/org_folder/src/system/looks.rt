@@ -1,0 +1,125 @@
+//! Looks at a file that was opened: whether another program has changed or replaced it since.
+//!
+//! A file's name is known to lead to it by the folder's last change, as long as that stays: to follow
+//! the name takes longer than to look at the folder and at the open file.
+ghost use Rattle.org_folder.specs.Raw.{OnlyAsks};
+
+use super::Opened;
+use super::reach::followed;
+use super::seen::{Change, Seen};
+use crate::calls::{Calls, Handle, Status};
+use std::io;
+use std::io::{Error, ErrorKind};
+
+// How many bytes are read back at once.
+const PIECE: usize = 16_384;
+
+// The last change of the folder, which was locked if the system could open it.
+pub(super) fn last_change<C: Calls>(
+    calls: &mut C,
+    lock: Option<&Handle<C::File>>,
+) -> io::Result<Change>
+    ensures { OnlyAsks (C.made calls.old) (C.made calls.new) }
+{
+    let status = match lock {
+        Some(folder) => calls.file_stat(folder)?,
+        None => calls.stat("")?,
+    };
+    Ok(Change::of(&status))
+}
+
+// What the system says of a file that was opened, in a folder whose last change is this one. Its
+// name has to lead to it still, and it has to be as the calls so far left it. Else another program
+// replaced or wrote it since: the next try would take that for our own work, or what is written
+// next would go into a file that has no name.
+pub(super) fn same_in<C: Calls>(
+    calls: &mut C,
+    folder: &Change,
+    opened: &Opened<C::File>,
+) -> io::Result<Status>
+    ensures { OnlyAsks (C.made calls.old) (C.made calls.new) }
+{
+    let status = if opened.is_found(folder) {
+        calls.file_stat(&opened.handle)?
+    } else {
+        named_in(calls, folder, opened)?
+    };
+    if !opened.seen.get().is_still(&Seen::of(&status)) {
+        return Err(Error::from(ErrorKind::Other));
+    }
+    Ok(status)
+}
+
+// What the name of an opened file leads to, in a folder whose last change is this one. A later
+// change shows, if the system's clock has gone on since that one.
+fn named_in<C: Calls>(
+    calls: &mut C,
+    folder: &Change,
+    opened: &Opened<C::File>,
+) -> io::Result<Status>
+    ensures { OnlyAsks (C.made calls.old) (C.made calls.new) }
+{
+    let entry = calls.link_stat(opened.name.as_str())?;
+    let is_shown = entry.is_file() && Change::of(&entry).is_later_than(folder);
+    opened
+        .found
+        .set(if is_shown { Some(*folder) } else { None });
+    followed(calls, &opened.name, entry)
+}
+
+// The length of a file that is the same still. What the system says of it is kept for the next look.
+pub(super) fn look_again<C: Calls>(
+    calls: &mut C,
+    lock: Option<&Handle<C::File>>,
+    opened: &Opened<C::File>,
+) -> io::Result<u64>
+    ensures { OnlyAsks (C.made calls.old) (C.made calls.new) }
+{
+    let folder = last_change(calls, lock)?;
+    let status = same_in(calls, &folder, opened)?;
+    opened.seen.set(Seen::of(&status));
+    Ok(status.length)
+}
+
+// The length of a file, whatever became of it; it is kept likewise.
+pub(super) fn length_of<C: Calls>(calls: &mut C, opened: &Opened<C::File>) -> io::Result<u64>
+    ensures { OnlyAsks (C.made calls.old) (C.made calls.new) }
+{
+    let status = calls.file_stat(&opened.handle)?;
+    opened.seen.set(Seen::of(&status));
+    Ok(status.length)
+}
+
+// Fails where a file isn't the same still, or doesn't hold these bytes. It is looked at before it is
+// read, so that a later change shows at the next look.
+pub(super) fn read_back<C: Calls>(
+    calls: &mut C,
+    lock: Option<&Handle<C::File>>,
+    opened: &Opened<C::File>,
+    bytes: &[u8],
+) -> io::Result<()>
+    ensures { OnlyAsks (C.made calls.old) (C.made calls.new) }
+{
+    if look_again(calls, lock, opened)? != bytes.len() as u64 {
+        return Err(Error::from(ErrorKind::Other));
+    }
+    compare(calls, &opened.handle, bytes)
+}
+
+// Reads a file piece by piece. It fails where that doesn't begin with these bytes.
+fn compare<C: Calls>(calls: &mut C, file: &Handle<C::File>, bytes: &[u8]) -> io::Result<()>
+    ensures { OnlyAsks (C.made calls.old) (C.made calls.new) }
+{
+    let mut buffer = [0u8; PIECE];
+    let mut from = 0;
+    while from < bytes.len() {
+        let size = (bytes.len() - from).min(PIECE);
+        let read = &mut buffer[..size];
+        calls.read(file, from as u64, read)?;
+        if &*read != &bytes[from..from + size] {
+            return Err(Error::from(ErrorKind::Other));
+        }
+        from += size;
+    }
+    Ok(())
+}
