@@ -17,6 +17,7 @@ them.
 import argparse
 import contextlib
 import ctypes
+import faulthandler
 import os
 import signal
 import subprocess
@@ -156,9 +157,11 @@ def supervise() -> None:
 
 
 def end_once(number: int, _: object) -> None:
-    """Ends a script with its `finally` parts, which no second signal breaks off."""
+    """Ends a script with its `finally` parts, which no second signal breaks off. One that took too long says where it was."""
     for each in ENDING:
         signal.signal(each, signal.SIG_IGN)
+    if number == signal.SIGTERM:
+        faulthandler.dump_traceback()
     sys.exit(128 + number)
 
 

@@ -2,7 +2,7 @@
 from __future__ import annotations
 
 import collections
-import multiprocessing
+import concurrent.futures
 import os
 import random
 import shutil
@@ -67,10 +67,10 @@ def one(trace: str, seed: int) -> Compared:
 
 
 def all_of(traces: str) -> List[Compared]:
-    """Compares each trace of a folder."""
-    paths = sorted(os.path.join(traces, name) for name in os.listdir(traces))
-    with multiprocessing.Pool() as pool:
-        return pool.starmap(one, [(path, number) for number, path in enumerate(paths)], chunksize=8)
+    """Compares each trace of a folder, the longest first. It fails where the system kills a process that compares."""
+    paths = sorted((os.path.join(traces, name) for name in os.listdir(traces)), key=os.path.getsize, reverse=True)
+    with concurrent.futures.ProcessPoolExecutor() as pool:
+        return list(pool.map(one, paths, range(len(paths))))
 
 
 def by_kind(compared: List[Compared]) -> Dict[str, List[int]]:
