@@ -20,6 +20,7 @@ struct file {
 
 static const char *folder;
 static int folder_fd;
+static int is_folder_seen; /* no write, cut, sync or read came since it was looked at */
 static int journal;
 static struct file files[FILES];
 static size_t file_count;
@@ -35,12 +36,14 @@ static void fail(const char *call)
 
 static void put_at(int fd, const void *bytes, size_t count, off_t from)
 {
+    is_folder_seen = 0;
     if (pwrite(fd, bytes, count, from) != (ssize_t)count)
         fail("pwrite");
 }
 
 static void sync_data(int fd)
 {
+    is_folder_seen = 0;
     if (fdatasync(fd) != 0)
         fail("fdatasync");
 }
@@ -95,10 +98,18 @@ static uint64_t number(const unsigned char **at, int bytes)
     return value;
 }
 
-/* Looks at a file, and before that at the folder, which has changed no entry. */
+/* Looks at the folder, which has changed no entry. Looks in a row share one. */
+static void look_at_folder(void)
+{
+    if (!is_folder_seen)
+        length_of(folder_fd);
+    is_folder_seen = 1;
+}
+
+/* Looks at a file, and before that at the folder. */
 static uint64_t look_at(const struct file *one)
 {
-    length_of(folder_fd);
+    look_at_folder();
     return length_of(one->fd);
 }
 
@@ -107,6 +118,7 @@ static void read_back(const struct file *one)
 {
     static char back[BACK];
     uint64_t length = look_at(one);
+    is_folder_seen = 0;
     for (uint64_t from = 0; from < length; from += BACK) {
         size_t size = length - from < BACK ? (size_t)(length - from) : BACK;
         if (pread(one->fd, back, size, (off_t)from) != (ssize_t)size)
@@ -114,14 +126,16 @@ static void read_back(const struct file *one)
     }
 }
 
-/* Passes over what an entry says of its file as it was before: its length, and the bytes beside the patches. */
-static void pass_before(const unsigned char **at)
+/* Passes over what an entry says of its file as it was before: its length, which is the answer, and the bytes beside the
+   patches. */
+static uint64_t pass_before(const unsigned char **at)
 {
-    number(at, 8);
+    uint64_t length = number(at, 8);
     for (int beside = 0; beside < 2; beside++) {
         uint64_t count = number(at, 1);
         *at += count;
     }
+    return length;
 }
 
 /* Does this with each file of a record. */
@@ -146,7 +160,19 @@ static void try_file(const struct file *one)
     look_at(one);
 }
 
-/* Lays the patches of a record, and syncs its files. */
+/* Cuts a file that is longer. */
+static void cut_to(const struct file *one, uint64_t final)
+{
+    if (look_at(one) <= final)
+        return;
+    is_folder_seen = 0;
+    if (ftruncate(one->fd, (off_t)final) != 0)
+        fail("ftruncate");
+    look_at(one);
+}
+
+/* Lays the patches of a record, and syncs its files. Of several files each is looked at before it is written, and once more
+   just after. */
 static void lay(const unsigned char *at)
 {
     int changed[FILES];
@@ -157,19 +183,19 @@ static void lay(const unsigned char *at)
         int fd = changed[entry] = one->fd;
         at += named;
         uint64_t final = number(&at, 8);
-        pass_before(&at);
-        look_at(one);
+        uint64_t before = pass_before(&at);
+        if (entries > 1)
+            look_at(one);
         for (uint64_t patches = number(&at, 4); patches > 0; patches--) {
             uint64_t from = number(&at, 8), count = number(&at, 8);
             if (count > 0)
                 put_at(fd, at, count, (off_t)from);
             at += count;
         }
-        if (look_at(one) > final) {
-            if (ftruncate(fd, (off_t)final) != 0)
-                fail("ftruncate");
+        if (before > final)
+            cut_to(one, final);
+        else if (entries > 1)
             look_at(one);
-        }
     }
     for (uint64_t entry = 0; entry < entries; entry++)
         sync_data(changed[entry]);
@@ -182,15 +208,16 @@ static void commit(void)
         exit(1);
     }
     size_t body = number(&script, 8);
-    length_of(folder_fd);
+    look_at_folder();
     each_file(script + HEADER, try_file);
     put_at(journal, script, body, 1);
     sync_data(journal);
     set_gate(1);
     each_file(script + HEADER, try_file);
     lay(script + HEADER);
-    set_gate(0);
     each_file(script + HEADER, read_back);
+    set_gate(0);
+    each_file(script + HEADER, try_file);
     script += body;
     acknowledged = accepted;
 }

@@ -1,11 +1,11 @@
 -- A file of which each image is as its entry allows: the calls that apply the entry keep it so.
-use Rattle.std.proofs.Common.{◌≡◌, ◌⊎◌, inl, inr, ⊎_elim, ℕ, suc, ◌+◌, ◌-◌, ◌<◌, ◌≤◌, ◌++◌, min, max, List, [], ◌∷◌, length, get_or, set, take, drop, replicate, true, false, Option, Some, None, refl, sym, ◌∙◌, ap, subst, arith, length-append, length-set, length-take}
-use Rattle.std.specs.Prelude.{◌&&◌, nat_le, slice_get, IfSome, IsSomeAnd}
+use Rattle.std.proofs.Common.{◌≡◌, ◌⊎◌, inl, inr, ⊎_elim, ℕ, suc, ◌+◌, ◌-◌, ◌<◌, ◌≤◌, ◌++◌, min, max, List, [], ◌∷◌, length, get_or, set, take, drop, replicate, true, Option, Some, None, refl, sym, ◌∙◌, ap, subst, arith, length-append, length-set, length-take}
+use Rattle.std.specs.Prelude.{◌&&◌, nat_le, IfSome, IsSomeAnd}
 use Rattle.std.proofs.lemmas.Bool.{and_parts, cases_lt, false≢true, leb-true}
 use Rattle.std.proofs.lemmas.List.{get_or-drop, get_or-set_other, get_or-set_same, get_or-take, get_or_append_left, length-drop, length-replicate}
-use Rattle.org_disk.specs.Disk.{FileState, IsFixed, IsImage, IsOutside, cut, sync, write}
+use Rattle.org_disk.specs.Disk.{FileState, IsImage, IsOutside}
 use Rattle.org_disk.proofs.Names.{name_cases}
-use Rattle.org_splice.specs.Patches.{AreWellFormed, last_end}
+use Rattle.org_splice.specs.Patches.{last_end}
 use Rattle.org_splice.specs.Texts.{pairs_of}
 use Rattle.org_journal.specs.declared.record.Before.{Before}
 use Rattle.org_journal.specs.declared.record.Entry.{Entry}

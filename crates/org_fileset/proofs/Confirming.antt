@@ -45,7 +45,7 @@ texts_changed (change ∷ changes) files distinct =
       others_hold change changes changes files (IsDistinct-head bytes_eq change.0 (keys_of changes) distinct) (texts_changed changes files (IsDistinct-tail bytes_eq change.0 (keys_of changes) distinct)),
     )
 
-hold_as : (changes : List Change) (files to : Image) → ((name : List ℕ) → to name ≡ files name) → HoldTexts changes files → HoldTexts changes to
+pub hold_as : (changes : List Change) (files to : Image) → ((name : List ℕ) → to name ≡ files name) → HoldTexts changes files → HoldTexts changes to
 hold_as [] files to same hold = tt
 hold_as (change ∷ changes) files to same hold = (same change.0 ∙ hold.0, hold_as changes files to same hold.1)
 

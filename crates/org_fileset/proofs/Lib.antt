@@ -15,6 +15,7 @@ pub mod Recovers
 mod OpenGate
 pub mod Commits
 mod Changes
+mod Closing
 mod Noted
 mod Contexts
 mod Allowed

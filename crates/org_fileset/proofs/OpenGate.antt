@@ -99,6 +99,13 @@ rest_after old new rest only is others stable = record {
 pub open_long : (journal : List ℕ) → is_open journal ≡ true → front_size ≤ length journal
 open_long journal opened = leb-true front_size (length journal) (and_parts (nat_le front_size (length journal)) (slice_index journal 0 == 1) opened).0
 
+-- .. as the journal under its name is, once the record's files were written
+pub long_open : (entries : List Entry) (old new : List ℕ → FileState) → AreApplicable entries → IsOpenOver entries old
+    → ((name : List ℕ) → is_named name entries ≡ false → new name ≡ old name) → (journal : List ℕ) → journal ≡ journal_name → 1 ≤ length (new journal).content
+long_open entries old new applicable is others journal name_is =
+    let long : front_size ≤ length (new journal_name).content = open_long (new journal_name).content (still_open entries old new applicable is others).opened in
+    subst (λ (n : List ℕ). 1 ≤ length (new n).content) (sym name_is) (omega arith)
+
 -- what is asked of an Ok alone
 pub on_ok_never : {T E : Type 0} (P : Type 0) (r : Result T E) → IsErr r → OnOk r P
 on_ok_never P r failed = IfOk-from_err r (λ done. P) failed

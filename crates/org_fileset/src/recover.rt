@@ -75,7 +75,7 @@ fn redo<D: Disk>(
     ensures accounts { CountsFailures D.Disk disk.old disk.new (IsErr result) }
 {
     mark(disk, journal, end)?;
-    replay(disk, journal, entries, false)
+    replay(disk, journal, entries)
 }
 
 /// Finishes what was found in the journal, which is on the device.

@@ -2,16 +2,11 @@
 //!
 //! Between two calls the journal's gate is closed, but after a failure of the disk: from then on
 //! the set is broken, and makes no call. It holds no text; what files held is the caller's to keep.
-ghost use Rattle.std.specs.Prelude.{◌≡◌, ◌≢◌, [], true, false, IsFalse, IfOk, IsErr, IsErrOf, IsOk};
-ghost use Rattle.std.specs.List.{All, AllByRecursion};
+ghost use Rattle.std.specs.Prelude.{◌≡◌, [], true, false, IsFalse, IfOk, IsErr, IsErrOf, IsOk};
+ghost use Rattle.std.specs.List.{All};
 ghost use Rattle.org_disk.specs.CountsFailures.{CountsFailures, Looks};
 ghost use Rattle.org_disk.specs.Names.{IsOrgFile, journal_name};
-ghost use Rattle.org_journal.specs.Gate.{HasClosedGate};
-ghost use Rattle.org_journal.specs.Record.{BeginsWith};
-ghost use Rattle.org_journal.specs.Recovered.{contents, replayed};
-ghost use Rattle.org_fileset.specs.Entries.{HoldTexts};
 ghost use Rattle.org_fileset.specs.Opening.{Opens};
-ghost use Rattle.org_fileset.specs.Replay.{AreApplicableTo, CommitsEntriesOver};
 ghost use Rattle.org_fileset.specs.Set.{CanCommit, CommitsSet, ReadsBytes, IsOpenedSet, KeepsSet, disk_of};
 
 use crate::commit::commit_entries;
@@ -19,8 +14,8 @@ use crate::entries::entries_of;
 use crate::fault::SetFault;
 use crate::lengths::{note_length, note_lengths};
 use crate::open::{OpenFault, OpenRefused, journal_and_names, make_ready};
-use org_disk::{Disk, DiskFault, FileName};
-use org_journal::{Entry, GREATEST_LENGTH, Record};
+use org_disk::{Disk, FileName};
+use org_journal::{GREATEST_LENGTH, Record};
 use org_splice::Changes;
 use std::alloc::Global;
 use std::marker::Model;
@@ -183,7 +178,7 @@ impl<D: Disk> FileSet<D> {
         let entries = entries_of(alloc, changes, &self.names, &self.lengths)?;
         let record = Record::new(entries);
         let body = record.encode(alloc)?;
-        match commit_changes(
+        match commit_entries(
             &mut self.disk,
             &self.journal,
             record.as_slice(),
@@ -200,42 +195,6 @@ impl<D: Disk> FileSet<D> {
             }
         }
     }
-}
-
-// Commits the entries of changed files, and reads the files back.
-fn commit_changes<D: Disk, C: Changes<FileName>>(
-    disk: &mut D,
-    journal: &FileName,
-    entries: &[Entry],
-    body: &[u8],
-    changes: &C,
-) -> Result<(), DiskFault>
-    requires journal { journal.now ≡ journal_name }
-    requires applicable { D.honest disk.old → AreApplicableTo entries.now (D.files disk.old) }
-    requires body { BeginsWith body.now entries.now }
-    requires gate { D.honest disk.old → HasClosedGate (D.files disk.old journal_name) }
-    requires named { AllByRecursion (λ change. change.0 ≢ journal_name) (C.pairs changes.now) }
-    requires texts { D.honest disk.old → HoldTexts (C.pairs changes.now)
-        (replayed entries.now (contents (D.files disk.old))) }
-    ensures commits { D.honest disk.new
-        → CommitsEntriesOver D.Disk entries.now disk.old disk.new result }
-    ensures accounts { CountsFailures D.Disk disk.old disk.new (IsErr result) }
-{
-    commit_entries(disk, journal, entries, body)?;
-    confirm_all(disk, changes)
-}
-
-// Asks whether each changed file holds its text, as it should.
-fn confirm_all<D: Disk, C: Changes<FileName>>(disk: &mut D, changes: &C) -> Result<(), DiskFault>
-    requires { D.honest disk.old → HoldTexts (C.pairs changes.now) (contents (D.files disk.old)) }
-    ensures looks { Looks D.Disk disk.old disk.new }
-    ensures accounts { CountsFailures D.Disk disk.old disk.new (IsErr result) }
-{
-    for index in 0..changes.len() {
-        let (name, text) = changes.pair(index);
-        disk.confirm(name, text.bytes())?;
-    }
-    Ok(())
 }
 
 // The bytes of a file of a disk.

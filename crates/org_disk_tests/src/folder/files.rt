@@ -41,11 +41,12 @@ const WRITTEN: &[Step] = &[
     ),
 ];
 
-// A write of no bytes fails where another program has put another file in the place of one, or has
-// changed it since the last look.
+// A write of no bytes fails where another program has put another file in place of one, or has
+// changed it since the last look. After a sync the folder is looked at anew.
 const TRIED: &[Step] = &[
     Step::Call("a.org", Call::Write(b"* A\n"), Ok(0), 0),
     Step::Call("a.org", Call::Write(b""), Ok(0), 0),
+    Step::Call("a.org", Call::Sync, Ok(0), 0),
     Step::Other("tried/a.org", Entry::Gone),
     Step::Call("a.org", Call::Write(b""), Err(DiskFault), 1),
     Step::Other("tried/a.org", Entry::File(b"* A\n")),

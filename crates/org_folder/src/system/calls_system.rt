@@ -11,7 +11,7 @@ ghost use Rattle.org_folder.specs.Calls.Event.{Listed};
 ghost use Rattle.org_folder.specs.Raw.{AreOwnModes, CutsOff, Enters, GoesWith, IsFolderSynced, IsMadeAt, IsPathOf, OnlyAsks, SyncsFolder, acts, effects};
 
 use super::access::is_shared;
-use super::looks::{last_change, length_of, look_again, read_back, same_in};
+use super::looks::{Base, last_change, length_of, look_again, read_back, same_in};
 use super::reach::{find, find_or_make, found, is_journal, narrow};
 use super::standing::{Times, stands};
 use super::{Found, Opened, System};
@@ -41,8 +41,7 @@ const OPEN: u8 = 1;
 pub struct CallsSystem<C: Calls, S: Start> {
     alloc: Global,
     calls: C,
-    // the folder, where the system locked it
-    lock: Option<Handle<C::File>>,
+    base: Base<C::File>,
     // the folder again, so that no closed stream's number is a file's
     streams: [Option<Handle<C::File>>; 3],
     // the folder was synced, and this has made no file since
@@ -73,7 +72,7 @@ impl<C: Calls + Drop, S: Start> CallsSystem<C, S> {
         CallsSystem {
             alloc,
             calls,
-            lock: None,
+            base: Base::new(None),
             streams: [None, None, None],
             is_synced: false,
             has_failed: false,
@@ -122,7 +121,8 @@ impl<C: Calls + Drop, S: Start> CallsSystem<C, S> {
 
     // A file that may be written, and to which its name leads; it is as the calls so far left it.
     // Where the journal's name leads to it still, the journal isn't looked at: many systems note
-    // times at greater cost where these were looked at.
+    // times at greater cost where these were looked at. Its try begins a commit, and looks at the
+    // folder again: the last command may be long past.
     fn try_file(&mut self, opened: &Opened<C::File>) -> io::Result<()>
         ensures asks { OnlyAsks (C.made self.old.calls) (C.made self.new.calls) }
         ensures log { self.new.log ≡ self.old.log }
@@ -130,8 +130,12 @@ impl<C: Calls + Drop, S: Start> CallsSystem<C, S> {
         if !opened.is_writable {
             return Err(Error::from(ErrorKind::PermissionDenied));
         }
-        let folder = last_change(&mut self.calls, self.lock.as_ref())?;
-        if is_journal(&opened.name) && opened.is_found(&folder) {
+        let is_journal = is_journal(&opened.name);
+        if is_journal {
+            self.base.forget();
+        }
+        let folder = last_change(&mut self.calls, &self.base)?;
+        if is_journal && opened.is_found(&folder) {
             return Ok(());
         }
         same_in(&mut self.calls, &folder, opened)?;
@@ -246,7 +250,7 @@ fn note_write<F>(opened: &Opened<F>, from: u64, bytes: &[u8], is_written: bool) 
 
 fn cut_off<C: Calls>(
     calls: &mut C,
-    lock: Option<&Handle<C::File>>,
+    base: &Base<C::File>,
     opened: &Opened<C::File>,
     to: u64,
 ) -> io::Result<()>
@@ -254,9 +258,10 @@ fn cut_off<C: Calls>(
 {
     let before = opened.seen.get();
     opened.seen.set(before.left(None));
+    base.forget();
     calls.truncate(&opened.handle, to)?;
     opened.seen.set(before.left(Some(to)));
-    look_again(calls, lock, opened)?;
+    look_again(calls, base, opened)?;
     Ok(())
 }
 
@@ -292,7 +297,7 @@ impl<C: Calls + Drop, S: Start> System for CallsSystem<C, S> {
     fn lock(&mut self, path: &str) -> Result<(), Fault<Locked>> {
         let folder = locked(self.alloc, &mut self.calls, path)?;
         self.calls.enter(path, folder.as_ref())?;
-        self.lock = folder;
+        self.base = Base::new(folder);
         self.log.note(Call::Locked, path.as_bytes(), &[]);
         Ok(())
     }
@@ -336,6 +341,7 @@ impl<C: Calls + Drop, S: Start> System for CallsSystem<C, S> {
     }
 
     fn make(&mut self, name: &FileName) -> Result<Opened<C::File>, DiskFault> {
+        self.base.forget();
         self.is_synced = false;
         let answer = made(&mut self.calls, name);
         self.log.note_file(Call::Made(answer.is_ok()), name, &[]);
@@ -344,7 +350,7 @@ impl<C: Calls + Drop, S: Start> System for CallsSystem<C, S> {
 
     fn length(&mut self, opened: &Opened<C::File>) -> Result<u64, DiskFault> {
         let length = if self.is_open {
-            answered(look_again(&mut self.calls, self.lock.as_ref(), opened))?
+            answered(look_again(&mut self.calls, &self.base, opened))?
         } else {
             answered(length_of(&mut self.calls, opened))?
         };
@@ -358,6 +364,7 @@ impl<C: Calls + Drop, S: Start> System for CallsSystem<C, S> {
         from: u64,
         into: &mut [u8],
     ) -> Result<(), DiskFault> {
+        self.base.forget();
         answered(self.calls.read(&opened.handle, from, into))?;
         self.note_gate(opened, from, into);
         self.narrow(opened, from == 0 && !self.is_open);
@@ -377,6 +384,7 @@ impl<C: Calls + Drop, S: Start> System for CallsSystem<C, S> {
                 .note_file(Call::Write(from, answer.is_ok()), &opened.name, bytes);
             return answer;
         }
+        self.base.forget();
         self.note_gate(opened, from, bytes);
         self.narrow(opened, true);
         let answer = answered(self.calls.write(&opened.handle, from, bytes));
@@ -387,13 +395,14 @@ impl<C: Calls + Drop, S: Start> System for CallsSystem<C, S> {
     }
 
     fn cut(&mut self, opened: &Opened<C::File>, to: u64) -> Result<(), DiskFault> {
-        let answer = answered(cut_off(&mut self.calls, self.lock.as_ref(), opened, to));
+        let answer = answered(cut_off(&mut self.calls, &self.base, opened, to));
         self.log
             .note_file(Call::Cut(to, answer.is_ok()), &opened.name, &[]);
         answer
     }
 
     fn sync(&mut self, opened: &Opened<C::File>) -> Result<(), DiskFault> {
+        self.base.forget();
         let answer = answered(self.calls.data_sync(&opened.handle));
         self.log
             .note_file(Call::Sync(answer.is_ok()), &opened.name, &[]);
@@ -403,6 +412,7 @@ impl<C: Calls + Drop, S: Start> System for CallsSystem<C, S> {
     // A file that was found in the folder itself was there when the folder was synced: nobody else
     // makes any.
     fn sync_entry(&mut self, opened: &mut Opened<C::File>) -> Result<(), DiskFault> {
+        self.base.forget();
         let is_there = opened.is_own && self.is_synced;
         let answer = put_entry(&mut self.calls, &opened.name, self.has_failed, is_there);
         self.has_failed = answer.is_err();
@@ -415,7 +425,7 @@ impl<C: Calls + Drop, S: Start> System for CallsSystem<C, S> {
     }
 
     fn confirm(&mut self, opened: &Opened<C::File>, bytes: &[u8]) -> Result<(), DiskFault> {
-        answered(read_back(&mut self.calls, self.lock.as_ref(), opened, bytes))
+        answered(read_back(&mut self.calls, &self.base, opened, bytes))
     }
 
     fn standing(&mut self, name: &FileName) -> Result<Standing, DiskFault> {

@@ -1,31 +1,59 @@
 //! Looks at a file that was opened: whether another program has changed or replaced it since.
 //!
 //! A file's name is known to lead to it by the folder's last change, as long as that stays: to follow
-//! the name takes longer than to look at the folder and at the open file.
+//! the name takes longer than to look at the folder and at the open file. Looks in a row at several
+//! files share one look at the folder.
 ghost use Rattle.org_folder.specs.Raw.{OnlyAsks};
 
 use super::Opened;
 use super::reach::followed;
 use super::seen::{Change, Seen};
 use crate::calls::{Calls, Handle, Status};
+use std::cell::Cell;
 use std::io;
 use std::io::{Error, ErrorKind};
 
 // How many bytes are read back at once.
 const PIECE: usize = 16_384;
 
-// The last change of the folder, which was locked if the system could open it.
-pub(super) fn last_change<C: Calls>(
-    calls: &mut C,
-    lock: Option<&Handle<C::File>>,
-) -> io::Result<Change>
+/// The folder that all names lead from.
+#[derive(Drop)]
+pub(super) struct Base<F> {
+    // where the system could open and lock it
+    lock: Option<Handle<F>>,
+    // its last change, if it was looked at in this commit and since the last call that writes, cuts
+    // or syncs, or that reads a file for the store
+    last: Cell<Option<Change>>,
+}
+
+impl<F: Drop> Base<F> {
+    pub(super) fn new(lock: Option<Handle<F>>) -> Base<F> {
+        Base {
+            lock,
+            last: Cell::new(None),
+        }
+    }
+
+    // A call follows that may take long: the next look at a file looks at the folder again.
+    pub(super) fn forget(&self) {
+        self.last.set(None);
+    }
+}
+
+// The last change of the folder.
+pub(super) fn last_change<C: Calls>(calls: &mut C, base: &Base<C::File>) -> io::Result<Change>
     ensures { OnlyAsks (C.made calls.old) (C.made calls.new) }
 {
-    let status = match lock {
+    if let Some(last) = base.last.get() {
+        return Ok(last);
+    }
+    let status = match &base.lock {
         Some(folder) => calls.file_stat(folder)?,
         None => calls.stat("")?,
     };
-    Ok(Change::of(&status))
+    let last = Change::of(&status);
+    base.last.set(Some(last));
+    Ok(last)
 }
 
 // What the system says of a file that was opened, in a folder whose last change is this one. Its
@@ -39,43 +67,41 @@ pub(super) fn same_in<C: Calls>(
 ) -> io::Result<Status>
     ensures { OnlyAsks (C.made calls.old) (C.made calls.new) }
 {
-    let status = if opened.is_found(folder) {
-        calls.file_stat(&opened.handle)?
-    } else {
-        named_in(calls, folder, opened)?
-    };
-    if !opened.seen.get().is_still(&Seen::of(&status)) {
-        return Err(Error::from(ErrorKind::Other));
+    if opened.is_found(folder) {
+        return only_same(opened, calls.file_stat(&opened.handle)?);
     }
+    let entry = calls.link_stat(opened.name.as_str())?;
+    let status = only_same(opened, followed(calls, &opened.name, entry)?)?;
+    opened.found.set(shown_in(folder, &entry));
     Ok(status)
 }
 
-// What the name of an opened file leads to, in a folder whose last change is this one. A later
-// change shows, if the system's clock has gone on since that one.
-fn named_in<C: Calls>(
-    calls: &mut C,
-    folder: &Change,
-    opened: &Opened<C::File>,
-) -> io::Result<Status>
-    ensures { OnlyAsks (C.made calls.old) (C.made calls.new) }
-{
-    let entry = calls.link_stat(opened.name.as_str())?;
-    let is_shown = entry.is_file() && Change::of(&entry).is_later_than(folder);
-    opened
-        .found
-        .set(if is_shown { Some(*folder) } else { None });
-    followed(calls, &opened.name, entry)
+// Fails where the system says something else of a file than the calls so far left.
+fn only_same<F>(opened: &Opened<F>, now: Status) -> io::Result<Status> {
+    if !opened.seen.get().is_still(&Seen::of(&now)) {
+        return Err(Error::from(ErrorKind::Other));
+    }
+    Ok(now)
+}
+
+// The folder's last change, if a later one shows: the system's clock has gone on since that one, to
+// when it changed a plain file that stands in the folder.
+fn shown_in(folder: &Change, entry: &Status) -> Option<Change> {
+    if entry.is_file() && Change::of(entry).is_later_than(folder) {
+        return Some(*folder);
+    }
+    None
 }
 
 // The length of a file that is the same still. What the system says of it is kept for the next look.
 pub(super) fn look_again<C: Calls>(
     calls: &mut C,
-    lock: Option<&Handle<C::File>>,
+    base: &Base<C::File>,
     opened: &Opened<C::File>,
 ) -> io::Result<u64>
     ensures { OnlyAsks (C.made calls.old) (C.made calls.new) }
 {
-    let folder = last_change(calls, lock)?;
+    let folder = last_change(calls, base)?;
     let status = same_in(calls, &folder, opened)?;
     opened.seen.set(Seen::of(&status));
     Ok(status.length)
@@ -94,13 +120,13 @@ pub(super) fn length_of<C: Calls>(calls: &mut C, opened: &Opened<C::File>) -> io
 // read, so that a later change shows at the next look.
 pub(super) fn read_back<C: Calls>(
     calls: &mut C,
-    lock: Option<&Handle<C::File>>,
+    base: &Base<C::File>,
     opened: &Opened<C::File>,
     bytes: &[u8],
 ) -> io::Result<()>
     ensures { OnlyAsks (C.made calls.old) (C.made calls.new) }
 {
-    if look_again(calls, lock, opened)? != bytes.len() as u64 {
+    if look_again(calls, base, opened)? != bytes.len() as u64 {
         return Err(Error::from(ErrorKind::Other));
     }
     compare(calls, &opened.handle, bytes)

@@ -12,8 +12,8 @@ use Rattle.org_disk.proofs.Accounting.{accounts_ok, accounts_then}
 use Rattle.org_journal.proofs.Accounted.{accounts_failed, accounts_fine_test}
 use Rattle.org_fileset.proofs.apply.apply_all.Goals as goal
 
-pub loop-entry-init : goal.loop-entry-init
-loop-entry-init g c = record {
+pub loop-index-init : goal.loop-index-init
+loop-index-init g c = record {
   goes = goes_none g.D.Disk c.args.entries.now c.args.disk.now;
   have = λ honest j entry none is. absurd (omega arith);
   untouched = λ honest j entry le is. refl;
@@ -21,11 +21,11 @@ loop-entry-init g c = record {
 
 pub apply_entry-requires : goal.apply_entry-requires
 apply_entry-requires g c h =
-    let sofar = c.loop-entry.invariant in
+    let sofar = c.loop-index.invariant in
     let can = c.requires (sofar.goes.accounts.was_honest h) in
-    let i = c.loop-entry.entry-index in
-    let entry = c.entry-item.result in
-    let is = slice_get_read c.args.entries.now (length c.args.entries.now) i entry refl c.loop-entry-test.true c.entry-item.is in
+    let i = c.loop-index.index in
+    let entry = c.index-entries-index.result in
+    let is = slice_get_read c.args.entries.now (length c.args.entries.now) i entry refl c.loop-index-test.true c.index-entries-index.is in
     let own = applicable_at c.args.entries.now i entry can.applicable.each is in
     let applies = replayed-entry c.args.entries.now (contents (g.D.Disk.files c.args.disk.now)) i entry can.applicable can.fits is in
     record {
@@ -36,25 +36,25 @@ apply_entry-requires g c h =
 
 pub returns-in_err-apply_entry-clause-replays : goal.returns-in_err-apply_entry-clause-replays
 returns-in_err-apply_entry-clause-replays g c =
-    let is = slice_get_read c.args.entries.now (length c.args.entries.now) c.loop-entry.entry-index c.entry-item.result refl c.loop-entry-test.true c.entry-item.is in
-    (calls_on g.D.Disk c.args.entries.now _ is (λ h. (c.requires h).applicable) c.loop-entry.invariant.goes c.apply_entry.new.disk c.apply_entry.ensures.accounts.was_honest c.apply_entry.ensures.applies c.apply_entry.ensures.alone).replays
+    let is = slice_get_read c.args.entries.now (length c.args.entries.now) c.loop-index.index c.index-entries-index.result refl c.loop-index-test.true c.index-entries-index.is in
+    (calls_on g.D.Disk c.args.entries.now _ is (λ h. (c.requires h).applicable) c.loop-index.invariant.goes c.apply_entry.new.disk c.apply_entry.ensures.accounts.was_honest c.apply_entry.ensures.applies c.apply_entry.ensures.alone).replays
 
 pub returns-in_err-apply_entry-clause-alone : goal.returns-in_err-apply_entry-clause-alone
 returns-in_err-apply_entry-clause-alone g c =
-    let is = slice_get_read c.args.entries.now (length c.args.entries.now) c.loop-entry.entry-index c.entry-item.result refl c.loop-entry-test.true c.entry-item.is in
-    (calls_on g.D.Disk c.args.entries.now _ is (λ h. (c.requires h).applicable) c.loop-entry.invariant.goes c.apply_entry.new.disk c.apply_entry.ensures.accounts.was_honest c.apply_entry.ensures.applies c.apply_entry.ensures.alone).alone
+    let is = slice_get_read c.args.entries.now (length c.args.entries.now) c.loop-index.index c.index-entries-index.result refl c.loop-index-test.true c.index-entries-index.is in
+    (calls_on g.D.Disk c.args.entries.now _ is (λ h. (c.requires h).applicable) c.loop-index.invariant.goes c.apply_entry.new.disk c.apply_entry.ensures.accounts.was_honest c.apply_entry.ensures.applies c.apply_entry.ensures.alone).alone
 
 pub returns-in_err-apply_entry-clause-accounts : goal.returns-in_err-apply_entry-clause-accounts
-returns-in_err-apply_entry-clause-accounts g c = accounts_then c.loop-entry.invariant.goes.accounts (accounts_failed c.from_residual.ensures.0 c.in_err-apply_entry.ensures.accounts)
+returns-in_err-apply_entry-clause-accounts g c = accounts_then c.loop-index.invariant.goes.accounts (accounts_failed c.from_residual.ensures.0 c.in_err-apply_entry.ensures.accounts)
 
-pub loop-entry-preserved : goal.loop-entry-preserved
-loop-entry-preserved g c =
-    let sofar = c.loop-entry.invariant in
-    let i = c.loop-entry.entry-index in
-    let entry = c.entry-item.result in
-    let is = slice_get_read c.args.entries.now (length c.args.entries.now) i entry refl c.loop-entry-test.true c.entry-item.is in
+pub loop-index-preserved : goal.loop-index-preserved
+loop-index-preserved g c =
+    let sofar = c.loop-index.invariant in
+    let i = c.loop-index.index in
+    let entry = c.index-entries-index.result in
+    let is = slice_get_read c.args.entries.now (length c.args.entries.now) i entry refl c.loop-index-test.true c.index-entries-index.is in
     let old = g.D.Disk.files c.args.disk.now in
-    let mid = g.D.Disk.files c.loop-entry.disk in
+    let mid = g.D.Disk.files c.loop-index.disk in
     let back = c.apply_entry.ensures.accounts.was_honest in
     record {
       goes = goes_on g.D.Disk c.args.entries.now _ is (λ h. (c.requires h).applicable) sofar.goes c.apply_entry.new.disk (accounts_ok c.in_ok-apply_entry.ensures.accounts) c.apply_entry.ensures.applies c.apply_entry.ensures.alone;
@@ -70,12 +70,12 @@ loop-entry-preserved g c =
 
 pub returns : goal.returns
 returns g c = record {
-  replays = c.loop-entry.invariant.goes.calls.replays;
+  replays = c.loop-index.invariant.goes.calls.replays;
   contents = λ ended name.
-      let sofar = c.loop-entry.invariant in
+      let sofar = c.loop-index.invariant in
       let old = g.D.Disk.files c.args.disk.now in
-      all_texts c.args.entries.now (replayed c.args.entries.now (contents old)) c.loop-entry.entry-index old (g.D.Disk.files c.loop-entry.disk) name c.loop-entry-test.false (sofar.have ended)
+      all_texts c.args.entries.now (replayed c.args.entries.now (contents old)) c.loop-index.index old (g.D.Disk.files c.loop-index.disk) name c.loop-index-test.false (sofar.have ended)
       (sofar.goes.calls.alone ended).same (λ none. replayed-other c.args.entries.now (contents old) name (c.requires (sofar.goes.accounts.was_honest ended)).fits none);
-  alone = c.loop-entry.invariant.goes.calls.alone;
-  accounts = accounts_fine_test c.loop-entry.invariant.goes.accounts;
+  alone = c.loop-index.invariant.goes.calls.alone;
+  accounts = accounts_fine_test c.loop-index.invariant.goes.accounts;
 }

@@ -4,11 +4,11 @@ use Rattle.org_fileset.proofs.Replaying.{HaveTexts, AreUntouched}
 use Rattle.org_fileset.proofs.apply.apply_all.Given as goal
 
 -- the entries so far are applied
-abbrev pub invariant-loop-entry : goal.invariant-loop-entry
-invariant-loop-entry g l =
+abbrev pub invariant-loop-index : goal.invariant-loop-index
+invariant-loop-index g l =
     let files = g.D.Disk.files in
     record {
       goes : GoesOn g.D.Disk l.entries l.fn.disk l.disk;
-      have : g.D.Disk.honest l.disk → HaveTexts l.entries (replayed l.entries (contents (files l.fn.disk))) l.entry-index (files l.disk);
-      untouched : g.D.Disk.honest l.disk → AreUntouched l.entries l.entry-index (files l.fn.disk) (files l.disk);
+      have : g.D.Disk.honest l.disk → HaveTexts l.entries (replayed l.entries (contents (files l.fn.disk))) l.index (files l.disk);
+      untouched : g.D.Disk.honest l.disk → AreUntouched l.entries l.index (files l.fn.disk) (files l.disk);
     }

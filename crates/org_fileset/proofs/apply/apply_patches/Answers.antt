@@ -4,7 +4,7 @@ use Rattle.org_splice.proofs.Failing.{not_ok}
 use Rattle.org_disk.specs.Disk.{FileState, write}
 use Rattle.org_splice.specs.Texts.{pairs_of}
 use Rattle.org_splice.specs.Patches.{last_end, patched}
-use Rattle.org_journal.specs.Recovered.{kept_by, may_cut}
+use Rattle.org_journal.specs.Recovered.{kept_by, made_by, may_cut}
 use Rattle.org_fileset.specs.Replay.{AppliesOver}
 use Rattle.org_fileset.specs.Writes.{LeavesAlone}
 use Rattle.org_fileset.proofs.Patching.{applies_none, applies_read, applies_write, applies_cut}
@@ -15,7 +15,7 @@ use Rattle.org_journal.proofs.Accounted.{accounts_failed, accounts_fine_test}
 use Rattle.org_fileset.proofs.Writes.{alone_none, alone_looked, alone_more}
 use Rattle.org_fileset.proofs.apply.apply_patches.Given.{Over}
 use Rattle.org_fileset.proofs.apply.apply_patches.Goals as goal
-use Rattle.org_fileset.proofs.apply.apply_patches.Goals.{After-cut, After-length, else-before-entry-via-then-before-entry+else-length-entry, else-before-entry-via-else-before-entry}
+use Rattle.org_fileset.proofs.apply.apply_patches.Goals.{After-cut, After-loop-patch, else-is_shortened-2-via-then-is_shortened-2+else-length-entry, else-is_shortened-2-via-else-is_shortened-2}
 
 pub loop-patch-init : goal.loop-patch-init
 loop-patch-init g c = record {
@@ -97,7 +97,7 @@ cut-requires g c honest =
 cuts : (g : Over) (c : After-cut g) → g.D.Disk.honest c.loop-patch.disk → may_cut c.args.entry.now.before c.args.entry.now.length ≡ true
 cuts g c h =
     longer_cut c.args.entry.now.before c.args.entry.now.length c.args.before (length (g.D.Disk.files c.args.disk.now c.args.entry.now.name).content)
-    (c.requires.before (c.loop-patch.invariant.accounts.was_honest h)) (omega (arith, c.if-before-entry.true))
+    (c.requires.before (c.loop-patch.invariant.accounts.was_honest h)) (omega (arith, c.if-is_shortened-2.true))
 
 -- .. and is cut
 cut_applies : (g : Over) (c : After-cut g) → g.D.Disk.honest c.cut.new.self → AppliesOver g.D.Disk c.args.entry.now c.args.disk.now c.cut.new.self
@@ -119,8 +119,8 @@ returns-in_err-cut-clause-applies g c = cut_applies g (goal.at.returns-in_err-cu
 pub returns-in_ok-cut-clause-applies : goal.returns-in_ok-cut-clause-applies
 returns-in_ok-cut-clause-applies g c = cut_applies g (goal.at.returns-in_ok-cut-clause-applies g c).After-cut
 
-pub returns-else-before-entry-clause-applies : goal.returns-else-before-entry-clause-applies
-returns-else-before-entry-clause-applies g c ended keep to takes =
+pub returns-else-is_shortened-2-clause-applies : goal.returns-else-is_shortened-2-clause-applies
+returns-else-is_shortened-2-clause-applies g c ended keep to takes =
     let looks = c.length.ensures.looks ended in
     applies_read (c.loop-patch.invariant.applies (c.length.ensures.accounts.was_honest ended) keep to takes) looks.same looks.time
 
@@ -137,8 +137,8 @@ returns-in_err-cut-clause-alone g c = cut_alone g (goal.at.returns-in_err-cut-cl
 pub returns-in_ok-cut-clause-alone : goal.returns-in_ok-cut-clause-alone
 returns-in_ok-cut-clause-alone g c = cut_alone g (goal.at.returns-in_ok-cut-clause-alone g c).After-cut
 
-pub returns-else-before-entry-clause-alone : goal.returns-else-before-entry-clause-alone
-returns-else-before-entry-clause-alone g c ended = alone_looked (c.loop-patch.invariant.alone (c.length.ensures.accounts.was_honest ended)) (c.length.ensures.looks ended)
+pub returns-else-is_shortened-2-clause-alone : goal.returns-else-is_shortened-2-clause-alone
+returns-else-is_shortened-2-clause-alone g c ended = alone_looked (c.loop-patch.invariant.alone (c.length.ensures.accounts.was_honest ended)) (c.length.ensures.looks ended)
 
 pub returns-in_err-write_patch-clause-accounts : goal.returns-in_err-write_patch-clause-accounts
 returns-in_err-write_patch-clause-accounts g c =
@@ -156,8 +156,8 @@ pub returns-in_ok-cut-clause-accounts : goal.returns-in_ok-cut-clause-accounts
 returns-in_ok-cut-clause-accounts g c =
     accounts_fine_test (accounts_then c.loop-patch.invariant.accounts (accounts_then (accounts_call_ok c.in_ok-length.ensures.accounts) (accounts_call_ok c.in_ok-cut.ensures.accounts)))
 
-pub returns-else-before-entry-clause-accounts : goal.returns-else-before-entry-clause-accounts
-returns-else-before-entry-clause-accounts g c =
+pub returns-else-is_shortened-2-clause-accounts : goal.returns-else-is_shortened-2-clause-accounts
+returns-else-is_shortened-2-clause-accounts g c =
     accounts_fine_test (accounts_then c.loop-patch.invariant.accounts (accounts_call_ok c.in_ok-length.ensures.accounts))
 
 pub returns-in_err-write_patch-clause-content : goal.returns-in_err-write_patch-clause-content
@@ -182,12 +182,11 @@ returns-in_ok-cut-clause-content g c ended =
     (g.D.Disk.files c.loop-patch.disk entry.name).content c.as_slice-patch-items.ensures c.loop-patch-test.false (sofar.content h)
     ∙ ap (λ (n : ℕ). patched (pairs_of entry.patches) n old) (sym (kept_cut entry.before entry.length (length old) (cuts g (goal.at.returns-in_ok-cut-clause-content g c).After-cut h)))
 
--- nothing is cut off
-kept_whole : (g : Over) (c : After-length g) → g.D.Disk.honest c.length.new.self → c.args.before ≤ c.args.entry.now.length
+-- nothing is to be cut off
+kept_whole : (g : Over) (c : After-loop-patch g) → g.D.Disk.honest c.loop-patch.disk → c.args.before ≤ c.args.entry.now.length
     → length (g.D.Disk.files c.loop-patch.disk c.args.entry.now.name).content ≤ kept_by c.args.entry.now.before c.args.entry.now.length (length (g.D.Disk.files c.args.disk.now c.args.entry.now.name).content)
-kept_whole g c ended shorter =
+kept_whole g c h shorter =
     let sofar = c.loop-patch.invariant in
-    let h = c.length.ensures.accounts.was_honest ended in
     let first = sofar.accounts.was_honest h in
     let can = c.requires.can first in
     let entry = c.args.entry.now in
@@ -196,19 +195,32 @@ kept_whole g c ended shorter =
     (g.D.Disk.files c.loop-patch.disk entry.name).content can.formed can.fits c.as_slice-patch-items.ensures c.loop-patch-test.false (sofar.content h) in
     omega (arith, long, shorter_kept entry.before entry.length c.args.before (length old) (last_end 0 (pairs_of entry.patches)) (c.requires.before first) shorter can.formed.within)
 
-pub returns-else-before-entry-clause-content : goal.returns-else-before-entry-clause-content
-returns-else-before-entry-clause-content g c ended =
-    let sofar = c.loop-patch.invariant in
-    let h = c.length.ensures.accounts.was_honest ended in
+-- .. so the patches made the text
+all_made : (g : Over) (c : After-loop-patch g) → g.D.Disk.honest c.loop-patch.disk
+    → length (g.D.Disk.files c.loop-patch.disk c.args.entry.now.name).content ≤ kept_by c.args.entry.now.before c.args.entry.now.length (length (g.D.Disk.files c.args.disk.now c.args.entry.now.name).content)
+    → (g.D.Disk.files c.loop-patch.disk c.args.entry.now.name).content ≡ made_by c.args.entry.now (g.D.Disk.files c.args.disk.now c.args.entry.now.name).content
+all_made g c h short =
     let entry = c.args.entry.now in
     let old = (g.D.Disk.files c.args.disk.now entry.name).content in
     let now = (g.D.Disk.files c.loop-patch.disk entry.name).content in
     let keeps = kept_by entry.before entry.length (length old) in
-    let short : length now ≤ keeps = elim c.else-before-entry.branch [
-      | else-before-entry-via-then-before-entry+else-length-entry w ↦
-          omega (arith, w.if-length-entry.false, c.in_ok-length.ensures.value ended, kept_long entry (c.requires.can (sofar.accounts.was_honest h)).formed old)
-      | else-before-entry-via-else-before-entry w ↦ kept_whole g (goal.at.returns-else-before-entry-clause-content g c).After-length ended (omega (arith, w.if-before-entry.false))
+    sym (take_all keeps now short)
+    ∙ all_applied c.as_slice-patch-items.result.now entry.patches c.loop-patch.patch-index keeps old now c.as_slice-patch-items.ensures c.loop-patch-test.false (c.loop-patch.invariant.content h)
+
+pub returns-else-is_shortened-2-clause-content : goal.returns-else-is_shortened-2-clause-content
+returns-else-is_shortened-2-clause-content g c ended =
+    let written = (goal.at.returns-else-is_shortened-2-clause-content g c).After-loop-patch in
+    let h = c.length.ensures.accounts.was_honest ended in
+    let entry = c.args.entry.now in
+    let old = (g.D.Disk.files c.args.disk.now entry.name).content in
+    let short : length (g.D.Disk.files c.loop-patch.disk entry.name).content ≤ kept_by entry.before entry.length (length old) = elim c.else-is_shortened-2.branch [
+      | else-is_shortened-2-via-then-is_shortened-2+else-length-entry w ↦
+          omega (arith, w.if-length-entry.false, c.in_ok-length.ensures.value ended, kept_long entry (c.requires.can (c.loop-patch.invariant.accounts.was_honest h)).formed old)
+      | else-is_shortened-2-via-else-is_shortened-2 w ↦ kept_whole g written h (omega (arith, w.if-is_shortened-2.false))
     ] in
-    ap (λ (f : List ℕ → FileState). (f entry.name).content) (c.length.ensures.looks ended).same
-    ∙ sym (take_all keeps now short)
-    ∙ all_applied c.as_slice-patch-items.result.now entry.patches c.loop-patch.patch-index keeps old now c.as_slice-patch-items.ensures c.loop-patch-test.false (sofar.content h)
+    ap (λ (f : List ℕ → FileState). (f entry.name).content) (c.length.ensures.looks ended).same ∙ all_made g written h short
+
+pub returns-else-is_look_due-clause-content : goal.returns-else-is_look_due-clause-content
+returns-else-is_look_due-clause-content g c ended =
+    let written = (goal.at.returns-else-is_look_due-clause-content g c).After-loop-patch in
+    all_made g written ended (kept_whole g written ended (omega (arith, c.if-is_shortened.false)))

@@ -104,19 +104,19 @@ returns-in-Ok g c = record {
   commits = record {
     commits =
         rw (← c.self.view_is) (λ ended.
-        let honest = c.commit_changes.ensures.accounts.was_honest ended in
+        let honest = c.commit_entries.ensures.accounts.was_honest ended in
         let edits = (rw (← c.self.view_is) at c.requires.edits) c.if-self.false honest in
-        commits_record g.D.Disk (g.C.Changes.pairs c.args.changes.now) c.in_ok-entries.entries.items _ c.self.inside.disk c.commit_changes.new.disk (Ok tt) (Ok tt) (some g (goal.at.returns-in-Ok g c).Else-len-eq0) c.in_ok-entries.ensures.entries
+        commits_record g.D.Disk (g.C.Changes.pairs c.args.changes.now) c.in_ok-entries.entries.items _ c.self.inside.disk c.commit_entries.new.disk (Ok tt) (Ok tt) (some g (goal.at.returns-in-Ok g c).Else-len-eq0) c.in_ok-entries.ensures.entries
         (says g (goal.at.returns-in-Ok g c).After-encode honest) (c.as_slice.ensures ∙ c.new-record.ensures) edits (c.in-Ok.ensures.commits ended) (λ made. made.done));
     record_stands =
-        λ ended. let journal = contents (g.D.Disk.files c.commit_changes.new.disk) journal_name in
+        λ ended. let journal = contents (g.D.Disk.files c.commit_entries.new.disk) journal_name in
         has_record (g.C.Changes.pairs c.args.changes.now) c.in_ok-entries.entries.items journal c.in_ok-entries.ensures.entries
         ((c.in-Ok.ensures.commits ended).closed.found ∙ ap (λ (l : List Entry). let o : Option (List Entry) = Some l in o) (c.as_slice.ensures ∙ c.new-record.ensures));
     left = rw (← c.self.view_is) (λ ended rest.
-        let honest = c.commit_changes.ensures.accounts.was_honest ended in
+        let honest = c.commit_entries.ensures.accounts.was_honest ended in
         let edits = (rw (← c.self.view_is) at c.requires.edits) c.if-self.false honest in
         let at = (goal.at.returns-in-Ok g c).After-encode in
-        commits_left g.D.Disk (g.C.Changes.pairs c.args.changes.now) c.in_ok-entries.entries.items _ c.self.inside.disk c.commit_changes.new.disk (Ok tt) c.in_ok-entries.ensures.entries
+        commits_left g.D.Disk (g.C.Changes.pairs c.args.changes.now) c.in_ok-entries.entries.items _ c.self.inside.disk c.commit_entries.new.disk (Ok tt) c.in_ok-entries.ensures.entries
         (says g at honest) (c.as_slice.ensures ∙ c.new-record.ensures) edits (can g at honest) (λ image left. g.met.D.Disk.only_now c.self.inside.disk image honest left) (c.in-Ok.ensures.commits ended) rest);
     memory = λ e. absurd (ok_apart e);
     set = rw (← c.self.view_is) (keeps_whole _ _ refl c.if-self.false c.if-self.false (Ok (tt {0})) (λ e. cc e) (λ e. cc e));
@@ -130,17 +130,17 @@ returns g c = record {
   commits = record {
     commits =
         rw (← c.self.view_is) (λ ended.
-        let honest = c.commit_changes.ensures.accounts.was_honest ended in
+        let honest = c.commit_entries.ensures.accounts.was_honest ended in
         let edits = (rw (← c.self.view_is) at c.requires.edits) c.if-self.false honest in
-        commits_record g.D.Disk (g.C.Changes.pairs c.args.changes.now) c.in_ok-entries.entries.items _ c.self.inside.disk c.commit_changes.new.disk c.commit_changes.result (Err Device) (some g (goal.at.returns g c).Else-len-eq0) c.in_ok-entries.ensures.entries
-        (says g (goal.at.returns g c).After-encode honest) (c.as_slice.ensures ∙ c.new-record.ensures) edits (c.commit_changes.ensures.commits ended) (λ made. tt));
+        commits_record g.D.Disk (g.C.Changes.pairs c.args.changes.now) c.in_ok-entries.entries.items _ c.self.inside.disk c.commit_entries.new.disk c.commit_entries.result (Err Device) (some g (goal.at.returns g c).Else-len-eq0) c.in_ok-entries.ensures.entries
+        (says g (goal.at.returns g c).After-encode honest) (c.as_slice.ensures ∙ c.new-record.ensures) edits (c.commit_entries.ensures.commits ended) (λ made. tt));
     record_stands = λ honest. tt;
     left = rw (← c.self.view_is) (λ ended rest.
-        let honest = c.commit_changes.ensures.accounts.was_honest ended in
+        let honest = c.commit_entries.ensures.accounts.was_honest ended in
         let edits = (rw (← c.self.view_is) at c.requires.edits) c.if-self.false honest in
         let at = (goal.at.returns g c).After-encode in
-        commits_left g.D.Disk (g.C.Changes.pairs c.args.changes.now) c.in_ok-entries.entries.items _ c.self.inside.disk c.commit_changes.new.disk c.commit_changes.result c.in_ok-entries.ensures.entries
-        (says g at honest) (c.as_slice.ensures ∙ c.new-record.ensures) edits (can g at honest) (λ image left. g.met.D.Disk.only_now c.self.inside.disk image honest left) (c.commit_changes.ensures.commits ended) rest);
+        commits_left g.D.Disk (g.C.Changes.pairs c.args.changes.now) c.in_ok-entries.entries.items _ c.self.inside.disk c.commit_entries.new.disk c.commit_entries.result c.in_ok-entries.ensures.entries
+        (says g at honest) (c.as_slice.ensures ∙ c.new-record.ensures) edits (can g at honest) (λ image left. g.met.D.Disk.only_now c.self.inside.disk image honest left) (c.commit_entries.ensures.commits ended) rest);
     memory = λ e. absurd (device_apart e);
     set = rw (← c.self.view_is) (keeps_broken _ _ refl c.if-self.false refl);
     accounts = rw (← c.self.view_is) (accounts_failed refl c.in-Err.ensures.accounts);
@@ -155,8 +155,8 @@ encode-requires g c =
     (changes_formed c.self.inside.names.items (g.C.Changes.pairs c.args.changes.now) c.in_ok-entries.entries.items c.in_ok-entries.ensures.entries c.in_ok-entries.ensures.distinct
     (some g (goal.at.encode-requires g c).Else-len-eq0) c.self.invariant.each c.self.invariant.few named c.requires.small)
 
-pub commit_changes-requires-clause-applicable : goal.commit_changes-requires-clause-applicable
-commit_changes-requires-clause-applicable g c honest =
+pub commit_entries-requires-clause-applicable : goal.commit_entries-requires-clause-applicable
+commit_entries-requires-clause-applicable g c honest =
     let named = rw (← c.self.view_is) at c.requires.named in
     let edits = (rw (← c.self.view_is) at c.requires.edits) c.if-self.false in
     let changes = g.C.Changes.pairs c.args.changes.now in
@@ -168,14 +168,14 @@ commit_changes-requires-clause-applicable g c honest =
       fits = changes_fit changes entries (contents files) are (all_edits (contents files) changes (edits honest));
     })
 
-pub commit_changes-requires-clause-body : goal.commit_changes-requires-clause-body
-commit_changes-requires-clause-body g c =
+pub commit_entries-requires-clause-body : goal.commit_entries-requires-clause-body
+commit_entries-requires-clause-body g c =
     let named = rw (← c.self.view_is) at c.requires.named in
     let changes = g.C.Changes.pairs c.args.changes.now in
     let entries = c.in_ok-entries.entries.items in
     let record_is = c.as_slice.ensures ∙ c.new-record.ensures in
     let formed = changes_formed c.self.inside.names.items changes entries c.in_ok-entries.ensures.entries c.in_ok-entries.ensures.distinct
-    (some g (goal.at.commit_changes-requires-clause-body g c).Else-len-eq0) c.self.invariant.each c.self.invariant.few named c.requires.small in
+    (some g (goal.at.commit_entries-requires-clause-body g c).Else-len-eq0) c.self.invariant.each c.self.invariant.few named c.requires.small in
     subst (λ (l : List Entry). BeginsWith c.deref-3.result.now l) (sym record_is)
     (written_begins c.deref-3.result.now entries formed (c.deref-3.ensures.value ∙ c.in_ok-body.ensures.bytes ∙ ap (λ (l : List Entry). journal_bytes Three l) c.new-record.ensures))
 
@@ -185,7 +185,7 @@ invariant_of-self g c =
     let set = c.self.inside in
     let changes = g.C.Changes.pairs c.args.changes.now in
     let old = g.D.Disk.files set.disk in
-    let new = g.D.Disk.files c.commit_changes.new.disk in
+    let new = g.D.Disk.files c.commit_entries.new.disk in
     let made = c.in_ok-entries.entries.items in
     let are = c.in_ok-entries.ensures.entries in
     let entries = c.as_slice.result.now in
@@ -197,7 +197,7 @@ invariant_of-self g c =
       few = c.self.invariant.few;
       gate = λ whole ended. (c.in-Ok.ensures.commits ended).closed.gate;
       lengths_are = λ whole ended.
-          let honest = c.commit_changes.ensures.accounts.was_honest ended in
+          let honest = c.commit_entries.ensures.accounts.was_honest ended in
           let can : AreApplicableTo entries old = subst (λ (l : List Entry). AreApplicableTo l old) (sym (c.as_slice.ensures ∙ c.new-record.ensures)) (record {
             applicable = changes_applicable changes made are c.in_ok-entries.ensures.distinct (committable set.names.items changes c.self.invariant.each named c.requires.small);
             fits = changes_fit changes made (contents old) are (all_edits (contents old) changes (edits honest));
@@ -209,16 +209,16 @@ invariant_of-self g c =
           (c.self.invariant.lengths_are whole honest) (c.in-Ok.ensures.commits ended).commits.done.made;
     }
 
-pub commit_changes-requires-clause-named : goal.commit_changes-requires-clause-named
-commit_changes-requires-clause-named g c =
+pub commit_entries-requires-clause-named : goal.commit_entries-requires-clause-named
+commit_entries-requires-clause-named g c =
     let named = rw (← c.self.view_is) at c.requires.named in
     changes_named c.self.inside.names.items (g.C.Changes.pairs c.args.changes.now) c.self.invariant.each named
 
-pub commit_changes-requires-clause-texts : goal.commit_changes-requires-clause-texts
-commit_changes-requires-clause-texts g c honest =
+pub commit_entries-requires-clause-texts : goal.commit_entries-requires-clause-texts
+commit_entries-requires-clause-texts g c honest =
     let edits = (rw (← c.self.view_is) at c.requires.edits) c.if-self.false in
     let changes = g.C.Changes.pairs c.args.changes.now in
     let files = contents (g.D.Disk.files c.self.inside.disk) in
     subst (λ (l : List Entry). HoldTexts changes (replayed l files)) (sym (c.as_slice.ensures ∙ c.new-record.ensures))
-    (texts_replayed changes c.in_ok-entries.entries.items files c.in_ok-entries.ensures.entries (says g (goal.at.commit_changes-requires-clause-texts g c).After-encode honest)
+    (texts_replayed changes c.in_ok-entries.entries.items files c.in_ok-entries.ensures.entries (says g (goal.at.commit_entries-requires-clause-texts g c).After-encode honest)
     (all_edits files changes (edits honest)) c.in_ok-entries.ensures.distinct)

@@ -4,7 +4,7 @@ use Rattle.org_disk.proofs.Accounting.{accounts_call, accounts_call_ok, accounts
 use Rattle.org_journal.proofs.Accounted.{accounts_failed, accounts_fine_test}
 use Rattle.org_journal.specs.Recovered.{contents}
 use Rattle.org_fileset.proofs.Confirming.{text_held}
-use Rattle.org_fileset.proofs.set.confirm_all.Goals as goal
+use Rattle.org_fileset.proofs.commit.confirm_all.Goals as goal
 
 pub confirm-requires : goal.confirm-requires
 confirm-requires g c honest =

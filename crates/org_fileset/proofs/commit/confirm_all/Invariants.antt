@@ -1,5 +1,5 @@
 use Rattle.org_disk.specs.CountsFailures.{CountsFailures, LooksOver}
-use Rattle.org_fileset.proofs.set.confirm_all.Given as goal
+use Rattle.org_fileset.proofs.commit.confirm_all.Given as goal
 
 -- the calls so far only looked
 abbrev pub invariant-loop-index : goal.invariant-loop-index
