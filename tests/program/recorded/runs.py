@@ -17,6 +17,8 @@ from .strace import Unread, calls
 
 # As in crash_images.
 SEED, CHAINS = 68, 32
+# The size of a trace of which mutants are tried: those of files as large as can be would take minutes.
+MOST_TRIED = 64 << 20
 HERE = os.path.dirname(os.path.abspath(__file__))
 PROGRAMS = os.path.dirname(HERE)
 
@@ -56,13 +58,15 @@ def chains(program: str, traces: str) -> Tuple[bool, str]:
 
 
 def one(trace: str, seed: int) -> Compared:
-    """Compares a trace, and mutants of it where it is right."""
+    """Compares a trace, and mutants of it where it is right and not too long."""
     try:
         found = calls(trace)
     except (Unread, OSError) as why:
         return Compared(trace, 0, str(why), [])
     notes, wrong = compare(found)
-    tried = [] if wrong else [(kind, bool(compare(mutant)[1])) for kind, mutant in mutants(found, random.Random(seed))]
+    if wrong or os.path.getsize(trace) > MOST_TRIED:
+        return Compared(trace, notes, wrong, [])
+    tried = [(kind, bool(compare(mutant)[1])) for kind, mutant in mutants(found, random.Random(seed))]
     return Compared(trace, notes, wrong, tried)
 
 
