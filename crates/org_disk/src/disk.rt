@@ -87,6 +87,17 @@ pub trait Disk {
             (AreLeftBy (write from bytes.now) name.now (files self.old)) }
         ensures accounts { AccountsOfCall truthful honest failures self.old self.new result };
 
+    /// Writes bytes over a file where they stand already, if the file may be written. It changes
+    /// nothing, failed or not: however far such a write gets, it leaves the bytes that are there. It
+    /// is made of bytes that an earlier sync may have failed to put on the disk. A system forgets
+    /// that it hadn't written these, and a later sync puts them there only once they are written
+    /// again.
+    fn write_again(&mut self, name: &FileName, from: u64, bytes: &[u8]) -> Result<(), DiskFault>
+        requires { honest self.old → bytes.now
+            ≡ take (length bytes.now) (drop from (files self.old name.now).content) }
+        ensures looks { honest self.new → LooksInCall files instant left_since self.old self.new }
+        ensures accounts { AccountsOfCall truthful honest failures self.old self.new result };
+
     /// Takes away the bytes of a file from `to` on, which is at most its length. Until the next
     /// sync a crash may leave any length from the least to the greatest that the file had since the
     /// last sync, and any bytes from `to` on.

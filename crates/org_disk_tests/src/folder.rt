@@ -130,9 +130,8 @@ enum Call {
 enum Step {
     // another program makes this at a path
     Other(&'static str, Entry),
-    // a call on a file: what it answers, which is 0 where no length is asked for, and how many
-    // calls have failed then
-    Call(&'static str, Call, Result<u64, DiskFault>, u64),
+    // a call on a file: what it answers, which is 0 where no length is asked for
+    Call(&'static str, Call, Result<u64, DiskFault>),
     // the file at a path has these bytes
     Holds(&'static str, &'static [u8]),
     // nothing is at a path
@@ -209,7 +208,7 @@ fn answer(
     made.and(Ok(0))
 }
 
-// Whether a call on a file answers this, and so many have failed then.
+// Whether a call on a file answers this.
 fn answers<S: System + Drop>(
     rt: &impl Abort,
     system: &HostRuntime,
@@ -217,13 +216,12 @@ fn answers<S: System + Drop>(
     file: &str,
     call: &Call,
     expected: &Result<u64, DiskFault>,
-    failures: u64,
 ) -> bool
 where
     S::File: Drop,
 {
     let name = name_of(rt, system.alloc(), file);
-    answer(system, disk, &name, call) == *expected && disk.failures() == failures
+    answer(system, disk, &name, call) == *expected
 }
 
 // Whether a step goes as it says.
@@ -238,9 +236,7 @@ where
 {
     match step {
         Step::Other(path, entry) => make(system, path, entry).is_ok(),
-        Step::Call(file, call, expected, failures) => {
-            answers(rt, system, disk, file, call, expected, *failures)
-        }
+        Step::Call(file, call, expected) => answers(rt, system, disk, file, call, expected),
         Step::Holds(path, bytes) => holds(rt, system, path, bytes),
         Step::IsAbsent(path) => !is_there(system, path),
     }

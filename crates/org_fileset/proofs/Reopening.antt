@@ -100,6 +100,15 @@ module _ {D : Type 0} (g : Ghosts D) where
             synced.others time (λ image left. left.others);
       }
 
+  -- a look that syncs nothing
+  pub looked_of : (old new : D) → LooksOver g old new → IsLookedAt g old new
+  looked_of old new looks = record {
+    images = λ image left. subst (λ (f : List ℕ → FileState). AreImages f image) looks.same left;
+    time = looks.time;
+    recoverable = λ fit. subst IsRecoverable (sym looks.same) fit;
+    alone = alone_looks g (IsUnconcerned (contents (g.files old) journal_name)) old new looks;
+  }
+
   -- a look after it
   pub looked_on : (old mid new : D) → IsLookedAt g old mid → LooksOver g mid new → IsLookedAt g old new
   looked_on old mid new look looks = record {

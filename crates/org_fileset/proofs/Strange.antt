@@ -48,6 +48,21 @@ found_fault before now find.BadJournal bad = bad refl
 found_fault before now find.Device bad = tt
 found_fault before now find.OutOfMemory bad = tt
 
+-- the same fault of files that hold the same
+fault_as : {Honest : Type 0} (before mid now : Image) (fault : OpenFault) → (Honest → mid ≡ before) → IsFaultOfRecovery Honest mid now fault → IsFaultOfRecovery Honest before now fault
+fault_as before mid now BadJournal same is = λ h. subst (λ (f : Image). IsFoundBad f now) (same h) (is h)
+fault_as before mid now (Changed name) same is = λ h. subst (λ (f : Image). IsFoundOver name f now) (same h) (is h)
+fault_as before mid now (Outside name) same is = λ h. subst (λ (f : Image). IsFoundOver name f now) (same h) (is h)
+fault_as before mid now Device same is = tt
+fault_as before mid now OutOfMemory same is = tt
+fault_as before mid now TooManyFiles same is = is
+fault_as before mid now (TooLarge name) same is = is
+
+pub fault_over : {Honest : Type 0} (before mid now : Image) (result : Result (Unit {0}) OpenFault) → (Honest → mid ≡ before) → IfErr result (IsFaultOfRecovery Honest mid now)
+    → IfErr result (IsFaultOfRecovery Honest before now)
+fault_over before mid now (Ok done) same is = is
+fault_over before mid now (Err fault) same is = fault_as before mid now fault same is
+
 -- a record names what one of its files is called
 pub strange_as : {This Named : List ℕ → Type 0} {One Other : Type 0} → ((name : List ℕ) → This name → Named name) → (One → Other) → (fault : OpenFault) → IsStrange This One fault
     → IsStrange Named Other fault

@@ -129,7 +129,7 @@ fn apply_patches<D: Disk>(
     let is_shortened = before > entry.length;
     if is_shortened || is_look_due {
         let length = disk.length(&entry.name)?;
-        if is_shortened && length > entry.length {
+        if is_shortened && length >= entry.length {
             disk.cut(&entry.name, entry.length)?;
         }
     }

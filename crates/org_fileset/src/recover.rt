@@ -22,6 +22,7 @@ use crate::open::OpenFault;
 use org_disk::{Disk, DiskFault, FileName, Standing};
 use org_journal::{
     Entry, FRONT, FindFault, Found, all_fit, close_gate, find, is_left, is_open, mark, prepare,
+    write_gate_again, write_record_again,
 };
 use std::alloc::Global;
 
@@ -60,7 +61,7 @@ fn give_gate<D: Disk>(disk: &mut D, journal: &FileName) -> Result<(), DiskFault>
 /// Does again what an open journal's record says, once the journal is marked. So a recovery that is
 /// stopped here leaves a journal that changed after the files did, and isn't taken for the work of
 /// another program.
-fn redo<D: Disk>(
+fn redo_marked<D: Disk>(
     disk: &mut D,
     journal: &FileName,
     entries: &[Entry],
@@ -76,6 +77,26 @@ fn redo<D: Disk>(
 {
     mark(disk, journal, end)?;
     replay(disk, journal, entries)
+}
+
+/// Does again what an open journal's record says. Where an earlier sync failed, the gate might read
+/// as open and be closed on the disk, so the journal is first written again, as it is.
+fn redo<D: Disk>(
+    disk: &mut D,
+    journal: &FileName,
+    entries: &[Entry],
+    end: u64,
+) -> Result<(), DiskFault>
+    requires journal { journal.now ≡ journal_name }
+    requires room { end + 1 < 2 ^ 64 }
+    requires applicable { D.honest disk.old → AreApplicableTo entries.now (D.files disk.old) }
+    requires opened { D.honest disk.old → IsOpenOver entries.now (D.files disk.old) }
+    requires end { D.honest disk.old → EndsAt (contents (D.files disk.old) journal_name) end }
+    ensures reopens { Reopens D.Disk disk.old disk.new result }
+    ensures accounts { CountsFailures D.Disk disk.old disk.new (IsErr result) }
+{
+    write_record_again(disk, journal, end)?;
+    redo_marked(disk, journal, entries, end)
 }
 
 /// Finishes what was found in the journal, which is on the device.
@@ -114,6 +135,19 @@ fn finish<D: Disk>(disk: &mut D, journal: &FileName, found: &Found) -> Result<()
 /// - `Device`: a call of the disk failed.
 /// - `OutOfMemory`.
 pub fn recover<D: Disk>(alloc: Global, disk: &mut D, journal: &FileName) -> Result<(), OpenFault>
+    requires { journal.now ≡ journal_name }
+    ensures reopens { Reopens D.Disk disk.old disk.new result }
+    ensures fault { IfErr result (IsFaultOfRecovery (D.honest disk.new)
+        (contents (D.files disk.old)) (contents (D.files disk.new))) }
+    ensures accounts { CountsFailures D.Disk disk.old disk.new (IsErrOf result OpenFault.Device) }
+{
+    write_gate_again(disk, journal)?;
+    recover_found(alloc, disk, journal)
+}
+
+// Does so once a gate that reads as closed is written again, as it is: where an earlier sync failed,
+// it might be open on the disk.
+fn recover_found<D: Disk>(alloc: Global, disk: &mut D, journal: &FileName) -> Result<(), OpenFault>
     requires { journal.now ≡ journal_name }
     ensures reopens { Reopens D.Disk disk.old disk.new result }
     ensures fault { IfErr result (IsFaultOfRecovery (D.honest disk.new)

@@ -146,9 +146,9 @@ impl<D: Disk> FileSet<D> {
     /// is so of an honest disk alone.
     ///
     /// Before anything is written, the journal and the changed files are tried by writes of no
-    /// bytes. Where one of these fails, each file is as it was, and the gate stays closed. When all
-    /// is done the files are read back: where another program wrote or replaced one in the same
-    /// moment, the commit isn't reported as done.
+    /// bytes. Where one of these fails, each file is as it was, and the gate stays closed. Before
+    /// the gate is closed again the files are read back, and after that they are tried: where another
+    /// program wrote or replaced one in the same moment, the commit isn't reported as done.
     ///
     /// Where all is on the disk when the call begins, then at every moment since what a crash
     /// leaves recovers to all files as they were, or to all files with the changed texts, and no file

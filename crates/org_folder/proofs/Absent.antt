@@ -2,7 +2,7 @@
 use Rattle.std.proofs.Common.{◌≡◌, ℕ, List, [], ◌∷◌, true, false, refl, sym, ◌∙◌}
 use Rattle.org_disk.specs.Disk.{stable, write, cut, sync}
 use Rattle.org_folder.specs.Calls.{Event, World, files, reading, IsLeftAlone, IsRight}
-use Rattle.org_folder.specs.Calls.Event.{Filled, Locked, Entry, Listed, There, Unseen, Absent, Length, Read, Write, Cut, Sync, Made, Entered}
+use Rattle.org_folder.specs.Calls.Event.{Filled, Locked, Entry, Listed, There, Unseen, Absent, Length, Read, Write, Again, Cut, Sync, Made, Entered, Failed}
 use Rattle.org_folder.specs.CallsLaws.{changed_other}
 
 pub still_as_first : (world : World) (calls : List Event) (name : List ℕ) → IsLeftAlone name calls → files world calls name ≡ world.start name
@@ -18,6 +18,8 @@ still_as_first world (Entered other ok ∷ earlier) name alone = still_as_first 
 still_as_first world (Absent other ∷ earlier) name alone = still_as_first world earlier name alone
 still_as_first world (Length other n ∷ earlier) name alone = still_as_first world earlier name alone
 still_as_first world (Read other from bytes ∷ earlier) name alone = still_as_first world earlier name alone
+still_as_first world (Again other from bytes ok ∷ earlier) name alone = still_as_first world earlier name alone.1
+still_as_first world (Failed other ∷ earlier) name alone = still_as_first world earlier name alone
 still_as_first world (Write other from bytes true ∷ earlier) name alone =
     changed_other other (write from bytes) (files world earlier) name (λ same. alone.0 (sym same)) ∙ still_as_first world earlier name alone.1
 still_as_first world (Write other from bytes false ∷ earlier) name alone =

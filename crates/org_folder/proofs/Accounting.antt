@@ -1,14 +1,16 @@
 -- How the record of steps goes on with the calls that were made for them.
 use Rattle.std.proofs.Common.{◌≡◌, ◌∙◌, ap, ℕ, Bool, true, false, List, [], ◌∷◌, IsTrue, IsFalse, refl, sym, subst, inl, inr}
-use Rattle.std.specs.Prelude.{⊤, ◌==◌, not}
+use Rattle.std.specs.Prelude.{⊤, ◌==◌, not, Result, Ok, Err, OnOk, OnErr, is_ok, is_err}
 use Rattle.std.proofs.lemmas.Bool.{and_from, or_left, or_right, eq-eqb}
 use Rattle.std.proofs.lemmas.Slice.Eq.{bytes_eq-Decides}
 use Rattle.std.specs.Str.{bytes_eq}
+use Rattle.org_disk.specs.declared.disk.DiskFault.{DiskFault}
 use Rattle.org_folder.specs.Calls.{Event, has_failed, with_entries}
-use Rattle.org_folder.specs.Calls.Event.{Filled, Locked, Entry, Listed, There, Unseen, Absent, Length, Read, Write, Cut, Sync, Made, Entered}
-use Rattle.org_folder.specs.Raw.{Raw, effects, acts, accounts, same, AreOwnModes, CutsOff, GoesWith, IsFolderSynced, IsMadeAt, OnlyAsks, are_own_modes, is_folder_synced}
+use Rattle.org_folder.specs.Calls.Event.{Filled, Locked, Entry, Listed, There, Unseen, Absent, Length, Read, Write, Again, Cut, Sync, Made, Entered, Failed}
+use Rattle.org_folder.specs.Raw.{Raw, effects, acts, accounts, same, AreOwnModes, CutsOff, GoesWith, IsFolderSynced, IsMadeAt, OnlyAsks, SyncsContent, are_own_modes, is_folder_synced}
 use Rattle.org_folder.specs.Raw.Raw.{Call}
 use Rattle.org_folder.specs.declared.calls.SystemCall.TheVariants as system
+use Rattle.org_folder.specs.declared.record.Record.{Record}
 
 self : (name : List ℕ) → bytes_eq name name ≡ true
 self name = (bytes_eq-Decides name name).1 refl
@@ -36,6 +38,8 @@ IsQuiet (Unseen name) = ⊤
 IsQuiet (Absent name) = ⊤
 IsQuiet (Length name n) = ⊤
 IsQuiet (Read name from bytes) = ⊤
+IsQuiet (Again name from bytes ok) = ⊥
+IsQuiet (Failed name) = ⊤
 IsQuiet (Write name from [] ok) = ⊤
 IsQuiet (Write name from (byte ∷ bytes) ok) = ⊥
 IsQuiet (Cut name n ok) = ⊥
@@ -53,6 +57,8 @@ still (Unseen name) earlier calls is before = before
 still (Absent name) earlier calls is before = before
 still (Length name n) earlier calls is before = before
 still (Read name from bytes) earlier calls is before = before
+still (Again name from bytes ok) earlier calls is before = absurd is
+still (Failed name) earlier calls is before = before
 still (Write name from [] ok) earlier calls is before = before
 still (Write name from (byte ∷ bytes) ok) earlier calls is before = absurd is
 still (Cut name n ok) earlier calls is before = absurd is
@@ -116,6 +122,23 @@ wrote name path from bytes ok did earlier steps old mid new apart under same not
     (subst (GoesWith (Write name from bytes did ∷ earlier)) (sym (made ∙ ap (λ (p : List ℕ). Call (system.Write from did) p bytes ∷ mid) under))
     (wrote_here name from bytes did earlier old mid apart before_same before))
 
+written_again : (name : List ℕ) (from : ℕ) (bytes : List ℕ) (ok : Bool) (earlier : List Event) (old mid : List Raw) → acts (effects mid) ≡ acts (effects old) → GoesWith earlier old
+    → GoesWith (Again name from bytes ok ∷ earlier) (Call (system.Write from ok) name bytes ∷ mid)
+written_again name from bytes ok earlier old mid same before =
+    or_left _ _ (and_from _ _ (and_from _ _ (self name) (and_from _ _ (equal from) (and_from _ _ (self bytes) (alike ok)))) (called earlier old mid same before))
+
+-- bytes written over themselves, after calls that may have changed permissions
+pub wrote_again : (name path : List ℕ) (from : ℕ) (bytes : List ℕ) (ok did : Bool) (earlier steps : List Event) (old mid new : List Raw) → path ≡ name → ok ≡ did
+    → steps ≡ Again name from bytes ok ∷ earlier → new ≡ Call (system.Write from did) path bytes ∷ mid → acts (effects mid) ≡ acts (effects old) → GoesWith earlier old → GoesWith steps new
+wrote_again name path from bytes ok did earlier steps old mid new under same noted made before_same before =
+    subst (λ (es : List Event). GoesWith es new) (sym (noted ∙ ap (λ (b : Bool). Again name from bytes b ∷ earlier) same))
+    (subst (GoesWith (Again name from bytes did ∷ earlier)) (sym (made ∙ ap (λ (p : List ℕ). Call (system.Write from did) p bytes ∷ mid) under))
+    (written_again name from bytes did earlier old mid before_same before))
+
+-- .. or not, in a file that may not be written
+pub not_again : (name : List ℕ) (from : ℕ) (bytes : List ℕ) (ok : Bool) (earlier steps : List Event) (calls : List Raw) → steps ≡ Again name from bytes ok ∷ earlier → GoesWith earlier calls → GoesWith steps calls
+not_again name from bytes ok earlier steps calls noted before = subst (λ (es : List Event). GoesWith es calls) (sym noted) (or_right _ _ before)
+
 pub wrote_modes : (from : ℕ) (did : Bool) (path bytes : List ℕ) (mid new : List Raw) → new ≡ Call (system.Write from did) path bytes ∷ mid → AreOwnModes mid → AreOwnModes new
 wrote_modes from did path bytes mid new made before = subst AreOwnModes (sym made) before
 
@@ -134,18 +157,33 @@ cut_modes name to did old new cuts before = subst (λ (cs : List Raw). IsTrue (a
 pub cut_synced : (is : Bool) (name : List ℕ) (to : ℕ) (did : Bool) (old new : List Raw) → CutsOff name to old new did → (IsTrue is → IsFolderSynced old) → IsTrue is → IsFolderSynced new
 cut_synced is name to did old new cuts before said = subst (λ (cs : List Raw). IsTrue (is_folder_synced (acts cs))) (sym cuts.is) (before said)
 
-pub synced : (name path : List ℕ) (ok did : Bool) (earlier steps : List Event) (old new : List Raw) → path ≡ name → ok ≡ did → steps ≡ Sync name ok ∷ earlier → new ≡ Call (system.DataSync did) path [] ∷ old
-    → GoesWith earlier old → GoesWith steps new
-synced name path ok did earlier steps old new under same noted made before =
-    subst (λ (es : List Event). GoesWith es new) (sym (noted ∙ ap (λ (b : Bool). Sync name b ∷ earlier) same))
-    (subst (GoesWith (Sync name did ∷ earlier)) (sym (made ∙ ap (λ (p : List ℕ). Call (system.DataSync did) p [] ∷ old) under))
-    (and_from _ _ (and_from _ _ (self name) (alike did)) before))
+synced_one : (name : List ℕ) (ok : Bool) (earlier : List Event) (old new : List Raw) → SyncsContent name old new ok → GoesWith earlier old → GoesWith (Sync name ok ∷ earlier) new
+synced_one name true earlier old new made before =
+    subst (GoesWith (Sync name true ∷ earlier)) (sym made) (and_from _ _ (and_from _ _ (self name) (alike true)) before)
+synced_one name false earlier old new (inl made) before =
+    subst (GoesWith (Sync name false ∷ earlier)) (sym made) (or_left _ _ (and_from _ _ (and_from _ _ (self name) (alike false)) before))
+synced_one name false earlier old new (inr asks) before = or_right _ _ (asked earlier old new asks before)
 
-pub sync_modes : (did : Bool) (path : List ℕ) (old new : List Raw) → new ≡ Call (system.DataSync did) path [] ∷ old → AreOwnModes old → AreOwnModes new
-sync_modes did path old new made before = subst AreOwnModes (sym made) before
+pub synced : (name : List ℕ) (ok did : Bool) (earlier steps : List Event) (old new : List Raw) → ok ≡ did → steps ≡ Sync name ok ∷ earlier → SyncsContent name old new did → GoesWith earlier old → GoesWith steps new
+synced name ok did earlier steps old new same noted syncs before =
+    subst (λ (es : List Event). GoesWith es new) (sym (noted ∙ ap (λ (b : Bool). Sync name b ∷ earlier) same)) (synced_one name did earlier old new syncs before)
 
-pub sync_synced : (is did : Bool) (path : List ℕ) (old new : List Raw) → new ≡ Call (system.DataSync did) path [] ∷ old → (IsTrue is → IsFolderSynced old) → IsTrue is → IsFolderSynced new
-sync_synced is did path old new made before said = subst IsFolderSynced (sym made) (before said)
+pub sync_modes : (ok : Bool) (name : List ℕ) (old new : List Raw) → SyncsContent name old new ok → AreOwnModes old → AreOwnModes new
+sync_modes true name old new made before = subst AreOwnModes (sym made) before
+sync_modes false name old new (inl made) before = subst AreOwnModes (sym made) before
+sync_modes false name old new (inr asks) before = asked_modes old new asks before
+
+pub sync_synced : (is ok : Bool) (name : List ℕ) (old new : List Raw) → SyncsContent name old new ok → (IsTrue is → IsFolderSynced old) → IsTrue is → IsFolderSynced new
+sync_synced is true name old new made before said = subst IsFolderSynced (sym made) (before said)
+sync_synced is false name old new (inl made) before said = subst IsFolderSynced (sym made) (before said)
+sync_synced is false name old new (inr asks) before said = asked_synced is old new asks before said
+
+-- no sync failed, where the last one is known not to have
+pub unfailed_sync : (name : List ℕ) (result : Result (Unit {0}) DiskFault) (failed has ok : Bool) (earlier steps : List Event) → steps ≡ Sync name ok ∷ earlier → ok ≡ is_ok result → has ≡ is_err result
+    → OnOk result (IsFalse failed) → (IsFalse failed → IsFalse (has_failed earlier)) → IsFalse has → IsFalse (has_failed steps)
+unfailed_sync name (Ok done) failed has ok earlier steps noted same is once before none =
+    subst (λ (es : List Event). IsFalse (has_failed es)) (sym (noted ∙ ap (λ (b : Bool). Sync name b ∷ earlier) same)) (before once)
+unfailed_sync name (Err fault) failed has ok earlier steps noted same is once before none = let bad : false ≡ true = sym none ∙ is in cc
 
 makes_one : (name : List ℕ) (ok : Bool) (earlier : List Event) (old new : List Raw) → IsMadeAt name old new ok → GoesWith earlier old → GoesWith (Made name ok ∷ earlier) new
 makes_one name true earlier old new makes before =
@@ -167,3 +205,9 @@ made_modes name false old new (inr asks) before = asked_modes old new asks befor
 pub unfailed : (names : List (List ℕ)) (earlier : List Event) → IsFalse (has_failed earlier) → IsFalse (has_failed (with_entries names earlier))
 unfailed [] earlier before = before
 unfailed (name ∷ names) earlier before = unfailed names (Entry name ∷ earlier) before
+
+-- what holds of a record whether a failure was noted in it or none
+pub noted_holds : {T : Type 0} (P : List Event → Type 0) (name : List ℕ) (answer : Result T DiskFault) (old new : Record) → OnOk answer (new ≡ old)
+    → OnErr answer (new.events ≡ Failed name ∷ old.events) → P old.events → (P old.events → P (Failed name ∷ old.events)) → P new.events
+noted_holds P name (Ok value) old new same noted held stays = subst (λ (r : Record). P r.events) (sym same) held
+noted_holds P name (Err fault) old new same noted held stays = subst P (sym noted) (stays held)

@@ -1,10 +1,10 @@
 -- Calls that only look, one after another.
 use Rattle.std.proofs.Common.{◌≡◌, ◌∙◌, ap, sym, refl, subst, ℕ, List, [], ◌∷◌, ◌++◌, Option, Some, None, Result, Ok, Err, IfOk, IfSome, OnErr}
-use Rattle.std.specs.Prelude.{IfErr, IfNone, IsErrAnd}
+use Rattle.std.specs.Prelude.{IfErr, IfNone, IsErrAnd, All}
 use Rattle.std.proofs.lemmas.List.{append_assoc}
-use Rattle.std.proofs.lemmas.List.Elements.{All-append, All-cons, All-nil}
-use Rattle.org_folder.specs.Calls.{Event, IsHeld, IsLook, OnlyLooks, with_entries}
-use Rattle.org_folder.specs.Calls.Event.{Filled, Locked, Entry, Listed, There, Unseen, Absent, Length, Read, Write, Cut, Sync, Made, Entered}
+use Rattle.std.proofs.lemmas.List.Elements.{All-append, All-cons, All-head, All-nil, All-tail}
+use Rattle.org_folder.specs.Calls.{Event, IsHeld, IsLook, OnlyLooks, failed_calls, with_entries}
+use Rattle.org_folder.specs.Calls.Event.{Filled, Locked, Entry, Listed, There, Unseen, Absent, Length, Read, Write, Again, Cut, Sync, Made, Entered, Failed}
 use Rattle.org_folder.specs.declared.system.Found.{Found}
 use Rattle.org_folder.specs.declared.list.ListFault.{ListFault}
 
@@ -58,6 +58,8 @@ held_by (Entered name ok) calls held = held
 held_by (Absent name) calls held = held
 held_by (Length name n) calls held = held
 held_by (Read name from bytes) calls held = held
+held_by (Again name from bytes ok) calls held = held
+held_by (Failed name) calls held = held
 held_by (Write name from bytes ok) calls held = held
 held_by (Cut name n ok) calls held = held
 held_by (Sync name ok) calls held = held
@@ -65,6 +67,32 @@ held_by (Sync name ok) calls held = held
 held_after : (calls old : List Event) → IsHeld old → IsHeld (calls ++ old)
 held_after [] old held = held
 held_after (event ∷ calls) old held = held_by event (calls ++ old) (held_after calls old held)
+
+-- a look is no call that failed
+fine_by : (event : Event) (calls : List Event) → IsLook event → failed_calls (event ∷ calls) ≡ failed_calls calls
+fine_by (Filled path) calls is = refl
+fine_by (Locked path) calls is = refl
+fine_by (Entry name) calls is = refl
+fine_by Listed calls is = refl
+fine_by (There name device number plain) calls is = refl
+fine_by (Unseen name) calls is = refl
+fine_by (Absent name) calls is = refl
+fine_by (Length name n) calls is = refl
+fine_by (Read name from bytes) calls is = refl
+fine_by (Made name ok) calls is = absurd is
+fine_by (Entered name ok) calls is = absurd is
+fine_by (Again name from bytes ok) calls is = absurd is
+fine_by (Failed name) calls is = absurd is
+fine_by (Write name from bytes ok) calls is = absurd is
+fine_by (Cut name n ok) calls is = absurd is
+fine_by (Sync name ok) calls is = absurd is
+
+fine_after : (calls old : List Event) → All IsLook calls → failed_calls (calls ++ old) ≡ failed_calls old
+fine_after [] old are = refl
+fine_after (event ∷ calls) old are = fine_by event (calls ++ old) (All-head IsLook event calls are) ∙ fine_after calls old (All-tail IsLook event calls are)
+
+pub fine_on : (old new : List Event) → OnlyLooks old new → failed_calls new ≡ failed_calls old
+fine_on old new looks = ap (λ (es : List Event). failed_calls es) looks.after ∙ fine_after looks.calls old looks.look
 
 pub held_on : (old new : List Event) → OnlyLooks old new → IsHeld old → IsHeld new
 held_on old new looks held = subst IsHeld (sym looks.after) (held_after looks.calls old held)

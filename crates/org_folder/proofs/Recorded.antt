@@ -9,14 +9,6 @@ use Rattle.org_folder.specs.CallsLaws.{changed_here, changed_other, own_image}
 abbrev Answer : Type 0
 Answer = Result (Unit {0}) DiskFault
 
--- What was right after a call was right before it
-
--- Calls that look
-
--- a look that came to the call, where the record before is known by an equation
-
--- What looks answer, of a file that was opened under the name
-
 -- Calls that change a file
 
 module _ (world : World) (event : Event) (applied : FileState → FileState) (name : List ℕ) (old : List Event) (is : files world (event ∷ old) ≡ changed name applied (files world old)) where
@@ -28,9 +20,6 @@ module _ (world : World) (event : Event) (applied : FileState → FileState) (na
 
   still : (image : Image) → AreImages (files world (event ∷ old)) image → (other : List ℕ) → other ≢ name → IsImage (files world old other) (image other)
   still image now other apart = subst (λ f. IsImage f (image other)) (elsewhere other apart) (now other)
-
--- The same, of a file that was opened under the name, where the record before is known by an
--- equation.
 
 -- Calls that didn't come to it
 

@@ -5,7 +5,7 @@ use Rattle.std.specs.Str.{bytes_eq}
 use Rattle.org_disk.specs.Disk.{FileState, IsImage, AreImages, stable, write, cut, sync}
 use Rattle.org_disk.specs.OwnImages.{IsOwnImage, stable_own}
 use Rattle.org_folder.specs.Calls.{Event, World, files, reading, AreRight, LeftSince}
-use Rattle.org_folder.specs.Calls.Event.{Filled, Locked, Entry, Listed, There, Unseen, Absent, Length, Read, Write, Cut, Sync, Made, Entered}
+use Rattle.org_folder.specs.Calls.Event.{Filled, Locked, Entry, Listed, There, Unseen, Absent, Length, Read, Write, Again, Cut, Sync, Made, Entered, Failed}
 use Rattle.org_folder.specs.Unwritten.{AreLeftAlone, with_first, with_stable}
 use Rattle.org_folder.proofs.Absent.{still_as_first}
 
@@ -24,6 +24,8 @@ module _ (these : List ℕ → Bool) (world : World) where
   earlier_alone (Absent other) earlier alone = alone
   earlier_alone (Length other n) earlier alone = alone
   earlier_alone (Read other from bytes) earlier alone = alone
+  earlier_alone (Again other from bytes ok) earlier alone = λ name is. (alone name is).1
+  earlier_alone (Failed other) earlier alone = alone
   earlier_alone (Write other from bytes ok) earlier alone = λ name is. (alone name is).1
   earlier_alone (Cut other n ok) earlier alone = λ name is. (alone name is).1
   earlier_alone (Sync other ok) earlier alone = λ name is. (alone name is).1
@@ -45,6 +47,8 @@ module _ (these : List ℕ → Bool) (world : World) where
   others_same (Absent other ∷ earlier) name not = others_same earlier name not
   others_same (Length other n ∷ earlier) name not = others_same earlier name not
   others_same (Read other from bytes ∷ earlier) name not = others_same earlier name not
+  others_same (Again other from bytes ok ∷ earlier) name not = others_same earlier name not
+  others_same (Failed other ∷ earlier) name not = others_same earlier name not
   others_same (Made other ok ∷ earlier) name not = others_same earlier name not
   others_same (Entered other ok ∷ earlier) name not = others_same earlier name not
   others_same (Write other from bytes true ∷ earlier) name not =
@@ -95,6 +99,8 @@ module _ (these : List ℕ → Bool) (world : World) where
   still_right (Length name n ∷ earlier) alone right = (right.0 ∙ ap length (same_content earlier name alone), still_right earlier alone right.1)
   still_right (Read name from bytes ∷ earlier) alone right =
       (right.0 ∙ ap (λ (content : List ℕ). take (length bytes) (drop from content)) (same_content earlier name alone), still_right earlier alone right.1)
+  still_right (Again name from bytes ok ∷ earlier) alone right = (right.0, still_right earlier (λ other is. (alone other is).1) right.1)
+  still_right (Failed name ∷ earlier) alone right = (right.0, still_right earlier alone right.1)
   still_right (Write name from bytes true ∷ earlier) alone right = (right.0, still_right earlier (λ other is. (alone other is).1) right.1)
   still_right (Write name from bytes false ∷ earlier) alone right = (
     subst (λ (file : FileState). IsImage (write from bytes file) (world.left (Write name from bytes false ∷ earlier))) (sym (others_same earlier name (called name (λ is. (alone name is).0)))) right.0,

@@ -1,6 +1,6 @@
 -- The calls on the files of a folder: a record of what was asked and answered, and the files that
 -- it stands for.
-use Rattle.std.specs.Prelude.{◌≡◌, ◌≢◌, ◌⊎◌, ◌≤◌, ℕ, Bool, true, false, List, [], ◌∷◌, ◌++◌, length, take, drop, if◌then◌else◌, ◌||◌, Result, ⊤, IsTrue, IsFalse}
+use Rattle.std.specs.Prelude.{◌≡◌, ◌≢◌, ◌⊎◌, ◌≤◌, ℕ, Bool, true, false, List, [], ◌∷◌, ◌++◌, ◌+◌, length, take, drop, if◌then◌else◌, ◌||◌, Result, OnOk, OnErr, ⊤, IsTrue, IsFalse}
 use Rattle.std.specs.List.{list_any, All}
 use Rattle.std.specs.Str.{bytes_eq}
 use Rattle.org_disk.specs.Disk.{FileState, IsImage, AreImages, AreLeftBy, Changes, Passes, stable, write, cut, sync}
@@ -28,12 +28,17 @@ pub data Event : Type 0 where
   -- these bytes were read from this place on
   Read : List ℕ → ℕ → List ℕ → Event
   Write : List ℕ → ℕ → List ℕ → Bool → Event
+  -- bytes that stand in the file already were written over themselves, if the file may be written
+  Again : List ℕ → ℕ → List ℕ → Bool → Event
   Cut : List ℕ → ℕ → Bool → Event
   Sync : List ℕ → Bool → Event
   -- the file of a name was opened, and made where there was none
   Made : List ℕ → Bool → Event
   -- the entry of the file of a name was put on the device
   Entered : List ℕ → Bool → Event
+  -- Any other call on the file of a name failed: an answer is missing, or shows that the file isn't
+  -- as these calls left it, or there is no memory to go on.
+  Failed : List ℕ → Event
 
 -- the names of the entries that were just listed, the last first
 abbrev pub entries_in : List Event → List (List ℕ)
@@ -47,11 +52,13 @@ entries_in (Unseen name ∷ earlier) = []
 entries_in (Absent name ∷ earlier) = []
 entries_in (Length name n ∷ earlier) = []
 entries_in (Read name from bytes ∷ earlier) = []
+entries_in (Again name from bytes ok ∷ earlier) = []
 entries_in (Write name from bytes ok ∷ earlier) = []
 entries_in (Cut name n ok ∷ earlier) = []
 entries_in (Sync name ok ∷ earlier) = []
 entries_in (Made name ok ∷ earlier) = []
 entries_in (Entered name ok ∷ earlier) = []
+entries_in (Failed name ∷ earlier) = []
 
 -- a record after entries of these names
 abbrev pub with_entries : List (List ℕ) → List Event → List Event
@@ -87,6 +94,8 @@ files world (Entered name ok ∷ earlier) = files world earlier
 files world (Absent name ∷ earlier) = files world earlier
 files world (Length name n ∷ earlier) = files world earlier
 files world (Read name from bytes ∷ earlier) = files world earlier
+files world (Again name from bytes ok ∷ earlier) = files world earlier
+files world (Failed name ∷ earlier) = files world earlier
 files world (Write name from bytes true ∷ earlier) =
     changed name (write from bytes) (files world earlier)
 files world (Write name from bytes false ∷ earlier) =
@@ -118,6 +127,8 @@ IsRight world (Absent name) earlier = files world earlier name ≡ stable []
 IsRight world (Length name n) earlier = n ≡ length (files world earlier name).content
 IsRight world (Read name from bytes) earlier =
     bytes ≡ take (length bytes) (drop from (files world earlier name).content)
+IsRight world (Again name from bytes ok) earlier = ⊤
+IsRight world (Failed name) earlier = ⊤
 IsRight world (Write name from bytes true) earlier = ⊤
 IsRight world (Write name from bytes false) earlier =
     IsImage (write from bytes (files world earlier name))
@@ -146,10 +157,18 @@ abbrev pub IsWithin : World → List Event → List ℕ → ℕ → Type 0
 IsWithin world calls name n =
     AreRight world calls → n ≤ length (files world calls name).content
 
+-- where the answers were right: these bytes stand in the file of a name from this place on
+abbrev pub StandIn : World → List Event → List ℕ → ℕ → List ℕ → Type 0
+StandIn world calls name from bytes =
+    AreRight world calls
+    → bytes ≡ take (length bytes) (drop from (files world calls name).content)
+
 -- no write, cut or sync among these calls is on the file of this name
 abbrev pub IsLeftAlone : List ℕ → List Event → Type 0
 IsLeftAlone name [] = ⊤
 IsLeftAlone name (Write other from bytes ok ∷ earlier) =
+    (other ≢ name) × IsLeftAlone name earlier
+IsLeftAlone name (Again other from bytes ok ∷ earlier) =
     (other ≢ name) × IsLeftAlone name earlier
 IsLeftAlone name (Cut other n ok ∷ earlier) = (other ≢ name) × IsLeftAlone name earlier
 IsLeftAlone name (Sync other ok ∷ earlier) = (other ≢ name) × IsLeftAlone name earlier
@@ -164,7 +183,7 @@ has_entered name (_ ∷ earlier) = has_entered name earlier
 abbrev pub HasEntered : List ℕ → List Event → Type 0
 HasEntered name calls = IsTrue (has_entered name calls)
 
--- whether a sync of an entry failed
+-- whether a sync failed, of a file or of an entry
 abbrev pub has_failed : List Event → Bool
 has_failed [] = false
 has_failed (Filled path ∷ earlier) = has_failed earlier
@@ -179,9 +198,43 @@ has_failed (Entered name false ∷ earlier) = true
 has_failed (Absent name ∷ earlier) = has_failed earlier
 has_failed (Length name n ∷ earlier) = has_failed earlier
 has_failed (Read name from bytes ∷ earlier) = has_failed earlier
+has_failed (Again name from bytes ok ∷ earlier) = has_failed earlier
+has_failed (Failed name ∷ earlier) = has_failed earlier
 has_failed (Write name from bytes ok ∷ earlier) = has_failed earlier
 has_failed (Cut name n ok ∷ earlier) = has_failed earlier
-has_failed (Sync name ok ∷ earlier) = has_failed earlier
+has_failed (Sync name true ∷ earlier) = has_failed earlier
+has_failed (Sync name false ∷ earlier) = true
+
+-- a count of failures after one more call
+abbrev pub with_answer : Bool → ℕ → ℕ
+with_answer true failures = failures
+with_answer false failures = failures + 1
+
+-- how many calls on the files failed
+abbrev pub failed_calls : List Event → ℕ
+failed_calls [] = 0
+failed_calls (Filled path ∷ earlier) = failed_calls earlier
+failed_calls (Locked path ∷ earlier) = failed_calls earlier
+failed_calls (Entry name ∷ earlier) = failed_calls earlier
+failed_calls (Listed ∷ earlier) = failed_calls earlier
+failed_calls (There name device number plain ∷ earlier) = failed_calls earlier
+failed_calls (Unseen name ∷ earlier) = failed_calls earlier
+failed_calls (Absent name ∷ earlier) = failed_calls earlier
+failed_calls (Length name n ∷ earlier) = failed_calls earlier
+failed_calls (Read name from bytes ∷ earlier) = failed_calls earlier
+failed_calls (Write name from bytes ok ∷ earlier) = with_answer ok (failed_calls earlier)
+failed_calls (Again name from bytes ok ∷ earlier) = with_answer ok (failed_calls earlier)
+failed_calls (Cut name n ok ∷ earlier) = with_answer ok (failed_calls earlier)
+failed_calls (Sync name ok ∷ earlier) = with_answer ok (failed_calls earlier)
+failed_calls (Made name ok ∷ earlier) = with_answer ok (failed_calls earlier)
+failed_calls (Entered name ok ∷ earlier) = with_answer ok (failed_calls earlier)
+failed_calls (Failed name ∷ earlier) = failed_calls earlier + 1
+
+-- What a call makes of that count: one more where it answers a fault, and else the same.
+pub record CountsCall {A : Type 0} (old new : List Event) (result : Result A DiskFault) : Type 0
+  where
+    pub kept : OnOk result (failed_calls new ≡ failed_calls old)
+    pub counted : OnErr result (failed_calls new ≡ failed_calls old + 1)
 
 -- whether a name was found without a file
 abbrev pub was_absent : List ℕ → List Event → Bool
@@ -217,6 +270,8 @@ is_filled (Entered name ok ∷ earlier) = is_filled earlier
 is_filled (Absent name ∷ earlier) = is_filled earlier
 is_filled (Length name n ∷ earlier) = is_filled earlier
 is_filled (Read name from bytes ∷ earlier) = is_filled earlier
+is_filled (Again name from bytes ok ∷ earlier) = is_filled earlier
+is_filled (Failed name ∷ earlier) = is_filled earlier
 is_filled (Write name from bytes ok ∷ earlier) = is_filled earlier
 is_filled (Cut name n ok ∷ earlier) = is_filled earlier
 is_filled (Sync name ok ∷ earlier) = is_filled earlier
@@ -236,6 +291,8 @@ is_held (Entered name ok ∷ earlier) = is_held earlier
 is_held (Absent name ∷ earlier) = is_held earlier
 is_held (Length name n ∷ earlier) = is_held earlier
 is_held (Read name from bytes ∷ earlier) = is_held earlier
+is_held (Again name from bytes ok ∷ earlier) = is_held earlier
+is_held (Failed name ∷ earlier) = is_held earlier
 is_held (Write name from bytes ok ∷ earlier) = is_held earlier
 is_held (Cut name n ok ∷ earlier) = is_held earlier
 is_held (Sync name ok ∷ earlier) = is_held earlier
@@ -254,11 +311,13 @@ IsLook (Unseen name) = ⊤
 IsLook (Absent name) = ⊤
 IsLook (Length name n) = ⊤
 IsLook (Read name from bytes) = ⊤
+IsLook (Again name from bytes ok) = ⊥
 IsLook (Write name from bytes ok) = ⊥
 IsLook (Cut name n ok) = ⊥
 IsLook (Sync name ok) = ⊥
 IsLook (Made name ok) = ⊥
 IsLook (Entered name ok) = ⊥
+IsLook (Failed name) = ⊥
 
 -- no call was made since but such ones
 pub record OnlyLooks (old new : List Event) : Type 0 where

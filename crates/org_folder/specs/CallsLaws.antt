@@ -7,7 +7,7 @@ use Rattle.std.specs.Str.{bytes_eq}
 use Rattle.org_disk.specs.Disk.{FileState, IsImage, AreImages, write, cut, sync}
 use Rattle.org_disk.specs.OwnImages.{IsOwnImage, write_own, cut_own, sync_own}
 use Rattle.org_folder.specs.Calls.{Event, World, files, changed, reading, AreRight, LeftSince}
-use Rattle.org_folder.specs.Calls.Event.{Filled, Locked, Entry, Listed, There, Unseen, Absent, Length, Read, Write, Cut, Sync, Made, Entered}
+use Rattle.org_folder.specs.Calls.Event.{Filled, Locked, Entry, Listed, There, Unseen, Absent, Length, Read, Write, Again, Cut, Sync, Made, Entered, Failed}
 
 -- a file that reads as one of its images
 reading_keeps : (content : List ℕ) (file : FileState) → IsImage file content
@@ -58,6 +58,8 @@ own_image world (Entered n ok ∷ earlier) right name = own_image world earlier 
 own_image world (Absent n ∷ earlier) right name = own_image world earlier right.1 name
 own_image world (Length n length ∷ earlier) right name = own_image world earlier right.1 name
 own_image world (Read n from bytes ∷ earlier) right name = own_image world earlier right.1 name
+own_image world (Again n from bytes ok ∷ earlier) right name = own_image world earlier right.1 name
+own_image world (Failed n ∷ earlier) right name = own_image world earlier right.1 name
 own_image world (Write n from bytes true ∷ earlier) right name =
     changed_keeps n (write from bytes) (files world earlier)
     (write_own from bytes (files world earlier n) (own_image world earlier right.1 n))

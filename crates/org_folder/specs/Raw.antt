@@ -4,7 +4,7 @@ use Rattle.std.specs.Prelude.{◌≡◌, ◌⊎◌, ℕ, Bool, true, false, not,
 use Rattle.std.specs.Str.{bytes_eq}
 use Rattle.org_disk.specs.Names.{is_file_name}
 use Rattle.org_folder.specs.Calls.{Event}
-use Rattle.org_folder.specs.Calls.Event.{Filled, Locked, Entry, Listed, There, Unseen, Absent, Length, Read, Write, Cut, Sync, Made, Entered}
+use Rattle.org_folder.specs.Calls.Event.{Filled, Locked, Entry, Listed, There, Unseen, Absent, Length, Read, Write, Again, Cut, Sync, Made, Entered, Failed}
 use Rattle.org_folder.specs.declared.calls.How.{How}
 use Rattle.org_folder.specs.declared.calls.How.TheVariants as opened
 use Rattle.org_folder.specs.declared.calls.SystemCall.{SystemCall}
@@ -137,8 +137,10 @@ is_enter path other = false
 
 -- These calls were made for these steps, in their order, and no other. Where a folder is locked, all
 -- paths lead from it from then on; a write is of these bytes to this place of the file that was
--- opened under this name; and so on. A write of no bytes, which tries a file, is no such call. Where a file wasn't made, or an entry not put on the device, it may
--- have come to no call. Nor does it where the folder was synced since a file was made.
+-- opened under this name; and so on. A write of no bytes, which tries a file, is no such call. Where
+-- a file wasn't made, or a file or an entry not put on the device, it may have come to no call. Nor does it
+-- where the folder was synced since a file was made, or where bytes would be written over themselves
+-- in a file that may not be written.
 abbrev pub accounts : List Event → List Raw → Bool
 accounts [] [] = true
 accounts [] (first ∷ earlier) = false
@@ -154,8 +156,13 @@ accounts (Read name from bytes ∷ steps) calls = accounts steps calls
 accounts (Write name from [] ok ∷ steps) calls = accounts steps calls
 accounts (Write name from (byte ∷ bytes) ok ∷ steps) calls =
     head (is_write name from (byte ∷ bytes) ok) (accounts steps) calls
+accounts (Again name from bytes ok ∷ steps) calls =
+    head (is_write name from bytes ok) (accounts steps) calls || accounts steps calls
+accounts (Failed name ∷ steps) calls = accounts steps calls
 accounts (Cut name to ok ∷ steps) calls = head (is_cut name to ok) (accounts steps) calls
-accounts (Sync name ok ∷ steps) calls = head (is_sync name ok) (accounts steps) calls
+accounts (Sync name true ∷ steps) calls = head (is_sync name true) (accounts steps) calls
+accounts (Sync name false ∷ steps) calls =
+    head (is_sync name false) (accounts steps) calls || accounts steps calls
 accounts (Made name true ∷ steps) calls = head (is_make name true) (accounts steps) calls
 accounts (Made name false ∷ steps) calls =
     head (is_make name false) (accounts steps) calls || accounts steps calls
@@ -199,6 +206,12 @@ pub record CutsOff (path : List ℕ) (to : ℕ) (old new : List Raw) (ok : Bool)
   pub did : Bool
   pub done : IsTrue (bears_out ok did)
   pub is : effects new ≡ Call (system.Truncate to did) path [] ∷ effects old
+
+-- a file was put on the device; a call that failed may have come to no sync
+abbrev pub SyncsContent : List ℕ → (old new : List Raw) → Bool → Type 0
+SyncsContent path old new true = new ≡ Call (system.DataSync true) path [] ∷ old
+SyncsContent path old new false =
+    (new ≡ Call (system.DataSync false) path [] ∷ old) ⊎ OnlyAsks old new
 
 -- a folder was synced; a call that failed may have come to no sync
 pub record SyncsOne (old new : List Raw) (ok : Bool) : Type 0 where

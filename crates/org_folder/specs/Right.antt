@@ -5,7 +5,7 @@ use Rattle.std.specs.Prelude.{◌≡◌, ◌<◌, ℕ, List, length, Result, All
 use Rattle.std.specs.List.{HoldsAt}
 use Rattle.org_disk.specs.Disk.{FileState}
 use Rattle.org_disk.specs.declared.disk.DiskFault.{DiskFault}
-use Rattle.org_folder.specs.Calls.{Event, AreRight, AreAbsent, Does, HasEntered, IsWithin, Looks, files}
+use Rattle.org_folder.specs.Calls.{Event, AreRight, AreAbsent, CountsCall, Does, HasEntered, IsWithin, Looks, StandIn, files}
 use Rattle.org_folder.specs.declared.system.System.{Ghosts}
 use Rattle.org_folder.specs.declared.system.Opened.{Opened}
 
@@ -26,6 +26,10 @@ module _ {C F : Type 0} (g : Ghosts C F) where
   abbrev pub LiesWithin : C → List ℕ → ℕ → Type 0
   LiesWithin calls = IsWithin g.world (g.history calls)
 
+  -- where each answer was right: these bytes stand in this file from this place on
+  abbrev pub HoldsThere : C → List ℕ → ℕ → List ℕ → Type 0
+  HoldsThere calls = StandIn g.world (g.history calls)
+
   -- where each answer was right: none of these names has a file
   abbrev pub HaveNoFiles : C → List (List ℕ) → Type 0
   HaveNoFiles calls = AreAbsent g.world (g.history calls)
@@ -42,6 +46,10 @@ module _ {C F : Type 0} (g : Ghosts C F) where
   DoesRight effect name old new result =
       HasBeenRight new
       → HasBeenRight old × Does g.world effect name (g.history old) (g.history new) result
+
+  -- what a call makes of the count of failures, however right the answers were
+  abbrev pub NotesFailure : {A : Type 0} → C → C → Result A DiskFault → Type 0
+  NotesFailure old new result = CountsCall (g.history old) (g.history new) result
 
 -- each of these files that is said to have its entry on the device has it there
 abbrev pub AreEntered : {F : Type 0} → List Event → List (Opened F) → Type 0

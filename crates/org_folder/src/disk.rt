@@ -1,10 +1,8 @@
 //! The files of a folder, as a disk: org_disk's `Disk` over the calls of a system.
 //!
-//! It counts failures and keeps what `folder` opened. Nothing is cached of what files hold, but
-//! that they aren't there.
-ghost use Rattle.std.specs.Prelude.{◌≡◌, OnOk, OnErr, length};
-ghost use Rattle.org_disk.specs.Disk.{IsCounted};
-ghost use Rattle.org_folder.specs.Calls.{IsHeld, LeftSince};
+//! It keeps what `folder` opened. Nothing is cached of what files hold, but that they aren't there.
+ghost use Rattle.std.specs.Prelude.{◌≡◌, length};
+ghost use Rattle.org_folder.specs.Calls.{IsHeld, LeftSince, failed_calls};
 ghost use Rattle.org_folder.specs.Right.{file_of, HasBeenRight, HaveNoFiles};
 
 use crate::calls::HostCalls;
@@ -20,7 +18,7 @@ use std::alloc::Global;
 /// have changed it. So does a length that is asked for while the journal's gate is open. Where a
 /// file isn't there, the next call on it doesn't look again. A file stays open from its first use
 /// on; the first sync of a file also puts its entry in the folder on the device. A call of the
-/// system that fails, and want of memory, is a counted failure.
+/// system that fails is a failure, and so is want of memory. The record of the calls counts them.
 ///
 /// Its files are those that the record of its calls stands for. It is an honest disk as long as
 /// each answer in that record was right, and a wrong one ends it for good; no contract says that a
@@ -30,7 +28,6 @@ pub struct CallsDisk<S: System> {
     folder: Folder<S>,
     // each file of a record is to be written over, however it stands
     adopts: bool,
-    failures: u64,
 }
 
 /// The files of a folder of the operating system, as a disk. Links are followed. A call that a
@@ -60,34 +57,13 @@ where
         requires held { IsHeld (S.history system) }
         requires absent { HaveNoFiles S.System system absent.keys }
         ensures system { result.folder.system ≡ system }
-        ensures failures { result.failures ≡ 0 }
         ensures adopts { result.adopts ≡ adopts }
     {
         CallsDisk {
             folder: Folder::new(alloc, system, absent),
             adopts,
-            failures: 0,
         }
     }
-
-    /// How many calls have failed, at most 2^64 - 1.
-    pub fn failures(&self) -> u64
-        ensures { result ≡ self.now.failures }
-    {
-        self.failures
-    }
-}
-
-// Counts a failure.
-fn counted<T: Drop>(answer: Result<T, DiskFault>, failures: &mut u64) -> Result<T, DiskFault>
-    ensures same { result ≡ answer }
-    ensures ok { OnOk result (failures.new ≡ failures.old) }
-    ensures err { OnErr result (IsCounted failures.old failures.new) }
-{
-    if answer.is_err() {
-        *failures = failures.saturating_add(1);
-    }
-    answer
 }
 
 impl<S: System + Drop> Disk for CallsDisk<S>
@@ -106,7 +82,7 @@ where
 
     ghost left_since = { λ disk. LeftSince S.world (S.history disk.folder.system) };
 
-    ghost failures = { λ disk. disk.failures };
+    ghost failures = { λ disk. failed_calls (S.history disk.folder.system) };
 
     ghost content_is_image = { λ disk name honest.
         own_image S.world (S.history disk.folder.system) honest name };
@@ -118,33 +94,37 @@ where
         only_now S.world (S.history disk.folder.system) image left };
 
     fn length(&mut self, name: &FileName) -> Result<u64, DiskFault> {
-        counted(self.folder.length(name), &mut self.failures)
+        self.folder.length(name)
     }
 
     fn read_at(&mut self, name: &FileName, from: u64, into: &mut [u8]) -> Result<(), DiskFault> {
-        counted(self.folder.read(name, from, into), &mut self.failures)
+        self.folder.read(name, from, into)
     }
 
     fn write_at(&mut self, name: &FileName, from: u64, bytes: &[u8]) -> Result<(), DiskFault> {
-        counted(self.folder.write(name, from, bytes), &mut self.failures)
+        self.folder.write(name, from, bytes)
+    }
+
+    fn write_again(&mut self, name: &FileName, from: u64, bytes: &[u8]) -> Result<(), DiskFault> {
+        self.folder.write_again(name, from, bytes)
     }
 
     fn cut(&mut self, name: &FileName, to: u64) -> Result<(), DiskFault> {
-        counted(self.folder.cut(name, to), &mut self.failures)
+        self.folder.cut(name, to)
     }
 
     fn sync(&mut self, name: &FileName) -> Result<(), DiskFault> {
-        counted(self.folder.sync(name), &mut self.failures)
+        self.folder.sync(name)
     }
 
     fn confirm(&mut self, name: &FileName, bytes: &[u8]) -> Result<(), DiskFault> {
-        counted(self.folder.confirm(name, bytes), &mut self.failures)
+        self.folder.confirm(name, bytes)
     }
 
     fn standing(&mut self, name: &FileName) -> Result<Standing, DiskFault> {
         if self.adopts {
             return Ok(Standing::Adopted);
         }
-        counted(self.folder.standing(name), &mut self.failures)
+        self.folder.standing(name)
     }
 }

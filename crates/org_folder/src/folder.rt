@@ -3,13 +3,14 @@
 //! The opened files stand in byte order of their names, each name once. That a file isn't there is
 //! kept for the next call on it, which doesn't look again. A name that was found absent before the
 //! first call is believed twice so. Files are made by their first write, and never removed or
-//! renamed. No fault is counted here.
-ghost use Rattle.std.specs.Prelude.{◌≡◌, ◌⊎◌, ◌≤◌, [], ◌∷◌, length, take, drop, is_ok, IfOk, IfSome, IfNone, IfErr, IsErr, IsFalse, IsTrue, List, ℕ, OnOk};
+//! renamed.
+ghost use Rattle.std.specs.Prelude.{◌≡◌, ◌⊎◌, ◌≤◌, [], ◌∷◌, length, take, drop, is_ok, IfOk, IfSome, IfNone, IfErr, IsErr, IsFalse, IsTrue, List, ℕ, OnErr, OnOk};
 ghost use Rattle.std.specs.List.{list_any};
 ghost use Rattle.std.specs.Str.{bytes_eq};
 ghost use Rattle.org_disk.specs.Disk.{cut, stable, sync, write};
 ghost use Rattle.org_folder.specs.Calls.{AreFoundAbsent, HasAbsent, HasEntered, IsHeld};
-ghost use Rattle.org_folder.specs.Right.{content_of, file_of, AreEntered, DoesRight, HasBeenRight, HaveNoFiles, LiesWithin, LooksRight, StandsAt};
+ghost use Rattle.org_folder.specs.Calls.Event.{Failed};
+ghost use Rattle.org_folder.specs.Right.{content_of, file_of, AreEntered, DoesRight, HasBeenRight, HaveNoFiles, HoldsThere, LiesWithin, LooksRight, NotesFailure, StandsAt};
 
 use crate::system::{Opened, System};
 use indexmap::IndexSet;
@@ -54,6 +55,7 @@ where
         ensures value { HasBeenRight S.System self.new.system →
             IfOk result (λ n. n ≡ length (content_of S.System self.old.system name.now)) }
         ensures looks { LooksRight S.System self.old.system self.new.system }
+        ensures failures { NotesFailure S.System self.old.system self.new.system result }
     {
         match self.find(name)? {
             Some(at) => self.system.length(&self.files[at]),
@@ -65,38 +67,55 @@ where
         ensures bytes { HasBeenRight S.System self.new.system → OnOk result (into.new
             ≡ take (length into.old) (drop from (content_of S.System self.old.system name.now))) }
         ensures looks { LooksRight S.System self.old.system self.new.system }
+        ensures failures { NotesFailure S.System self.old.system self.new.system result }
     {
         match self.find(name)? {
             Some(at) => self.system.read_at(&self.files[at], from, into),
             None if into.is_empty() => Ok(()),
-            None => Err(DiskFault),
+            None => Err(self.system.miss(name)),
         }
     }
 
     // A write of no bytes tries the file, and makes it where there is none.
     pub fn write(&mut self, name: &FileName, from: u64, bytes: &[u8]) -> Result<(), DiskFault>
         requires { LiesWithin S.System self.old.system name.now from }
-        ensures { DoesRight S.System (write from bytes.now) name.now
+        ensures does { DoesRight S.System (write from bytes.now) name.now
             self.old.system self.new.system result }
+        ensures failures { NotesFailure S.System self.old.system self.new.system result }
     {
         let at = self.find_or_make(name)?;
         self.system.write_at(&self.files[at], from, bytes)
     }
 
+    pub fn write_again(&mut self, name: &FileName, from: u64, bytes: &[u8]) -> Result<(), DiskFault>
+        requires { HoldsThere S.System self.old.system name.now from bytes.now }
+        ensures looks { LooksRight S.System self.old.system self.new.system }
+        ensures failures { NotesFailure S.System self.old.system self.new.system result }
+    {
+        match self.find(name)? {
+            Some(at) => self.system.write_again(&self.files[at], from, bytes),
+            None if bytes.is_empty() => Ok(()),
+            None => Err(self.system.miss(name)),
+        }
+    }
+
     pub fn cut(&mut self, name: &FileName, to: u64) -> Result<(), DiskFault>
         requires { LiesWithin S.System self.old.system name.now to }
-        ensures { DoesRight S.System (cut to) name.now self.old.system self.new.system result }
+        ensures does { DoesRight S.System (cut to) name.now
+            self.old.system self.new.system result }
+        ensures failures { NotesFailure S.System self.old.system self.new.system result }
     {
         match self.find(name)? {
             Some(at) => self.system.cut(&self.files[at], to),
             None if to == 0 => Ok(()),
-            None => Err(DiskFault),
+            None => Err(self.system.miss(name)),
         }
     }
 
     // The first sync of a file takes its entry in the folder along.
     pub fn sync(&mut self, name: &FileName) -> Result<(), DiskFault>
-        ensures { DoesRight S.System sync name.now self.old.system self.new.system result }
+        ensures does { DoesRight S.System sync name.now self.old.system self.new.system result }
+        ensures failures { NotesFailure S.System self.old.system self.new.system result }
     {
         match self.find(name)? {
             Some(at) => sync_opened(&mut self.system, &mut self.files[at]),
@@ -105,17 +124,19 @@ where
     }
 
     pub fn confirm(&mut self, name: &FileName, bytes: &[u8]) -> Result<(), DiskFault>
-        ensures { LooksRight S.System self.old.system self.new.system }
+        ensures looks { LooksRight S.System self.old.system self.new.system }
+        ensures failures { NotesFailure S.System self.old.system self.new.system result }
     {
         match self.find(name)? {
             Some(at) => self.system.confirm(&self.files[at], bytes),
             None if bytes.is_empty() => Ok(()),
-            None => Err(DiskFault),
+            None => Err(self.system.miss(name)),
         }
     }
 
     pub fn standing(&mut self, name: &FileName) -> Result<Standing, DiskFault>
-        ensures { LooksRight S.System self.old.system self.new.system }
+        ensures looks { LooksRight S.System self.old.system self.new.system }
+        ensures failures { NotesFailure S.System self.old.system self.new.system result }
     {
         self.system.standing(name)
     }
@@ -134,6 +155,7 @@ where
         ensures looked { IfOk result (λ found. IfNone found
             (HasAbsent name.now (S.history self.new.system))) }
         ensures looks { LooksRight S.System self.old.system self.new.system }
+        ensures failures { NotesFailure S.System self.old.system self.new.system result }
     {
         // It is believed once: another program may make the file meanwhile.
         if self.absent.swap_remove(name) {
@@ -162,6 +184,7 @@ where
         ensures there { OnOk result (IsFalse (list_any (bytes_eq name.now) self.new.absent.keys)
             × IsFalse (list_any (bytes_eq name.now) self.new.absent_at_first.keys)) }
         ensures looks { LooksRight S.System self.old.system self.new.system }
+        ensures failures { NotesFailure S.System self.old.system self.new.system result }
     {
         if let Ok(at) = self.place(name) {
             self.absent.swap_remove(name);
@@ -184,6 +207,7 @@ where
         ensures there { IsFalse (list_any (bytes_eq name.now) self.new.absent.keys)
             × IsFalse (list_any (bytes_eq name.now) self.new.absent_at_first.keys) }
         ensures looks { LooksRight S.System self.old.system self.new.system }
+        ensures failures { NotesFailure S.System self.old.system self.new.system result }
     {
         self.absent.swap_remove(name);
         self.absent_at_first.swap_remove(name);
@@ -214,11 +238,13 @@ where
         ensures place { IfOk result (StandsAt opened.name self.new.files.items) }
         ensures absent { self.new.absent ≡ self.old.absent }
         ensures at_first { self.new.absent_at_first ≡ self.old.absent_at_first }
-        ensures system { self.new.system ≡ self.old.system }
+        ensures kept { OnOk result (self.new.system ≡ self.old.system) }
+        ensures given_up { OnErr result (S.history self.new.system
+            ≡ Failed opened.name ∷ S.history self.old.system) }
     {
         match self.files.insert(place, opened) {
             Ok(()) => Ok(place),
-            Err(_) => Err(DiskFault),
+            Err(failed) => Err(self.system.give_up(failed.value)),
         }
     }
 
@@ -252,6 +278,7 @@ where
     requires { IsTrue opened.old.is_entered
         → HasEntered opened.old.name (S.history system.old) }
     ensures synced { DoesRight S.System sync opened.old.name system.old system.new result }
+    ensures failures { NotesFailure S.System system.old system.new result }
     ensures entered { IsTrue opened.new.is_entered
         → HasEntered opened.new.name (S.history system.new) }
     ensures others { (name : List ℕ) → HasEntered name (S.history system.old)

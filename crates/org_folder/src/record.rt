@@ -24,10 +24,12 @@ pub enum Call {
     Length(u64),
     Read(u64),
     Write(u64, bool),
+    Again(u64, bool),
     Cut(u64, bool),
     Sync(bool),
     Made(bool),
     Entered(bool),
+    Failed,
 }
 
 /// The calls so far, the newest first. It has no bytes; the marker makes it a type that a proof can

@@ -3,8 +3,8 @@
 //! Code that is generic over `System` has no other way to the folder. The record stands in proofs
 //! alone. Whether its answers were right is the premise under which a folder is an honest disk.
 ghost use Rattle.std.specs.Prelude.{◌≡◌, List, ◌∷◌, is_ok, map, string_bytes, IsTrue, IsFalse, IfOk, IfSome, IfNone, OnOk, OnErr};
-ghost use Rattle.org_folder.specs.Calls.{Event, HasAbsent, HasEntered, IsWithin, World, has_failed, is_filled, is_held, with_entries};
-ghost use Rattle.org_folder.specs.Calls.Event.{Absent, Cut, Entered, Filled, Length, Listed, Locked, Made, Read, Sync, There, Unseen, Write};
+ghost use Rattle.org_folder.specs.Calls.{Event, HasAbsent, HasEntered, IsWithin, World, has_failed, is_filled, is_held, with_entries, StandIn};
+ghost use Rattle.org_folder.specs.Calls.Event.{Absent, Again, Cut, Entered, Failed, Filled, Length, Listed, Locked, Made, Read, Sync, There, Unseen, Write};
 
 use crate::aliases::Node;
 use crate::calls::Handle;
@@ -110,13 +110,13 @@ pub struct Found {
 /// way to the folder. A call that fails may have gone any part of its way.
 ///
 /// A record that stands in proofs alone has, each with its answer: the folder's lock and its list,
-/// each look at a name, a name without a file, each length and read that succeeded, and each write,
-/// cut and sync, each file that was made and each entry that was synced. To open a file that is
-/// there leaves it as it is. Whether the answers were right (`AreRight`) is no clause: that a
-/// length and a read gave what the calls before made of the file, that a name without a file stands
-/// for the empty file, after a crash too, and that a call that failed left what a crash within it
-/// may leave. It is the premise under which a `CallsDisk` is an honest disk. That the list is right
-/// is a premise of its own (`IsRightList`).
+/// each look at a name, a name without a file, each length and read that succeeded, each write, cut
+/// and sync, each file that was made and each entry that was synced, and each other call on a file
+/// that failed. To open a file that is there leaves it as it is. Whether the answers were right
+/// (`AreRight`) is no clause: that a length and a read gave what the calls before made of the file,
+/// that a name without a file stands for the empty file, after a crash too, and that a call that
+/// failed left what a crash within it may leave. It is the premise under which a `CallsDisk` is an
+/// honest disk. That the list is right is a premise of its own (`IsRightList`).
 pub trait System {
     /// A file of the system, open for reading and, where that is permitted, for writing.
     type File;
@@ -165,7 +165,16 @@ pub trait System {
             history self.new ≡ history self.old)) }
         ensures absent { IfOk result (λ found. IfNone found
             (history self.new ≡ Absent name.now ∷ history self.old)) }
-        ensures err { OnErr result (history self.new ≡ history self.old) };
+        ensures err { OnErr result (history self.new ≡ Failed name.now ∷ history self.old) };
+
+    /// Gives up a file that was opened: there is no memory to keep it.
+    fn give_up(&mut self, opened: Opened<Self::File>) -> DiskFault
+        ensures { history self.new ≡ Failed opened.name ∷ history self.old };
+
+    /// Notes that a file that was found absent was to hold bytes.
+    fn miss(&mut self, name: &FileName) -> DiskFault
+        requires { HasAbsent name.now (history self.old) }
+        ensures { history self.new ≡ Failed name.now ∷ history self.old };
 
     /// Opens the file of a name, which is made where there is none. Its content stays as it is. It
     /// was found absent before.
@@ -180,7 +189,8 @@ pub trait System {
     fn length(&mut self, opened: &Opened<Self::File>) -> Result<u64, DiskFault>
         ensures ok { IfOk result (λ n.
             history self.new ≡ Length opened.now.name n ∷ history self.old) }
-        ensures err { OnErr result (history self.new ≡ history self.old) };
+        ensures err { OnErr result (history self.new ≡ Failed opened.now.name
+            ∷ history self.old) };
 
     /// Fills the buffer with the bytes of a file from `from` on.
     fn read_at(
@@ -191,7 +201,8 @@ pub trait System {
     ) -> Result<(), DiskFault>
         ensures ok { OnOk result
             (history self.new ≡ Read opened.now.name from into.new ∷ history self.old) }
-        ensures err { OnErr result (history self.new ≡ history self.old) };
+        ensures err { OnErr result (history self.new ≡ Failed opened.now.name
+            ∷ history self.old) };
 
     /// Writes bytes over a file from `from` on, which is at most its length. A write of no bytes
     /// changes nothing: it tries the file. It fails where the file can't be written, or where
@@ -206,20 +217,35 @@ pub trait System {
         ensures { history self.new
             ≡ Write opened.now.name from bytes.now (is_ok result) ∷ history self.old };
 
+    /// Writes bytes over a file where they stand already, if it may be written. So they are put on
+    /// the device by the next sync, also where an earlier one failed to, and the system forgot them.
+    fn write_again(
+        &mut self,
+        opened: &Opened<Self::File>,
+        from: u64,
+        bytes: &[u8],
+    ) -> Result<(), DiskFault>
+        requires { StandIn world (history self.old) opened.now.name from bytes.now }
+        ensures { history self.new
+            ≡ Again opened.now.name from bytes.now (is_ok result) ∷ history self.old };
+
     /// Takes away the bytes of a file from `to` on, which is at most its length.
     fn cut(&mut self, opened: &Opened<Self::File>, to: u64) -> Result<(), DiskFault>
         requires { IsWithin world (history self.old) opened.now.name to }
         ensures { history self.new ≡ Cut opened.now.name to (is_ok result) ∷ history self.old };
 
-    /// Puts a file on the device. Its entry in the folder was put there before.
+    /// Puts a file on the device. Its entry in the folder was put there before. Once a sync has
+    /// failed, of whichever file or entry, none succeeds: systems forget what they failed to put
+    /// there.
     fn sync(&mut self, opened: &Opened<Self::File>) -> Result<(), DiskFault>
         requires this { IsTrue opened.now.is_entered }
         requires named { HasEntered opened.now.name (history self.old) }
-        ensures { history self.new ≡ Sync opened.now.name (is_ok result) ∷ history self.old };
+        ensures once { OnOk result (IsFalse (has_failed (history self.old))) }
+        ensures synced { history self.new
+            ≡ Sync opened.now.name (is_ok result) ∷ history self.old };
 
     /// Puts the entry of a file in its folder on the device. A call that fails leaves it as little
-    /// known as before; and once one has failed, on whichever file, none succeeds: systems forget
-    /// what they failed to put there.
+    /// known as before; and once a sync has failed, none succeeds.
     fn sync_entry(&mut self, opened: &mut Opened<Self::File>) -> Result<(), DiskFault>
         ensures name { opened.new.name ≡ opened.old.name }
         ensures ok { OnOk result (IsTrue opened.new.is_entered) }
@@ -229,13 +255,16 @@ pub trait System {
             ≡ Entered opened.old.name (is_ok result) ∷ history self.old };
 
     /// Reads a file back. It fails where that doesn't hold these bytes, or where another program is
-    /// seen to have changed or replaced it since these calls looked at it. It is no call of the
-    /// record: nothing that is said of the files depends on it.
+    /// seen to have changed or replaced it since these calls looked at it. Only a failure is noted:
+    /// nothing that is said of the files depends on an answer.
     fn confirm(&mut self, opened: &Opened<Self::File>, bytes: &[u8]) -> Result<(), DiskFault>
-        ensures { history self.new ≡ history self.old };
+        ensures ok { OnOk result (history self.new ≡ history self.old) }
+        ensures err { OnErr result (history self.new ≡ Failed opened.now.name
+            ∷ history self.old) };
 
-    /// How the file of a name stands beside the journal, by what the system says of both. It is no
-    /// call of the record: nothing that is said of the files depends on it.
+    /// How the file of a name stands beside the journal, by what the system says of both. Only a
+    /// failure is noted: nothing that is said of the files depends on an answer.
     fn standing(&mut self, name: &FileName) -> Result<Standing, DiskFault>
-        ensures { history self.new ≡ history self.old };
+        ensures ok { OnOk result (history self.new ≡ history self.old) }
+        ensures err { OnErr result (history self.new ≡ Failed name.now ∷ history self.old) };
 }

@@ -1,8 +1,9 @@
 -- The accounts of a call of this crate, of those of the calls that it made.
-use Rattle.std.proofs.Common.{arith, ◌≡◌, true, false, true≢false, refl, sym}
+use Rattle.std.proofs.Common.{arith, ℕ, ◌≤◌, ◌≡◌, true, false, true≢false, refl, sym}
 use Rattle.std.proofs.lemmas.Grind.{common_steps}
 use Rattle.std.specs.Prelude.{Result, Ok, Err, IsErrOf, IsErrAnd}
 use Rattle.org_disk.specs.CountsFailures.{CountsFailures}
+use Rattle.org_disk.specs.Disk.{HasRisen}
 use Rattle.org_disk.specs.declared.disk.Disk.{Ghosts}
 use Rattle.org_disk.proofs.Accounting.{accounts_fine, accounts_then}
 use Rattle.std.proofs.lemmas.Result.{err_from_is_err_and}
@@ -30,10 +31,24 @@ pub accounts_passed : {D : Type 0} {T U E : Type 0} {e fault : E} {answer : Resu
     → IsErrAnd answer (λ y. y ≡ e) → CountsFailures g old new (IsErrOf {T = T} (Err e) fault) → CountsFailures g old new (IsErrOf answer fault)
 accounts_passed {answer = answer} is call = grind (arith, common_steps)
 
+still_risen : {before mid now : ℕ} → HasRisen before mid → mid ≤ now → HasRisen before now
+still_risen risen more = grind (arith, common_steps)
+
 -- a call that failed, and that is reported
 pub accounts_failed : {D : Type 0} {g : Ghosts D} {old new : D} {Failed : Type 0} → Failed
     → CountsFailures g old new (true ≡ true) → CountsFailures g old new Failed
 accounts_failed failed call = accounts_as (λ f. failed) (λ f. refl) call
+
+-- a call that failed, and another one after it, failed or not
+pub accounts_still : {D : Type 0} {g : Ghosts D} {old mid new : D} {Failed After : Type 0} → Failed
+    → CountsFailures g old mid Failed → CountsFailures g mid new After → CountsFailures g old new Failed
+accounts_still {g = g} {new = new} failed first second = record {
+  was_honest = λ ended. first.was_honest (second.was_honest ended);
+  stays_honest = λ truthful honest. second.stays_honest truthful (first.stays_honest truthful honest);
+  no_less = omega (arith, first.no_less, second.no_less);
+  risen = λ _. still_risen (first.risen failed) second.no_less;
+  equal = λ none. absurd (none failed);
+}
 
 -- the fault of a call that failed, which a `?` made another
 pub accounts_reported : {D : Type 0} {U E : Type 0} {fault : E} {answer : Result U E} {g : Ghosts D} {old new : D}

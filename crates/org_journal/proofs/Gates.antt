@@ -1,12 +1,12 @@
 -- What a crash leaves of the journal while its gate, or the bytes after it, are written.
-use Rattle.std.proofs.Common.{rules, ◌≡◌, ◌≢◌, Bool, true, false, inl, inr, ⊎_elim, ℕ, ◌+◌, ◌-◌, ◌<◌, ◌≤◌, ◌∷◌, List, [], length, take, drop, refl, sym, ◌∙◌, ap, subst, arith}
+use Rattle.std.proofs.Common.{rules, ◌≡◌, ◌≢◌, Bool, true, false, zero, suc, inl, inr, ⊎_elim, ℕ, ◌+◌, ◌-◌, ◌<◌, ◌≤◌, ◌∷◌, List, [], length, take, drop, refl, sym, ◌∙◌, ap, subst, arith}
 use Rattle.std.proofs.lemmas.Grind.{common_steps}
-use Rattle.std.specs.Prelude.{IsFalse, IsErr, Result, Ok, Err, slice_index, nat_le, ◌==◌, ◌&&◌}
-use Rattle.std.proofs.lemmas.Bool.{eqb-true}
+use Rattle.std.specs.Prelude.{IsFalse, IsErr, Result, Ok, Err, slice_index, max, nat_le, ◌==◌, ◌&&◌}
+use Rattle.std.proofs.lemmas.Bool.{cases_lt, eqb-true}
 use Rattle.std.proofs.lemmas.List.{same_lists, get_or-drop, get_or-take, length-drop, length-take, get_or_default}
 use Rattle.org_splice.specs.Overwritten.{overwritten}
 use Rattle.org_disk.specs.declared.disk.DiskFault.{DiskFault}
-use Rattle.org_disk.specs.Disk.{FileState, Changes, IsImage, IsStable, AreLeftBy, IsLeftBy, MayLeave, stable, write, sync}
+use Rattle.org_disk.specs.Disk.{FileState, Changes, IsFixed, IsImage, IsStable, AreLeftBy, IsLeftBy, MayLeave, stable, write, sync}
 use Rattle.org_disk.proofs.Images.{only_image, stable_is, fixed_after_write}
 use Rattle.org_disk.specs.OwnImages.{write_own}
 use Rattle.org_journal.specs.Finding.{EndsAt}
@@ -47,6 +47,85 @@ module _ (journal : List ℕ) (gate : ℕ) (files : List ℕ → FileState) (is 
   pub gate_sync : (mid : List ℕ → FileState) → mid journal ≡ write 0 (gate ∷ []) (files journal) → ((other : List ℕ) → other ≢ journal → mid other ≡ files other)
       → (image : List ℕ → List ℕ) → AreLeftBy sync journal mid image → LeavesBody journal files image
   gate_sync mid is_written others image left = search (rules, arith, stable, only_image, stable_is, overwritten_gate, content, body_written)
+
+-- ---- a gate whose sync failed, marked
+
+-- a byte written over the first one, of a file that has these bytes after it in each image
+module _ (file : FileState) (body : List ℕ) (own : IsImage file file.content) (images : (bytes : List ℕ) → IsImage file bytes → drop 1 bytes ≡ body) where
+  abbrev unmarked : List ℕ → List ℕ
+  unmarked [] = []
+  unmarked (first ∷ rest) = slice_index file.content 0 ∷ rest
+
+  same_length : (bytes : List ℕ) → length (unmarked bytes) ≡ length bytes
+  same_length [] = refl
+  same_length (first ∷ rest) = refl
+
+  same_first : (bytes : List ℕ) → 1 ≤ length bytes → slice_index (unmarked bytes) 0 ≡ slice_index file.content 0
+  same_first [] some = absurd (omega arith)
+  same_first (first ∷ rest) some = refl
+
+  same_behind : (bytes : List ℕ) (i : ℕ) → slice_index (unmarked bytes) (suc i) ≡ slice_index bytes (suc i)
+  same_behind [] i = refl
+  same_behind (first ∷ rest) i = refl
+
+  same_body : (bytes : List ℕ) → drop 1 (unmarked bytes) ≡ drop 1 bytes
+  same_body [] = refl
+  same_body (first ∷ rest) = refl
+
+  kept_behind : (mark : ℕ) (text : List ℕ) (i : ℕ) → slice_index (overwritten 0 (mark ∷ []) text) (suc i) ≡ slice_index text (suc i)
+  kept_behind mark [] i = refl
+  kept_behind mark (x ∷ text) i = refl
+
+  unmarked_fixed : (mark : ℕ) (bytes : List ℕ) → IsImage (write 0 (mark ∷ []) file) bytes → (i : ℕ) → IsFixed file i → slice_index (unmarked bytes) i ≡ slice_index file.content i
+  unmarked_fixed mark bytes image zero fixed = same_first bytes (omega (arith, fixed.0, image.no_shorter))
+  unmarked_fixed mark bytes image (suc i) fixed =
+      same_behind bytes i ∙ image.fixed (suc i) (fixed.0, (inr (omega arith), fixed.1)) ∙ kept_behind mark file.content i
+
+  unmarked_image : (mark : ℕ) (bytes : List ℕ) → IsImage (write 0 (mark ∷ []) file) bytes → length bytes ≤ file.greatest → IsImage file (unmarked bytes)
+  unmarked_image mark bytes image within = record {
+    no_shorter = omega (arith, same_length bytes, image.no_shorter);
+    no_longer = omega (arith, same_length bytes, within);
+    fixed = unmarked_fixed mark bytes image;
+  }
+
+  no_body : (bytes : List ℕ) → length bytes ≤ 1 → drop 1 bytes ≡ []
+  no_body [] short = refl
+  no_body (first ∷ []) short = refl
+  no_body (first ∷ second ∷ rest) short = absurd (omega (arith, short))
+
+  marked_long : (mark : ℕ) (bytes : List ℕ) → IsImage (write 0 (mark ∷ []) file) bytes → file.greatest < length bytes → drop 1 bytes ≡ body
+  marked_long mark bytes image beyond =
+      let long : length bytes ≤ max file.greatest 1 = image.no_longer in
+      no_body bytes (omega (arith, long, beyond)) ∙ sym (no_body file.content (omega (arith, own.no_longer, long, beyond))) ∙ images file.content own
+
+  marked_body : (mark : ℕ) (bytes : List ℕ) → IsImage (write 0 (mark ∷ []) file) bytes → drop 1 bytes ≡ body
+  marked_body mark bytes image = ⊎_elim
+      (λ beyond. marked_long mark bytes image beyond)
+      (λ within. sym (same_body bytes) ∙ images (unmarked bytes) (unmarked_image mark bytes image within))
+      (cases_lt file.greatest (length bytes))
+
+-- what a sync that failed left
+pub left_by : {journal : List ℕ} {old new : List ℕ → FileState} (result : Result (Unit {0}) DiskFault) → IsErr result → Changes sync journal old new result → IsLeftBy sync (old journal) (new journal)
+left_by (Ok done) failed changes = let bad : false ≡ true = failed in cc
+left_by (Err fault) failed changes = changes.err
+
+module _ (journal : List ℕ) (gate : ℕ) (files : List ℕ → FileState) (is : IsStable (files journal)) (mid new : List ℕ → FileState) where
+  synced_body : mid journal ≡ write 0 (gate ∷ []) (files journal) → (bytes : List ℕ) → MayLeave sync (mid journal) bytes → drop 1 bytes ≡ drop 1 (files journal).content
+  synced_body written bytes left = ⊎_elim
+      (λ before. body_written journal gate files is bytes (subst (λ (f : FileState). IsImage f bytes) written before))
+      (λ after. ap (λ (l : List ℕ). drop 1 l) (only_image (stable_is (mid journal).content) bytes after ∙ ap (λ (f : FileState). f.content) written ∙ overwritten_gate gate (files journal).content))
+      left
+
+  -- within the write of a mark, after a sync that failed
+  pub gate_lost : (mark : ℕ) → mid journal ≡ write 0 (gate ∷ []) (files journal) → ((other : List ℕ) → other ≢ journal → mid other ≡ files other)
+      → IsLeftBy sync (mid journal) (new journal) → ((other : List ℕ) → other ≢ journal → new other ≡ mid other) → IsImage (new journal) (new journal).content
+      → (image : List ℕ → List ℕ) → AreLeftBy (write 0 (mark ∷ [])) journal new image → LeavesBody journal files image
+  gate_lost mark written others failed same own image left =
+      let images = λ (bytes : List ℕ) (is : IsImage (new journal) bytes). synced_body written bytes (failed.images bytes is) in
+      record {
+        body = ⊎_elim (images (image journal)) (marked_body (new journal) (drop 1 (files journal).content) own images mark (image journal)) left.here;
+        others = λ other apart. subst (λ (f : FileState). IsImage f (image other)) (same other apart ∙ others other apart) (left.others other apart);
+      }
 
 -- ---- a byte after the record of an open journal
 

@@ -18,6 +18,12 @@ const CLOSED: u8 = 0;
 /// The first byte of a journal whose gate is open.
 pub(crate) const OPEN: u8 = 1;
 
+// The first byte of a journal whose gate couldn't be put on the disk. It is closed.
+const LOST: u8 = 2;
+
+// How many bytes of a record are written again at once.
+const PIECE: u64 = 4_096;
+
 // What `mark` writes after a record.
 const MARK: u8 = 0;
 
@@ -129,7 +135,81 @@ pub fn is_open<D: Disk>(disk: &mut D, journal: &FileName) -> Result<bool, DiskFa
     Ok(gate[0] == OPEN)
 }
 
-// Writes the gate alone, and syncs it.
+/// Writes a closed gate again as it is, and the journal's last byte, on which its length depends. So
+/// the next sync puts both on the disk, also where one failed to, and the system forgot them: else a
+/// gate that reads as closed might be open after a crash. An open gate is left alone.
+///
+/// # Errors
+///
+/// `DiskFault`: a call of the disk failed.
+pub fn write_gate_again<D: Disk>(disk: &mut D, journal: &FileName) -> Result<(), DiskFault>
+    ensures looks { Looks D.Disk disk.old disk.new }
+    ensures accounts { CountsFailures D.Disk disk.old disk.new (IsErr result) }
+{
+    if is_open(disk, journal)? {
+        return Ok(());
+    }
+    write_ends_again(disk, journal)
+}
+
+/// Writes an open gate again, its record and the journal's last byte. `end` is the place after the
+/// record.
+///
+/// # Errors
+///
+/// `DiskFault`: a call of the disk failed.
+pub fn write_record_again<D: Disk>(
+    disk: &mut D,
+    journal: &FileName,
+    end: u64,
+) -> Result<(), DiskFault>
+    requires { D.honest disk.old → end ≤ length (D.files disk.old journal.now).content }
+    ensures looks { Looks D.Disk disk.old disk.new }
+    ensures accounts { CountsFailures D.Disk disk.old disk.new (IsErr result) }
+{
+    let mut from = 0;
+    while from < end {
+        let size = (end - from).min(PIECE);
+        write_piece_again(disk, journal, from, size as usize)?;
+        from += size;
+    }
+    write_ends_again(disk, journal)
+}
+
+// Writes the first byte and the last one again.
+fn write_ends_again<D: Disk>(disk: &mut D, journal: &FileName) -> Result<(), DiskFault>
+    ensures looks { Looks D.Disk disk.old disk.new }
+    ensures accounts { CountsFailures D.Disk disk.old disk.new (IsErr result) }
+{
+    let length = disk.length(journal)?;
+    if length == 0 {
+        return Ok(());
+    }
+    write_piece_again(disk, journal, 0, 1)?;
+    write_piece_again(disk, journal, length - 1, 1)
+}
+
+// Writes so many bytes again, at most a piece.
+fn write_piece_again<D: Disk>(
+    disk: &mut D,
+    journal: &FileName,
+    from: u64,
+    size: usize,
+) -> Result<(), DiskFault>
+    requires size { size ≤ 4096 }
+    requires within { D.honest disk.old
+        → from + size ≤ length (D.files disk.old journal.now).content }
+    ensures looks { Looks D.Disk disk.old disk.new }
+    ensures accounts { CountsFailures D.Disk disk.old disk.new (IsErr result) }
+{
+    let mut buffer = [0u8; 4_096];
+    let piece = &mut buffer[..size];
+    disk.read_at(journal, from, piece)?;
+    disk.write_again(journal, from, piece)
+}
+
+// Writes the gate alone, and syncs it. Where that fails, a mark says that what is read of it may not
+// be on the disk; it lives as long as what is read.
 fn set_gate<D: Disk>(disk: &mut D, journal: &FileName, gate: u8) -> Result<(), DiskFault>
     requires { D.honest disk.old → IsStable (D.files disk.old journal.now) }
     ensures { PutsOnDisk D.Disk journal.now
@@ -137,5 +217,9 @@ fn set_gate<D: Disk>(disk: &mut D, journal: &FileName, gate: u8) -> Result<(), D
         (LeavesBody journal.now (D.files disk.old)) disk.old disk.new result }
 {
     disk.write_at(journal, 0, &[gate])?;
-    disk.sync(journal)
+    let synced = disk.sync(journal);
+    if synced.is_err() {
+        let _ = disk.write_at(journal, 0, &[LOST]);
+    }
+    synced
 }

@@ -20,7 +20,9 @@ pub use decoding::decode;
 pub use fault::{FindFault, Malformed};
 pub use fields::GREATEST_LENGTH;
 pub use finding::{FRONT, Found, all_fit, find};
-pub use gate::{arm, close_gate, is_open, mark, open_gate, prepare};
+pub use gate::{
+    arm, close_gate, is_open, mark, open_gate, prepare, write_gate_again, write_record_again,
+};
 pub use left::is_left;
 pub use reading::well_formed;
 pub use record::{Before, Entry, MOST_CONTEXT, Patches, Record};

@@ -2,7 +2,7 @@
 -- of the calls and what the folder held at first.
 use Rattle.std.specs.Prelude.{length}
 use Rattle.org_disk.specs.declared.disk.Disk.{Ghosts}
-use Rattle.org_folder.specs.Calls.{LeftSince}
+use Rattle.org_folder.specs.Calls.{LeftSince, failed_calls}
 use Rattle.org_folder.specs.Right.{file_of, HasBeenRight}
 use Rattle.org_folder.specs.declared.system.System as calls
 use Rattle.org_folder.specs.declared.disk.CallsDisk.{CallsDisk}
@@ -15,5 +15,5 @@ seen_of g = record {
   files = λ disk. file_of g disk.folder.system;
   instant = λ disk. length (g.history disk.folder.system);
   left_since = λ disk. LeftSince g.world (g.history disk.folder.system);
-  failures = λ disk. disk.failures;
+  failures = λ disk. failed_calls (g.history disk.folder.system);
 }

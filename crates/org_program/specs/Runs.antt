@@ -7,7 +7,7 @@ use Rattle.org_disk.specs.declared.disk.Disk as of_disk
 use Rattle.org_fileset.specs.Forgetting.{ForgetsOver, IsTransient}
 use Rattle.org_fileset.specs.declared.open.OpenFault.{OpenFault}
 use Rattle.org_fileset.specs.declared.open.OpenFault.TheVariants as refused
-use Rattle.org_folder.specs.Calls.{Event, OnlyLooks}
+use Rattle.org_folder.specs.Calls.{Event, OnlyLooks, failed_calls}
 use Rattle.org_folder.specs.Calls.Event.{Filled, Locked}
 use Rattle.org_folder.specs.Listing.{Lists}
 use Rattle.org_folder.specs.declared.system.System.{Ghosts}
@@ -60,7 +60,8 @@ pub record ServesFolder {C F : Type 0} (g : Ghosts C F) (found : C)
   pub disk : CallsDisk C F g
   pub locks : LocksFirst (string_bytes arguments.folder)
       (Filled (string_bytes arguments.folder) ∷ g.history found) (g.history disk.folder.system)
-  pub failures : disk.failures ≡ 0
+  -- .. and none failed
+  pub failures : failed_calls (g.history disk.folder.system) ≡ failed_calls (g.history found)
   -- an opening takes files as they are only where the arguments say so
   pub adopting : disk.adopts ≡ adopts arguments.recovery
   pub setup : Setup
@@ -99,5 +100,6 @@ pub record ForgetsFolder {C F : Type 0} (g : Ghosts C F) (found : C)
   pub disk : CallsDisk C F g
   pub locks : LocksFirst (string_bytes arguments.folder)
       (Filled (string_bytes arguments.folder) ∷ g.history found) (g.history disk.folder.system)
-  pub failures : disk.failures ≡ 0
+  -- .. and none failed
+  pub failures : failed_calls (g.history disk.folder.system) ≡ failed_calls (g.history found)
   pub forgets : Forgets (seen_of g) disk now ended

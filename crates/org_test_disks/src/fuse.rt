@@ -128,6 +128,19 @@ impl<D: Disk> Disk for Fuse<D> {
         self.disk.write_at(name, from, bytes)
     }
 
+    fn write_again(&mut self, name: &FileName, from: u64, bytes: &[u8]) -> Result<(), DiskFault>
+        requires { D.honest self.old.disk → bytes.now
+            ≡ take (length bytes.now) (drop from (D.files self.old.disk name.now).content) }
+        ensures looks { Looks D.Disk self.old.disk self.new.disk }
+        ensures accounts { AccountsOfFuse D.Disk self.old self.new result }
+        ensures burns { Burns self.old self.new result }
+    {
+        if !self.burn() {
+            return Err(DiskFault);
+        }
+        self.disk.write_again(name, from, bytes)
+    }
+
     fn cut(&mut self, name: &FileName, to: u64) -> Result<(), DiskFault>
         requires { D.honest self.old.disk → to ≤ length (D.files self.old.disk name.now).content }
         ensures effect { D.honest self.new.disk →

@@ -394,6 +394,17 @@ impl Disk for MemoryDisk {
         }
     }
 
+    /// This disk forgets nothing.
+    fn write_again(&mut self, name: &FileName, _from: u64, bytes: &[u8]) -> Result<(), DiskFault>
+        requires { bytes.now
+            ≡ take (length bytes.now) (drop _from (memory_files self.old name.now).content) }
+        ensures looks { HasNoEffect self.old self.new }
+        ensures turn { TakesTurn self.old self.new result }
+        ensures recorded { OnOk result (call_count self.new ≡ call_count self.old + 1) }
+    {
+        self.look(name)
+    }
+
     fn cut(&mut self, name: &FileName, to: u64) -> Result<(), DiskFault>
         requires { to ≤ length (memory_files self.old name.now).content }
         ensures effect { Changes (cut to) name.now

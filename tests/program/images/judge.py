@@ -19,8 +19,8 @@ import subprocess
 from dataclasses import dataclass, replace
 from typing import Dict, FrozenSet, IO, Iterator, List, Optional, Sequence, Tuple
 
-from .disk import Disk, Image, allows, contents, images
-from .trace import Event, Replied, Serves, after, trace
+from .disk import Disk, Image, Write, allows, contents, images
+from .trace import Changed, Event, Replied, Serves, after, trace
 
 JOURNAL = "orgstore.journal"
 SECONDS = 20
@@ -108,6 +108,20 @@ def taken(folder: str) -> Image:
 
 
 # -- runs without a crash
+
+def without_renewals(disk: Disk, events: Sequence[Event]) -> Tuple[Event, ...]:
+    """The events without what an opening writes again of the journal as it stands there: however far such a write gets, it
+    leaves what is there."""
+    kept: List[Event] = []
+    for event in events:
+        if isinstance(event, Changed) and event.name == JOURNAL and isinstance(event.change, Write) and Serves() not in kept:
+            at, data = event.change.at, event.change.data
+            if disk[JOURNAL].content[at:at + len(data)] == data:
+                continue
+        disk = after(disk, event)
+        kept.append(event)
+    return tuple(kept)
+
 
 @contextlib.contextmanager
 def limited(process: int) -> Iterator[None]:
@@ -217,7 +231,8 @@ def record(program: str, room: str, session: Session, kept: str = "") -> Run:
         raise Odd("a traced run says %r" % said)
     told = b"".join(event.data for event in events if isinstance(event, Replied))
     output = read_output(told, session, accepted, replies)
-    run = Run(session, tuple(events), tuple(states), tuple(output.answered), tuple(output.oks), tuple(output.safes))
+    run = Run(session, without_renewals(session.disk, events), tuple(states), tuple(output.answered), tuple(output.oks),
+              tuple(output.safes))
     *_, (_, disk, _) = run.points(events)
     if contents(disk) != left or files_of(left) != states[-1] or not is_closed(left.get(JOURNAL, b"")):
         raise Odd("the folder that a traced run leaves isn't that of its calls, or of a run without a crash")

@@ -112,7 +112,8 @@ def closings(trace: Trace) -> Iterator[Mutant]:
         changed = any(gate(before) == "open" or is_file(before) for before in trace.events[:at])
         if isinstance(event, Synced) and event.name != JOURNAL and changed:
             closed = trace.next(at, "closed")
-            loose = bool(trace.disks[at][event.name].changes)
+            # A cut to the present length leaves a crash nothing to show.
+            loose = bool(trace.disks[at][event.name].loose)
             last = trace.journal_sync(closed)
             yield trace.without("no sync of a file", at, last + 1, loose)
             yield trace.moved("the gate closed before a file's sync", at, last, loose)

@@ -173,7 +173,7 @@ fn is_broken_by_read(set: &mut FileSet<MemoryDisk>, name: &FileName) -> bool {
 fn a_failed_read_breaks_the_set(rt: HostRuntime) {
     let alloc = rt.alloc();
     let mut disk = opened_disk(&rt, alloc, crashed(&rt, alloc, 1));
-    disk.fail_at(12);
+    disk.fail_at(19);
     let mut set = open(&rt, alloc, disk, FILES);
     hold(
         &rt,

@@ -7,57 +7,52 @@ use std::process::Abort;
 
 // What a disk does to no file makes none.
 const ABSENT: &[Step] = &[
-    Step::Call("a.org", Call::Length, Ok(0), 0),
-    Step::Call("a.org", Call::Read, Ok(0), 0),
-    Step::Call("a.org", Call::Cut, Ok(0), 0),
-    Step::Call("a.org", Call::Sync, Ok(0), 0),
+    Step::Call("a.org", Call::Length, Ok(0)),
+    Step::Call("a.org", Call::Read, Ok(0)),
+    Step::Call("a.org", Call::Cut, Ok(0)),
+    Step::Call("a.org", Call::Sync, Ok(0)),
     Step::IsAbsent("absent/a.org"),
-    Step::Call("a.org", Call::Write(b""), Ok(0), 0),
+    Step::Call("a.org", Call::Write(b""), Ok(0)),
     Step::Holds("absent/a.org", b""),
 ];
 
 // That a file isn't there is believed at the next call on it, and then looked at again: what
 // another program made there meanwhile is seen. What is written later to another file is read back.
 const ASKED_AGAIN: &[Step] = &[
-    Step::Call("a.org", Call::Length, Ok(0), 0),
+    Step::Call("a.org", Call::Length, Ok(0)),
     Step::Other("asked/a.org", Entry::File(b"* A\n")),
-    Step::Call("a.org", Call::Length, Ok(0), 0),
-    Step::Call("a.org", Call::Length, Ok(4), 0),
-    Step::Call("b.org", Call::Length, Ok(0), 0),
-    Step::Call("b.org", Call::WriteAndCut(9), Ok(0), 0),
+    Step::Call("a.org", Call::Length, Ok(0)),
+    Step::Call("a.org", Call::Length, Ok(4)),
+    Step::Call("b.org", Call::Length, Ok(0)),
+    Step::Call("b.org", Call::WriteAndCut(9), Ok(0)),
     Step::Holds("asked/b.org", b"* A\n* C"),
     Step::Holds("asked/a.org", b"* A\n"),
 ];
 
 // Writes, a cut and reads, of which one fails where another program makes the file shorter.
 const WRITTEN: &[Step] = &[
-    Step::Call("a.org", Call::WriteAndCut(9), Ok(0), 0),
+    Step::Call("a.org", Call::WriteAndCut(9), Ok(0)),
     Step::Holds("written/a.org", b"* A\n* C"),
-    Step::Call(
-        "a.org",
-        Call::WriteAndRead("written/a.org"),
-        Err(DiskFault),
-        1,
-    ),
+    Step::Call("a.org", Call::WriteAndRead("written/a.org"), Err(DiskFault)),
 ];
 
 // A write of no bytes fails where another program has put another file in place of one, or has
 // changed it since the last look. After a sync the folder is looked at anew.
 const TRIED: &[Step] = &[
-    Step::Call("a.org", Call::Write(b"* A\n"), Ok(0), 0),
-    Step::Call("a.org", Call::Write(b""), Ok(0), 0),
-    Step::Call("a.org", Call::Sync, Ok(0), 0),
+    Step::Call("a.org", Call::Write(b"* A\n"), Ok(0)),
+    Step::Call("a.org", Call::Write(b""), Ok(0)),
+    Step::Call("a.org", Call::Sync, Ok(0)),
     Step::Other("tried/a.org", Entry::Gone),
-    Step::Call("a.org", Call::Write(b""), Err(DiskFault), 1),
+    Step::Call("a.org", Call::Write(b""), Err(DiskFault)),
     Step::Other("tried/a.org", Entry::File(b"* A\n")),
-    Step::Call("a.org", Call::Write(b""), Err(DiskFault), 2),
-    Step::Call("b.org", Call::Write(b"* B\n"), Ok(0), 2),
-    Step::Call("b.org", Call::Length, Ok(4), 2),
-    Step::Call("b.org", Call::Write(b""), Ok(0), 2),
+    Step::Call("a.org", Call::Write(b""), Err(DiskFault)),
+    Step::Call("b.org", Call::Write(b"* B\n"), Ok(0)),
+    Step::Call("b.org", Call::Length, Ok(4)),
+    Step::Call("b.org", Call::Write(b""), Ok(0)),
     Step::Other("tried/b.org", Entry::File(b"* BB\n")),
-    Step::Call("b.org", Call::Write(b""), Err(DiskFault), 3),
-    Step::Call("b.org", Call::Length, Ok(5), 3),
-    Step::Call("b.org", Call::Write(b""), Ok(0), 3),
+    Step::Call("b.org", Call::Write(b""), Err(DiskFault)),
+    Step::Call("b.org", Call::Length, Ok(5)),
+    Step::Call("b.org", Call::Write(b""), Ok(0)),
 ];
 
 const LINKS: &[(&str, Entry)] = &[
@@ -67,24 +62,24 @@ const LINKS: &[(&str, Entry)] = &[
 
 // A folder is no file, and a link is followed, also to a file that isn't there.
 const LINKED: &[Step] = &[
-    Step::Call("folder.org", Call::Length, Err(DiskFault), 1),
-    Step::Call("link.org", Call::Length, Ok(0), 1),
-    Step::Call("link.org", Call::Write(b"* A\n"), Ok(0), 1),
-    Step::Call("link.org", Call::Sync, Ok(0), 1),
+    Step::Call("folder.org", Call::Length, Err(DiskFault)),
+    Step::Call("link.org", Call::Length, Ok(0)),
+    Step::Call("link.org", Call::Write(b"* A\n"), Ok(0)),
+    Step::Call("link.org", Call::Sync, Ok(0)),
     Step::Holds("linked/folder.org/target", b"* A\n"),
 ];
 
 // The first sync of a file that was made looks for its folder, which it syncs, and a later one
 // doesn't: both files are taken out of the folder once one of them was synced.
 const ENTERED: &[Step] = &[
-    Step::Call("a.org", Call::Write(b"* A\n"), Ok(0), 0),
-    Step::Call("b.org", Call::Write(b"* B\n"), Ok(0), 0),
-    Step::Call("b.org", Call::Sync, Ok(0), 0),
+    Step::Call("a.org", Call::Write(b"* A\n"), Ok(0)),
+    Step::Call("b.org", Call::Write(b"* B\n"), Ok(0)),
+    Step::Call("b.org", Call::Sync, Ok(0)),
     Step::Other("entered/a.org", Entry::Gone),
     Step::Other("entered/b.org", Entry::Gone),
-    Step::Call("b.org", Call::Append(b"* C\n"), Ok(0), 0),
-    Step::Call("b.org", Call::Sync, Ok(0), 0),
-    Step::Call("a.org", Call::Sync, Err(DiskFault), 1),
+    Step::Call("b.org", Call::Append(b"* C\n"), Ok(0)),
+    Step::Call("b.org", Call::Sync, Ok(0)),
+    Step::Call("a.org", Call::Sync, Err(DiskFault)),
 ];
 
 const FILES: &[(&str, Entry)] = &[
@@ -97,14 +92,14 @@ const FILES: &[(&str, Entry)] = &[
 // of two that are opened and taken out of the folder the first is synced without a look for its
 // folder, and the second isn't.
 const FOUND: &[Step] = &[
-    Step::Call("a.org", Call::Sync, Ok(0), 0),
-    Step::Call("b.org", Call::Length, Ok(4), 0),
-    Step::Call("c.org", Call::Length, Ok(4), 0),
+    Step::Call("a.org", Call::Sync, Ok(0)),
+    Step::Call("b.org", Call::Length, Ok(4)),
+    Step::Call("c.org", Call::Length, Ok(4)),
     Step::Other("found/b.org", Entry::Gone),
     Step::Other("found/c.org", Entry::Gone),
-    Step::Call("b.org", Call::Sync, Ok(0), 0),
-    Step::Call("d.org", Call::Write(b"* D\n"), Ok(0), 0),
-    Step::Call("c.org", Call::Sync, Err(DiskFault), 1),
+    Step::Call("b.org", Call::Sync, Ok(0)),
+    Step::Call("d.org", Call::Write(b"* D\n"), Ok(0)),
+    Step::Call("c.org", Call::Sync, Err(DiskFault)),
 ];
 
 const FAILING: &[(&str, Entry)] = &[
@@ -118,13 +113,13 @@ const FAILING: &[(&str, Entry)] = &[
 const COUNTED: &[Step] = &[
     Step::Other("failing/was_file.org", Entry::Gone),
     Step::Other("failing/was_file.org", Entry::Folder),
-    Step::Call("was_file.org", Call::Length, Err(DiskFault), 1),
-    Step::Call("was_file.org", Call::Write(b"* B\n"), Err(DiskFault), 2),
-    Step::Call("link.org", Call::Length, Ok(0), 2),
-    Step::Call("link.org", Call::Write(b"* B\n"), Err(DiskFault), 3),
-    Step::Call("a.org", Call::Append(b"* B\n"), Ok(0), 3),
-    Step::Call("a.org", Call::Sync, Ok(0), 3),
-    Step::Call("a.org", Call::Length, Ok(8), 3),
+    Step::Call("was_file.org", Call::Length, Err(DiskFault)),
+    Step::Call("was_file.org", Call::Write(b"* B\n"), Err(DiskFault)),
+    Step::Call("link.org", Call::Length, Ok(0)),
+    Step::Call("link.org", Call::Write(b"* B\n"), Err(DiskFault)),
+    Step::Call("a.org", Call::Append(b"* B\n"), Ok(0)),
+    Step::Call("a.org", Call::Sync, Ok(0)),
+    Step::Call("a.org", Call::Length, Ok(8)),
 ];
 
 // Folders, what is in each, and the steps on its disk.

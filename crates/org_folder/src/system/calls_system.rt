@@ -5,10 +5,10 @@
 //! write, cut, sync, file made and entry synced is noted exactly where it was called for, and no
 //! other call of such a kind was made (`GoesWith`, `AreOwnModes`). All names lead from the folder
 //! that was locked, since no other one was entered.
-ghost use Rattle.std.specs.Prelude.{◌≡◌, [], ◌∷◌, map, is_ok, string_bytes, IfOk, IfSome, OnOk, IsFalse, IsTrue};
+ghost use Rattle.std.specs.Prelude.{◌≡◌, [], ◌∷◌, map, is_ok, string_bytes, IfOk, IfSome, OnErr, OnOk, IsFalse, IsTrue};
 ghost use Rattle.org_folder.specs.Calls.{with_entries, has_failed as has_failed_in};
-ghost use Rattle.org_folder.specs.Calls.Event.{Listed};
-ghost use Rattle.org_folder.specs.Raw.{AreOwnModes, CutsOff, Enters, GoesWith, IsFolderSynced, IsMadeAt, IsPathOf, OnlyAsks, SyncsFolder, acts, effects};
+ghost use Rattle.org_folder.specs.Calls.Event.{Failed, Listed};
+ghost use Rattle.org_folder.specs.Raw.{AreOwnModes, CutsOff, Enters, GoesWith, IsFolderSynced, IsMadeAt, IsPathOf, OnlyAsks, SyncsContent, SyncsFolder, acts, effects};
 
 use super::access::is_shared;
 use super::looks::{Base, last_change, length_of, look_again, read_back, same_in};
@@ -46,7 +46,7 @@ pub struct CallsSystem<C: Calls, S: Start> {
     streams: [Option<Handle<C::File>>; 3],
     // the folder was synced, and this has made no file since
     is_synced: bool,
-    // a sync of an entry failed
+    // a sync failed, of a file or of an entry
     has_failed: bool,
     // the times of the journal when it was opened
     journal: Option<Times>,
@@ -204,7 +204,7 @@ fn locked<C: Calls>(
     }
 }
 
-// Puts the entry of a file on the device, unless that failed before. It needs no call where the
+// Puts the entry of a file on the device, unless a sync failed before. It needs no call where the
 // folder was synced since a file was made.
 fn put_entry<C: Calls>(
     calls: &mut C,
@@ -223,6 +223,22 @@ fn put_entry<C: Calls>(
         return Ok(());
     }
     answered(sync_folder_of(calls, name))
+}
+
+// Puts a file on the device, unless a sync failed before.
+fn put_content<C: Calls>(
+    calls: &mut C,
+    opened: &Opened<C::File>,
+    failed_before: bool,
+) -> Result<(), DiskFault>
+    ensures once { OnOk result (IsFalse failed_before) }
+    ensures syncs { SyncsContent opened.now.name (C.made calls.old) (C.made calls.new)
+        (is_ok result) }
+{
+    if failed_before {
+        return Err(DiskFault);
+    }
+    answered(calls.data_sync(&opened.handle))
 }
 
 // Puts the entry of a file in its folder on the device.
@@ -274,6 +290,22 @@ fn answered<T: Drop>(answer: io::Result<T>) -> Result<T, DiskFault>
         Ok(value) => Ok(value),
         Err(_) => Err(DiskFault),
     }
+}
+
+// Notes a call on the file of this name, if it failed.
+fn noted<T: Drop>(
+    log: &mut Record,
+    name: &FileName,
+    answer: Result<T, DiskFault>,
+) -> Result<T, DiskFault>
+    ensures same { result ≡ answer }
+    ensures ok { OnOk answer (log.new ≡ log.old) }
+    ensures err { OnErr answer (log.new.events ≡ Failed name.now ∷ log.old.events) }
+{
+    if answer.is_err() {
+        log.note_file(Call::Failed, name, &[]);
+    }
+    answer
 }
 
 impl<C: Calls + Drop, S: Start> System for CallsSystem<C, S> {
@@ -330,14 +362,30 @@ impl<C: Calls + Drop, S: Start> System for CallsSystem<C, S> {
         match find(&mut self.calls, name) {
             Ok((file, status)) => {
                 self.keep(name, &status);
-                Ok(Some(Opened::new(name, file)?))
+                let opened = Opened::new(name, file);
+                Ok(Some(noted(&mut self.log, name, opened)?))
             }
             Err(error) if error.kind() == ErrorKind::NotFound => {
                 self.log.note_file(Call::Absent, name, &[]);
                 Ok(None)
             }
-            Err(_) => Err(DiskFault),
+            Err(_) => {
+                self.log.note_file(Call::Failed, name, &[]);
+                Err(DiskFault)
+            }
         }
+    }
+
+    fn give_up(&mut self, opened: Opened<C::File>) -> DiskFault
+        ensures { self.new.log.events ≡ Failed opened.name ∷ self.old.log.events }
+    {
+        self.log.note_file(Call::Failed, &opened.name, &[]);
+        DiskFault
+    }
+
+    fn miss(&mut self, name: &FileName) -> DiskFault {
+        self.log.note_file(Call::Failed, name, &[]);
+        DiskFault
     }
 
     fn make(&mut self, name: &FileName) -> Result<Opened<C::File>, DiskFault> {
@@ -350,10 +398,11 @@ impl<C: Calls + Drop, S: Start> System for CallsSystem<C, S> {
 
     fn length(&mut self, opened: &Opened<C::File>) -> Result<u64, DiskFault> {
         let length = if self.is_open {
-            answered(look_again(&mut self.calls, &self.base, opened))?
+            answered(look_again(&mut self.calls, &self.base, opened))
         } else {
-            answered(length_of(&mut self.calls, opened))?
+            answered(length_of(&mut self.calls, opened))
         };
+        let length = noted(&mut self.log, &opened.name, length)?;
         self.log.note_file(Call::Length(length), &opened.name, &[]);
         Ok(length)
     }
@@ -365,7 +414,8 @@ impl<C: Calls + Drop, S: Start> System for CallsSystem<C, S> {
         into: &mut [u8],
     ) -> Result<(), DiskFault> {
         self.base.forget();
-        answered(self.calls.read(&opened.handle, from, into))?;
+        let read = answered(self.calls.read(&opened.handle, from, into));
+        noted(&mut self.log, &opened.name, read)?;
         self.note_gate(opened, from, into);
         self.narrow(opened, from == 0 && !self.is_open);
         self.log.note_file(Call::Read(from), &opened.name, into);
@@ -394,6 +444,25 @@ impl<C: Calls + Drop, S: Start> System for CallsSystem<C, S> {
         answer
     }
 
+    fn write_again(
+        &mut self,
+        opened: &Opened<C::File>,
+        from: u64,
+        bytes: &[u8],
+    ) -> Result<(), DiskFault> {
+        if !opened.is_writable {
+            self.log
+                .note_file(Call::Again(from, true), &opened.name, bytes);
+            return Ok(());
+        }
+        self.narrow(opened, true);
+        let written = answered(self.calls.write(&opened.handle, from, bytes));
+        note_write(opened, from, bytes, written.is_ok());
+        self.log
+            .note_file(Call::Again(from, written.is_ok()), &opened.name, bytes);
+        written
+    }
+
     fn cut(&mut self, opened: &Opened<C::File>, to: u64) -> Result<(), DiskFault> {
         let answer = answered(cut_off(&mut self.calls, &self.base, opened, to));
         self.log
@@ -403,7 +472,8 @@ impl<C: Calls + Drop, S: Start> System for CallsSystem<C, S> {
 
     fn sync(&mut self, opened: &Opened<C::File>) -> Result<(), DiskFault> {
         self.base.forget();
-        let answer = answered(self.calls.data_sync(&opened.handle));
+        let answer = put_content(&mut self.calls, opened, self.has_failed);
+        self.has_failed = answer.is_err();
         self.log
             .note_file(Call::Sync(answer.is_ok()), &opened.name, &[]);
         answer
@@ -425,10 +495,12 @@ impl<C: Calls + Drop, S: Start> System for CallsSystem<C, S> {
     }
 
     fn confirm(&mut self, opened: &Opened<C::File>, bytes: &[u8]) -> Result<(), DiskFault> {
-        answered(read_back(&mut self.calls, &self.base, opened, bytes))
+        let is_there = answered(read_back(&mut self.calls, &self.base, opened, bytes));
+        noted(&mut self.log, &opened.name, is_there)
     }
 
     fn standing(&mut self, name: &FileName) -> Result<Standing, DiskFault> {
-        answered(stands(&mut self.calls, name, self.journal))
+        let standing = answered(stands(&mut self.calls, name, self.journal));
+        noted(&mut self.log, name, standing)
     }
 }

@@ -1,6 +1,9 @@
-use Rattle.std.proofs.Common.{◌∷◌, ◌∙◌, refl, sym, subst, string_bytes}
+use Rattle.std.proofs.Common.{◌≡◌, ◌∷◌, ◌∙◌, ap, refl, sym, subst, ℕ, List, string_bytes}
 use Rattle.org_folder.specs.Calls.Event.{Filled}
-use Rattle.org_folder.proofs.Looked.{held_on}
+use Rattle.org_folder.specs.Calls.{failed_calls}
+use Rattle.org_folder.specs.declared.disk.CallsDisk.{CallsDisk}
+use Rattle.org_folder.specs.declared.system.System.{Ghosts}
+use Rattle.org_folder.proofs.Looked.{fine_on, held_on}
 use Rattle.org_store.specs.Group.{IsGroup}
 use Rattle.org_program.proofs.Words.{group_is_given}
 use Rattle.org_program.specs.Runs.{IsSetUp, LocksFirst}
@@ -14,6 +17,11 @@ serve_synced-disk-requires-clause-group g c =
 pub over-disk-requires-clause-held : goal.over-disk-requires-clause-held
 over-disk-requires-clause-held g c = held_on _ _ c.in-Ok.ensures.locks refl
 
+-- a folder that was locked and looked at has no failed call more
+none_failed : {C F : Type 0} (g : Ghosts C F) (found : C) (disk : CallsDisk C F g) (path : List ℕ) (calls : C) → disk.folder.system ≡ calls
+    → LocksFirst path (Filled path ∷ g.history found) (g.history calls) → failed_calls (g.history disk.folder.system) ≡ failed_calls (g.history found)
+none_failed {C = C} g found disk path calls same locks = ap (λ (c : C). failed_calls (g.history c)) same ∙ fine_on _ _ locks
+
 pub returns-then-forgets-clause-forgets : goal.returns-then-forgets-clause-forgets
 returns-then-forgets-clause-forgets g c is = (
   record {
@@ -21,7 +29,7 @@ returns-then-forgets-clause-forgets g c is = (
     locks = subst
         (λ calls. LocksFirst (string_bytes c.in-Ok.arguments.folder) (Filled (string_bytes c.in-Ok.arguments.folder) ∷ g.S.System.history c.args.system) (g.S.System.history calls))
         (sym c.over-disk.ensures.system) c.in-Ok.ensures.locks;
-    failures = c.over-disk.ensures.failures;
+    failures = none_failed g.S.System c.args.system c.over-disk.result (string_bytes c.in-Ok.arguments.folder) _ c.over-disk.ensures.system c.in-Ok.ensures.locks;
     forgets = c.give_up-end.ensures;
   },
   refl,
@@ -38,7 +46,7 @@ returns-else-forgets-clause-runs g c other =
         locks = subst
             (λ calls. LocksFirst (string_bytes c.in-Ok.arguments.folder) (Filled (string_bytes c.in-Ok.arguments.folder) ∷ g.S.System.history c.args.system) (g.S.System.history calls))
             (sym c.over-disk.ensures.system) c.in-Ok.ensures.locks;
-        failures = c.over-disk.ensures.failures;
+        failures = none_failed g.S.System c.args.system c.over-disk.result (string_bytes c.in-Ok.arguments.folder) _ c.over-disk.ensures.system c.in-Ok.ensures.locks;
         adopting = c.over-disk.ensures.adopts ∙ c.adopts-adopts.ensures;
         setup = c.in-Ok.setup;
         is_set_up = subst
