@@ -1,0 +1,5 @@
+pub mod Upward
+pub mod Counting
+pub mod Places
+pub mod Walks
+pub mod Kept

@@ -1,0 +1,4 @@
+pub mod Lines
+pub mod Twins
+pub mod Families
+pub mod Paths

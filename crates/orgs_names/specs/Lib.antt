@@ -1,0 +1,3 @@
+pub mod Called
+pub mod Ways
+pub mod Naming
