@@ -1,0 +1,4 @@
+pub mod Tags
+pub mod Listed
+pub mod Read
+pub mod Words
