@@ -1,0 +1,2 @@
+mod ReadFiles
+mod SameFolders

@@ -1,0 +1,3 @@
+pub mod Reading
+pub mod Merge
+pub mod Identity
