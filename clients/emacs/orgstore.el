@@ -1,7 +1,7 @@
 ;;; orgstore.el --- Org's changes as crash-safe steps  -*- lexical-binding: t; -*-
 
 ;; Author: The orgstore developers
-;; Version: 0.2.0
+;; Version: 0.3.0
 ;; Package-Requires: ((emacs "28.1"))
 ;; Keywords: outlines, files, calendar
 ;; URL: https://zagwolem.example/orgstore
