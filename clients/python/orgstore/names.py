@@ -13,6 +13,9 @@ ARCHIVE = "_archive"
 JOURNAL = "orgstore.journal"
 """The file that makes a command one step."""
 
+RECORD = "orgstore-sync.org_archive"
+"""The file in which a sync says what it did, as long as it isn't at its end."""
+
 _ODD = pattern("[\0-\x1f\x7f\ud800-\udfff]")
 
 

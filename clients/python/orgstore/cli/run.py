@@ -9,7 +9,7 @@ from ..keywords import States
 from ..light import TYPE_CHECKING, cached, os
 from ..lines import steps
 from ..marks import gate_is_open
-from ..names import ARCHIVE, JOURNAL, own_name
+from ..names import ARCHIVE, JOURNAL, RECORD, own_name
 from ..settings import SETTINGS, settings
 from .naming import FILE_LINE, LISTED, Place, existing, file_of, named, names_file
 from .report import at_terminal, shown
@@ -100,6 +100,10 @@ class Run:
         """The folder that is meant, with its states."""
         folder = Folder(self.path, read_states(self.settings, self.options.states), self.options.wait)
         folder.check_journal()
+        if os.path.lexists("%s/%s" % (self.path, RECORD)) and self.options.command != "sync":
+            from .syncing import check_no_sync  # rare
+
+            check_no_sync(self.path)
         folder.recovered = self.report.recovered
         return folder
 
