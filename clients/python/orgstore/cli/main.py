@@ -23,7 +23,8 @@ MODULES = {
     "note": "changing", "prop": "changing", "delete": "changing", "edit": "edit", "undo": "undoing", "in": "clocks",
     "out": "clocks", "time": "clocks", "clock": "timesheet", "agenda": "agenda", "today": "agenda",
     "overdue": "agenda", "ls": "reading", "find": "reading", "show": "reading", "export": "exporting",
-    "check": "exporting", "status": "status", "recover": "recovering", "sync": "sync", "init": "init",
+    "check": "exporting", "status": "status", "recover": "recovering", "sync": "sync",
+    "conflicts": "conflicts", "resolve": "conflicts", "init": "init",
 }
 """The subcommands in the order of the help, and the module that has each in its `COMMANDS`: only what is called is
 loaded."""
