@@ -14,15 +14,16 @@ from dataclasses import dataclass
 from typing import Iterator, List, Literal, Optional, Sequence
 
 from . import stamps
+from .copies import original_of
 from .entry import Entry
 from .keywords import States, state_lines
 from .lines import Nth, as_string, path_text
 from .phrases import short
 from .section import BLANKS, planning, properties
 
-__all__ = ["Finding", "Kind", "check", "check_states"]
+__all__ = ["Finding", "Kind", "check", "check_copy", "check_states"]
 
-Kind = Literal["twin", "planning", "drawer", "clock", "stamp", "states"]
+Kind = Literal["twin", "planning", "drawer", "clock", "stamp", "states", "copy"]
 
 _PLANNED = re.compile(rb"[ \t]*(?:(?:SCHEDULED|DEADLINE|CLOSED):[ \t]*(?P<stamp>[<\[][^<>\[\]\n]*[>\]])[ \t]*)")
 _DRAWER = re.compile(rb"[ \t]*:([\w-]+):[ \t\r]*")
@@ -47,6 +48,13 @@ def check(entries: Sequence[Entry], now: Optional[datetime.datetime] = None) -> 
         yield from _drawers(entry)
         yield from _clocks(entry, now or datetime.datetime.now())
         yield from _stamps(entry)
+
+
+def check_copy(file: str) -> Iterator[Finding]:
+    """A file that is a conflict copy of another one, so that its entries and clocks count twice."""
+    original = original_of(file)
+    if original:
+        yield Finding(file, 1, "copy", "this is a conflict copy of %s; `orgs merge-copy` merges it" % original)
 
 
 def check_states(file: str, text: bytes) -> Iterator[Finding]:

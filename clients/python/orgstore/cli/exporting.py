@@ -4,7 +4,7 @@ from __future__ import annotations
 import json
 import os
 
-from ..check import check, check_states
+from ..check import check, check_copy, check_states
 from ..ics import calendar
 from .finding import entries_in
 from .parsing import READS, Command, flag, option
@@ -56,7 +56,8 @@ def check_files(run: Run) -> int:
     warn_of_halves(run)
     findings = 0
     for name, text in texts.items():
-        found = [*check_states(name, text), *check(entries_in([run.folder.outline(name, text)]), run.moment)]
+        found = [*check_copy(name), *check_states(name, text),
+                 *check(entries_in([run.folder.outline(name, text)]), run.moment)]
         for finding in sorted(found, key=lambda finding: finding.line):
             run.report.say("%s:%d: %s" % (finding.file, finding.line, finding.message), reply="finding",
                            file=finding.file, line=finding.line, kind=finding.kind, message=finding.message)

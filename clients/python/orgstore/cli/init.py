@@ -2,11 +2,15 @@
 from __future__ import annotations
 
 import os
+from typing import Dict, List
 
 from ..folder import Folder
 from ..heading import States
+from ..pending import KEPT_OUT
+from ..plain import open_plain
 from ..settings import SETTINGS
 from .parsing import INBOX, Command, flag
+from .report import ask, at_terminal
 from .run import Run, find_folder, read_states, settings_of
 from .status import states_field
 from .stops import OK, Usage, cannot, refusal
@@ -35,19 +39,62 @@ def init(run: Run) -> int:
         store.settle()
     if old is None:
         write_states(path, states)
+    ask_to_ignore(run, path)
     run.report.say("%s: begun, with the states %s" % (path, states), reply="ok", command="init",
                    folder=os.path.abspath(path), states=states_field(states))
     return OK
 
 
+def ask_to_ignore(run: Run, path: str) -> None:
+    """Asks at a terminal whether git and Syncthing are to leave the journal alone, where they sync the folder."""
+    if not at_terminal() or run.report.as_json:
+        return
+    for file in (found for found in map(ignoring(path).get, (".git", ".stfolder")) if found):
+        missing = [name for name in KEPT_OUT if name not in lines_of(file)]
+        if missing and ask("Keep the journal out of it, by lines in %s? [Y/n] " % file).lower() in ("", "y", "yes"):
+            try:
+                add_lines(file, missing)
+            except OSError as fault:
+                run.report.warn("%s: %s" % (file, fault.strerror))
+
+
+def ignoring(path: str) -> Dict[str, str]:
+    """The files that say what isn't synced, by what tells that a folder or one above it is: git's stands in the folder
+    itself, Syncthing's at the top of what it syncs."""
+    found: Dict[str, str] = {}
+    at = os.path.realpath(path)
+    while True:
+        if os.path.lexists(os.path.join(at, ".git")):
+            found.setdefault(".git", os.path.join(path, ".gitignore"))
+        if os.path.lexists(os.path.join(at, ".stfolder")):
+            found.setdefault(".stfolder", os.path.join(at, ".stignore"))
+        if at == os.path.dirname(at):
+            return found
+        at = os.path.dirname(at)
+
+
+def lines_of(file: str) -> List[str]:
+    """The lines of a file; none where it isn't there, or can't be read."""
+    try:
+        with open_plain(file, 1 << 20) as stream:
+            return stream.read().decode("utf-8", "replace").splitlines()
+    except OSError:
+        return []
+
+
+def add_lines(file: str, lines: List[str]) -> None:
+    """Adds lines to a file, which is made where it isn't there."""
+    flags = os.O_RDWR | os.O_CREAT | os.O_APPEND | os.O_NOFOLLOW | os.O_NONBLOCK | os.O_CLOEXEC
+    with open(os.open(file, flags, 0o666), "rb+") as stream:
+        between = "" if stream.read()[-1:] in (b"", b"\n") else "\n"
+        stream.write((between + "".join(line + "\n" for line in lines)).encode())
+
+
 def write_states(folder: str, states: States) -> None:
     """Adds the states to the settings that are there, else writes them to a new file."""
-    flags = os.O_RDWR | os.O_CREAT | os.O_APPEND | os.O_NOFOLLOW | os.O_NONBLOCK | os.O_CLOEXEC
     try:
-        with open(os.open(os.path.join(folder, SETTINGS), flags, 0o666), "rb+") as file:
-            between = "" if file.read()[-1:] in (b"", b"\n") else "\n"
-            text = "# read by orgs: the states of this folder, active | done\nstates = %s\n" % states
-            file.write((between + text).encode())
+        add_lines(os.path.join(folder, SETTINGS), ["# read by orgs: the states of this folder, active | done",
+                                                   "states = %s" % states])
     except OSError as fault:
         raise cannot("Device", "%s: %s" % (os.path.join(folder, SETTINGS), fault.strerror)) from None
 

@@ -5,6 +5,7 @@ import os
 from typing import Dict, List
 
 from ..causes import why_not_finished
+from ..copies import original_of
 from ..heading import States
 from ..journal import holder, journal_state
 from ..names import is_archive
@@ -37,11 +38,14 @@ def status(run: Run) -> int:
             ("headings", by_state(folder.states, counts)),
             ("clock", "%s  since %s" % (clock[0].line(), since) if clock else "none runs"),
             ("store", "not open" if process is None else "open, process %d" % process), ("journal", says)]
+    copies = [name for name in names if original_of(name)]
+    rows += [("copy", "%s; `orgs merge-copy` merges it into %s" % (name, original_of(name))) for name in copies]
     run.report.say("\n".join("%-9s %s" % row for row in rows), reply="status", folder=os.path.abspath(folder.path),
                    states=states_field(folder.states), files=own, archives=sorted(set(names) - set(own)),
                    headings={state or "none": count for state, count in counts.items()},
                    clock={**clock[0].fields(), "since": since} if clock else None,
-                   open=process is not None, process=process, journal=word, unfinished=unfinished)
+                   open=process is not None, process=process, journal=word, unfinished=unfinished,
+                   copies=copies or None)
     return OK
 
 
