@@ -37,6 +37,13 @@ def pid_of(store: Store) -> int:
     return store._process.id
 
 
+def interrupt_twice() -> None:
+    """Interrupts this process, and again a moment later."""
+    for _ in range(2):
+        os.kill(os.getpid(), signal.SIGINT)
+        time.sleep(0.3)
+
+
 class Kills(FolderTest):
     """The program is killed at a random moment of a bulk archive."""
 
@@ -164,8 +171,7 @@ class Interrupts(FolderTest):
         hanging = self.script("read -r line", "echo safe 0", "exec sleep 600")
         store = Store(self.folder({}), hanging)
         pid = pid_of(store)
-        for delay in (0.2, 0.5):
-            threading.Timer(delay, os.kill, (os.getpid(), signal.SIGINT)).start()
+        threading.Timer(0.5, interrupt_twice).start()
         with self.assertRaises(KeyboardInterrupt):
             store.capture("a.org", "* N")
         with self.assertRaises(ProcessLookupError):
