@@ -226,6 +226,17 @@ needs `edit', `--only' and `--whole': do ./install anew" program))
       (setq orgstore--checked stamp))
     file))
 
+(defun orgstore--check-no-sync (root)
+  "Signal an error where a sync of ROOT is half done."
+  (let ((record (expand-file-name "orgstore-sync.org_archive" root)))
+    (when (and (file-regular-p record)
+               (string-match " \\([0-9]+\\)/\\([0-9]+\\)\n\\'"
+                             (orgstore--bytes record 0 4096)))
+      (let ((bytes (orgstore--bytes record 0 4096)))
+        (unless (equal (match-string 1 bytes) (match-string 2 bytes))
+          (orgstore--fail "A sync of %s is half done; M-x orgstore-sync \
+finishes it, and until then nothing is saved" (abbreviate-file-name root)))))))
+
 (defvar orgstore--cut-run nil
   "The last step, if the program didn't end it well: (ROOT NAMES COMMAND).")
 
@@ -233,6 +244,7 @@ needs `edit', `--only' and `--whole': do ./install anew" program))
   "Run the program at ROOT for the files NAMES over LINES, bytes, with OPTION.
 Return what `orgstore--run-once' does.  Where another store is open on the
 folder it is tried for two seconds."
+  (when lines (orgstore--check-no-sync root))
   (let ((program (orgstore--find-program)) (tries 20) run)
     (while (progn
              (setq run (orgstore--run-once program root names (or lines "")

@@ -81,6 +81,36 @@ They come in the place of those of an earlier set-up, else to the end."
         (save-buffer))
       file)))
 
+;;;; What isn't synced
+
+(defconst orgstore--not-synced '("orgstore.journal" "orgstore-sync.org_archive")
+  "The files of a folder that no other machine is to have.")
+
+(defun orgstore--ignoring (dir)
+  "Return the files that say what of DIR isn't synced, by git and by Syncthing."
+  (let ((top (locate-dominating-file dir ".stfolder")))
+    (delq nil (list (and (locate-dominating-file dir ".git")
+                         (expand-file-name ".gitignore" dir))
+                    (and top (expand-file-name ".stignore" top))))))
+
+(defun orgstore--offer-ignoring (dir)
+  "Where git or Syncthing sync DIR, offer to keep the journal out of that."
+  (dolist (file (orgstore--ignoring dir))
+    (with-temp-buffer
+      (when (file-exists-p file) (insert-file-contents file))
+      (when-let* ((missing (seq-remove
+                            (lambda (it)
+                              (goto-char (point-min))
+                              (re-search-forward
+                               (format "^%s$" (regexp-quote it)) nil t))
+                            orgstore--not-synced))
+                  ((y-or-n-p (format "Keep the journal out of it, by lines in \
+%s? " (abbreviate-file-name file)))))
+        (goto-char (point-max))
+        (unless (bolp) (insert "\n"))
+        (insert (string-join missing "\n") "\n")
+        (write-region nil nil file nil 'quietly)))))
+
 ;;;###autoload
 (defun orgstore-setup (program dir)
   "Set up the store: the folder DIR, served by PROGRAM.
@@ -111,6 +141,7 @@ All of your settings and hooks stay as they are.  New is:
 - A command on an entry, as C-c C-t or C-c C-w, is saved when it ends.
 - M-x orgstore-undo-last takes the last one back, in all files.
 - A journal, orgstore.journal, stands beside the files.\n" lines)))
+    (orgstore--offer-ignoring orgstore-directory)
     (let ((file (orgstore--write-init lines)))
       (require 'orgstore)
       (orgstore-global-mode 1)

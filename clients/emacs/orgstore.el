@@ -37,6 +37,10 @@
 (autoload 'orgstore-status "orgstore-setup" nil t)
 (autoload 'orgstore-archive-done "orgstore-archive" nil t)
 (autoload 'orgstore-recover "orgstore-recover" nil t)
+(autoload 'orgstore-sync "orgstore-sync" nil t)
+(autoload 'orgstore-conflicts "orgstore-sync" nil t)
+(autoload 'orgstore-keep-ours "orgstore-sync" nil t)
+(autoload 'orgstore-take-theirs "orgstore-sync" nil t)
 
 ;;;; Commands that are steps
 
@@ -82,6 +86,25 @@
              (orgstore--advise-commands (default-value symbol) nil))
            (set-default symbol value)
            (when on (orgstore--advise-commands value t)))))
+
+;;;; Keys on the marks of a merge
+
+(defun orgstore--on-mark (command)
+  "Return COMMAND where this line of an Org file is a mark of a merge, else nil."
+  (and (derived-mode-p 'org-mode)
+       (save-excursion
+         (forward-line 0)
+         (looking-at-p ": CONFLICT:"))
+       command))
+
+(defconst orgstore--mark-map
+  (let ((map (make-sparse-keymap)))
+    (define-key map (kbd "C-c <") '(menu-item "Keep ours" orgstore-keep-ours
+                                              :filter orgstore--on-mark))
+    (define-key map (kbd "C-c >") '(menu-item "Take theirs" orgstore-take-theirs
+                                              :filter orgstore--on-mark))
+    map)
+  "Keys of `orgstore-global-mode', each in the line of a mark alone.")
 
 ;;;; The mode
 
@@ -133,6 +156,7 @@
   "Save the Org files in `orgstore-directory' by crash-safe steps."
   :global t
   :group 'orgstore
+  :keymap orgstore--mark-map
   (orgstore--turn orgstore-global-mode)
   (if (not orgstore-global-mode)
       (mapc #'orgstore--end-watch (buffer-list))
