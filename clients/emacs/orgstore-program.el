@@ -5,9 +5,10 @@
 
 ;; Which files are served, and how the program is run over them.
 ;;
-;; A served file has a place: its folder ROOT, a true name that ends in a slash,
-;; and its NAME there.  The program is one process for each step, over lines in a
-;; file, so that it gets all of them even where Emacs dies meanwhile.
+;; A served file has a place: the folder ROOT of its store, a true name that ends
+;; in a slash, and its NAME there, which may have folders before it.  The program
+;; is one process for each step, over lines in a file, so that it gets all of them
+;; even where Emacs dies meanwhile.
 
 ;;; Code:
 
@@ -22,8 +23,9 @@
 
 (defcustom orgstore-directory nil
   "The folder that is served, or a list of such folders.
-Their subfolders are served too, each as a store of its own.  Two kinds aren't:
-those whose names begin with a dot, and those of another owner."
+With its subfolders each is one store.  A subfolder that has a journal is a
+store of its own.  Two kinds aren't served: those whose names begin with a dot,
+and those of another owner."
   :type '(choice (const :tag "None" nil) directory (repeat directory)))
 
 (defcustom orgstore-program "orgstore"
@@ -46,11 +48,15 @@ those whose names begin with a dot, and those of another owner."
 ;;;; Which files are served
 
 (defun orgstore--name-p (name)
-  "Whether NAME, a string, is a file name that the program takes."
-  (let ((case-fold-search nil))
-    (and (string-match-p "\\.org\\(_archive\\)?\\'" name)
-         (not (string-match-p "\\`\\.\\|[/\0-\x1f\x7f]" name))
-         (<= (string-bytes (string-remove-suffix "_archive" name)) 200))))
+  "Whether NAME, a string, is a file name that the program takes.
+It may have folders before it."
+  (let* ((case-fold-search nil)
+         (base (string-remove-suffix "_archive" name))
+         (bytes (encode-coding-string base 'utf-8-unix t)))
+    (and (string-match-p "\\`\\([^./][^/]*/\\)*[^./][^/]*\\.org\\'" base)
+         (not (string-match-p "\\.org\\(_archive\\)?/\\|[\0-\x1f\x7f]" base))
+         (not (string-match-p "[^/]\\{201\\}" bytes))
+         (<= (length bytes) 1000))))
 
 (defun orgstore--tops (dir)
   "Return the folders of `orgstore-directory' that DIR is in, or is.
@@ -76,14 +82,47 @@ files of ours.  So it is served only if `orgstore-directory' names it."
     (let ((owners (list nil (user-uid) (orgstore--owner top))) found)
       (while (> (length dir) (length top))
         (unless (memql (orgstore--owner dir) owners) (setq found dir))
-        (setq dir (file-name-directory (directory-file-name dir))))
+        (setq dir (orgstore--above dir)))
       found)))
 
-(defun orgstore--root-p (dir)
-  "Whether DIR, a true name that ends in a slash, is a served folder."
+(defun orgstore--served-p (dir)
+  "Whether the files of DIR, a true name that ends in a slash, are served."
   (let (found)
     (dolist (it (orgstore--tops dir) found)
       (unless (orgstore--foreign dir it) (setq found t)))))
+
+(defun orgstore--part-p (dir)
+  "Whether DIR, which has no journal, is part of a store in the folder above it.
+A folder that isn't there yet is made as one."
+  (let ((one (file-attributes dir 'integer))
+        (above (file-attributes (orgstore--above dir) 'integer)))
+    (and (orgstore--name-p (concat (file-name-nondirectory
+                                    (directory-file-name dir))
+                                   "/a.org"))
+         (or (null one)
+             (and (equal (file-attribute-user-id one)
+                         (file-attribute-user-id above))
+                  (equal (file-attribute-device-number one)
+                         (file-attribute-device-number above)))))))
+
+(defun orgstore--above (dir)
+  "Return the folder above DIR; both names end in a slash."
+  (file-name-directory (directory-file-name dir)))
+
+(defun orgstore--root (dir)
+  "Return the folder whose store has the files of DIR, nil if they aren't served.
+From DIR upward that is the first with a journal, else the last in whose store
+the files can be, but none above the folder of `orgstore-directory' that DIR is
+in.  DIR is a true name that ends in a slash."
+  (when (orgstore--served-p dir)
+    (let ((top ""))
+      (dolist (it (orgstore--tops dir))
+        (when (> (length it) (length top)) (setq top it)))
+      (while (and (not (equal dir top))
+                  (null (file-attributes (orgstore--journal dir)))
+                  (orgstore--part-p dir))
+        (setq dir (orgstore--above dir)))
+      dir)))
 
 (defun orgstore--foreign-folder (file)
   "Return the folder for whose owner alone FILE isn't served, or nil."
@@ -91,7 +130,7 @@ files of ours.  So it is served only if `orgstore-directory' names it."
     (let* ((true (file-truename file))
            (dir (file-name-directory true)))
       (when-let* (((orgstore--name-p (file-name-nondirectory true)))
-                  ((not (orgstore--root-p dir)))
+                  ((not (orgstore--served-p dir)))
                   (top (car (orgstore--tops dir))))
         (orgstore--foreign dir top)))))
 
@@ -102,9 +141,11 @@ A link is of the folder that it leads to, else of that in which it stands."
     (let* ((file (expand-file-name file))
            (name (file-name-nondirectory file))
            (true (file-truename file)))
-      (cl-flet ((place (dir name) (and (orgstore--name-p name)
-                                       (orgstore--root-p dir)
-                                       (cons dir name))))
+      (cl-flet ((place (dir name)
+                  (when-let* ((root (orgstore--root dir))
+                              (name (concat (substring dir (length root)) name))
+                              ((orgstore--name-p name)))
+                    (cons root name))))
         (or (place (file-name-directory true) (file-name-nondirectory true))
             (place (file-truename (file-name-directory file)) name))))))
 
@@ -194,21 +235,22 @@ Return (STATUS . OUTPUT); STATUS is of `orgstore--await', or the symbol quit."
 
 (defun orgstore--check-program (program)
   "Signal an error unless PROGRAM does what this package needs.
-That is the line `edit', and the options `--only' and `--whole'; they are
-tried in a new folder."
+That is the line `edit', the options `--only' and `--whole', and files in
+subfolders; they are tried in a new folder."
   (let ((dir (make-temp-file "orgstore-check-" t))
         (write-region-inhibit-fsync t))
     (unwind-protect
         (let ((run (progn
-                     (write-region "* A\n" nil (expand-file-name "a.org" dir)
+                     (make-directory (expand-file-name "s" dir))
+                     (write-region "* A\n" nil (expand-file-name "s/a.org" dir)
                                    nil 'quiet)
-                     (orgstore--run-once program dir '("a.org")
-                                         "edit\ta.org\t2\tA\tB\nsettle\n"))))
+                     (orgstore--run-once program dir '("s/a.org")
+                                         "edit\ts/a.org\t2\tA\tB\nsettle\n"))))
           (cond
            ((equal run '(0 . "ok 1\nsafe 1\n")))
            ((or (equal (car run) 2) (string-prefix-p "refused 20" (cdr run)))
             (orgstore--fail "The program %s is older than this package, which \
-needs `edit', `--only' and `--whole': do ./install anew" program))
+needs `edit', `--only', `--whole' and subfolders: do ./install anew" program))
            (t (orgstore--fail "The program %s doesn't work: %s" program
                               (orgstore--reason run dir)))))
       (delete-directory dir t))))
@@ -326,6 +368,9 @@ A file of 1 MiB is tried: a quota shows in nothing else."
      "the journal of the folder is damaged")
     (`(,_ . ,(rx "open: Linked"))
      (or (orgstore--journal-problem root) "orgstore.journal is no plain file"))
+    (`(,_ . ,(rx "open: Inside " (let dir (+ nonl))))
+     (format "the folder is part of the store in %s: add that folder to \
+`orgstore-directory'" (orgstore--decoded dir)))
     (`(,_ . ,(rx "open: Changed " (let name (+ nonl))))
      (format "another program has changed %s since" (orgstore--decoded name)))
     (`(,_ . ,(rx "open: Outside " (let name (+ nonl))))
@@ -347,7 +392,7 @@ A file of 1 MiB is tried: a quota shows in nothing else."
 (defconst orgstore--greatest-journal
   ;; Of an entry: the lengths, the name, what stands around its patches, where these
   ;; are to go, and the bytes of a whole file.
-  (+ 20 (* 512 (+ 30 208 66 (* 1000 16) 67108864)))
+  (+ 20 (* 512 (+ 30 1008 66 (* 1000 16) 67108864)))
   "How many bytes a journal can have: 512 entries, each as long as can be.")
 
 (defun orgstore--journal (root)
@@ -444,12 +489,13 @@ That is nil for the file of this buffer."
 (defun orgstore--tell-place ()
   "Name the folder whose store has this buffer's file, if a link leads there."
   (when-let* ((place (orgstore--place))
-              ((not (equal (car place)
+              (file (concat (car place) (cdr place)))
+              ((not (equal (file-name-directory file)
                            (file-truename
                             (file-name-directory buffer-file-name))))))
     (message "%s leads to %s, and is saved by the store there"
              (file-name-nondirectory buffer-file-name)
-             (abbreviate-file-name (concat (car place) (cdr place))))))
+             (abbreviate-file-name file))))
 
 (defun orgstore--guard-write ()
   "Signal an error where Emacs would write this file while a gate is open.

@@ -96,7 +96,7 @@ The file was to have FINAL bytes."
 
 (defun orgstore--read-name (reader)
   "Return the name that READER is at, as text."
-  (let* ((bytes (orgstore--take reader (orgstore--number reader 2 1 208)))
+  (let* ((bytes (orgstore--take reader (orgstore--number reader 2 1 1008)))
          (name (decode-coding-string bytes 'utf-8-unix)))
     ;; Bytes that aren't UTF-8 are characters above all others.
     (unless (and (orgstore--name-p name)
@@ -252,10 +252,10 @@ Its record is read from JOURNAL, else from the journal of ROOT."
 
 (defun orgstore--outside-p (change write)
   "Whether the file that WRITE of CHANGE is for is none of its folder's store."
-  (let ((true (orgstore--write-true write)))
-    (not (and (equal (file-name-directory true)
-                     (file-truename (orgstore--change-root change)))
-              (orgstore--name-p (file-name-nondirectory true))))))
+  (let ((true (orgstore--write-true write))
+        (root (file-truename (orgstore--change-root change))))
+    (not (and (equal root (orgstore--root (file-name-directory true)))
+              (orgstore--name-p (substring true (length root)))))))
 
 (defun orgstore--link (change write)
   "Return the file that a link leads to for which WRITE of CHANGE is, or nil."
@@ -532,7 +532,7 @@ Nothing is forgotten before both copies are on the device."
       (let ((dir (and (null buffer-file-name)
                       (not (file-remote-p default-directory))
                       (file-truename default-directory))))
-        (and dir (orgstore--root-p dir) (list dir)))
+        (and dir (orgstore--served-p dir) (list (orgstore--root dir))))
       (if-let* ((folder (orgstore--foreign-folder buffer-file-name)))
           (user-error "%s is of another owner, and isn't served: add it to \
 `orgstore-directory' if you trust what is in it"

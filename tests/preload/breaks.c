@@ -28,6 +28,10 @@ int fchmod(int file, mode_t mode) { return fails() ? -1 : REAL(int (*)(int, mode
 
 int ftruncate(int file, off_t size) { return fails() ? -1 : REAL(int (*)(int, off_t), "ftruncate")(file, size); }
 
+int mkdir(const char *path, mode_t mode) {
+    return fails() ? -1 : REAL(int (*)(const char *, mode_t), "mkdir")(path, mode);
+}
+
 int fsync(int file) { return fails() ? -1 : REAL(int (*)(int), "fsync")(file); }
 
 int fdatasync(int file) { return fails() ? -1 : REAL(int (*)(int), "fdatasync")(file); }

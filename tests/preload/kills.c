@@ -1,6 +1,6 @@
 // Preloaded into a program, it kills the program before one of the calls with which it changes the folder KILLS_IN: the one
-// whose number, from 1, is in KILLS_AT. Such a call opens a file for writing, writes or cuts one, renames or deletes. Where
-// KILLS_FROM names a file, calls count from when that one is deleted.
+// whose number, from 1, is in KILLS_AT. Such a call opens a file for writing, writes or cuts one, makes a folder, renames or
+// deletes. Where KILLS_FROM names a file, calls count from when that one is deleted.
 #include "open.h"
 #include <limits.h>
 #include <stdio.h>
@@ -67,6 +67,11 @@ int ftruncate(int file, off_t size) {
 }
 
 int ftruncate64(int file, off_t size) __attribute__((alias("ftruncate")));
+
+int mkdir(const char *path, mode_t mode) {
+    count_path(AT_FDCWD, path);
+    return REAL(int (*)(const char *, mode_t), "mkdir")(path, mode);
+}
 
 int rename(const char *from, const char *to) {
     count_path(AT_FDCWD, from);

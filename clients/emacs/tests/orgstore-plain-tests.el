@@ -483,9 +483,12 @@
   (ost-open "other.org" "One") (ost-cmd 1 (org-todo "TODO")))
 
 (ost-scenario subfolders '(("a.org" . "* A\n* B\n") ("sub/c.org" . "* C\n") ("sub/deep/d.org" . "* D\n"))
-  (ost-open "a.org") (ost-cmd 2 (ost-refile "A" "sub/c.org" "C"))
-  (ost-open "sub/deep/d.org") (ost-cmd 2 (ost-refile "D" "a.org" "B"))
-  (unless ost-plain (should (file-exists-p (ost-path "sub/deep/orgstore.journal")))))
+  (ost-open "a.org") (ost-cmd 1 (ost-refile "A" "sub/c.org" "C"))
+  (ost-open "sub/deep/d.org") (ost-cmd 1 (ost-refile "D" "a.org" "B"))
+  (unless ost-plain
+    (should (file-exists-p (ost-path "orgstore.journal")))
+    (should-not (file-exists-p (ost-path "sub/orgstore.journal")))
+    (should-not (file-exists-p (ost-path "sub/deep/orgstore.journal")))))
 
 (ost-scenario outside-target ost-ab
   (write-region "* Out\n" nil (expand-file-name "o.org" ost-beside) nil 'quiet)

@@ -338,14 +338,15 @@ Return the file that it leads to, which isn't in DIR."
     (ost-cmd 1 (insert "y") (save-buffer))
     (should (equal "yx* Pie\n" (ost-disk "recipes/pie.org")))))
 
-(ost-alone link-to-another-store '(("a.org" . "* A\n") ("sub/c.org" . "* C\n"))
+(ost-alone link-to-another-store '(("a.org" . "* A\n") ("sub/c.org" . "* C\n") ("sub/orgstore.journal" . ""))
   (should (equal "" (ost-visit "a.org")))
   (make-symbolic-link "sub/c.org" (ost-path "now.org"))
   (should (string-search (format "now.org leads to %s" (abbreviate-file-name (ost-path "sub/c.org")))
                          (ost-visit "now.org")))
   (ost-cmd 1 (insert "x") (save-buffer))
   (should (equal "x* C\n" (ost-disk "sub/c.org")))
-  (should (file-exists-p (ost-path "sub/orgstore.journal"))))
+  (should-not (equal "" (ost-disk "sub/orgstore.journal")))
+  (should-not (file-exists-p (ost-path "orgstore.journal"))))
 
 ;;;; Another program wrote a file after the crash
 

@@ -352,7 +352,7 @@
   (should (string-prefix-p " Git:" vc-mode))
   (should (eq 'edited (vc-state (ost-path "a.org")))))
 
-(ost-alone two-folders-crash '(("a.org" . "* A\n* B\n") ("sub/c.org" . "* C\n"))
+(ost-alone two-stores-crash '(("a.org" . "* A\n* B\n") ("sub/c.org" . "* C\n") ("sub/orgstore.journal" . ""))
   ;; The second run is killed: the entry stands twice, not nowhere.
   (let ((real (symbol-function 'orgstore--write-folder)) (n 0))
     (cl-letf (((symbol-function 'orgstore--write-folder)

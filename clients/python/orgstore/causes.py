@@ -6,10 +6,10 @@ import errno
 import os
 import stat
 
+from . import tree
 from .journal import half_written
-from .lines import as_bytes, as_string
 from .light import TYPE_CHECKING, record
-from .names import ARCHIVE, JOURNAL, is_file_name, own_name
+from .names import ARCHIVE, JOURNAL, own_name
 
 if TYPE_CHECKING:
     from typing import Iterable, List, Optional
@@ -43,16 +43,13 @@ def why_not_opened(folder: str, new: Iterable[str] = ()) -> Optional[Why]:
     if not os.access(folder, os.R_OK | os.X_OK):
         return Why("permission", "", "you may not list it: its mode is %s" % _mode(folder))
     try:
-        entries = sorted(os.listdir(as_bytes(folder)))
+        names = sorted(name for name, _ in tree.entries(folder))
+        odd = next(tree.odd_names(folder), None)
     except OSError as fault:
         return Why("device", "", "it can't be listed: %s" % fault.strerror)
-    for entry in entries:
-        try:
-            entry.decode()
-        except UnicodeDecodeError:
-            shown = ascii(as_string(entry))[1:-1].replace("\\udc", "\\x")
-            return Why("name", as_string(entry), "the name of its entry '%s' isn't UTF-8: rename it" % shown)
-    names = [name for name in map(as_string, entries) if is_file_name(name)]
+    if odd is not None:
+        shown = ascii(odd)[1:-1].replace("\\udc", "\\x")
+        return Why("name", odd, "the name of its entry '%s' isn't UTF-8: rename it" % shown)
     needed = [*new, JOURNAL]
     found = (_why_not_read(folder, name, name in needed) for name in [*names, *needed])
     return next(filter(None, found), None) or _why_no_journal(folder) or why_not_finished(folder)
@@ -116,23 +113,32 @@ def why_not_made(folder: str, name: str) -> Optional[Why]:
     if second:
         return Why("link", name, "%s would be a second name of %s, which is a link to it: take one of the two away"
                    % (name, second))
-    if _is_read_only(folder):
+    above = _nearest(os.path.dirname(path))
+    if not os.path.isdir(above):
+        return Why("kind", name, "%s can't be made: %s is no folder" % (name, os.path.relpath(above, folder)))
+    if _is_read_only(above):
         return Why("read-only", name, "%s can't be made: the file system is mounted read-only" % name)
-    if not os.access(folder, os.W_OK | os.X_OK):
+    if not os.access(above, os.W_OK | os.X_OK):
         return Why("permission", name, "%s can't be made: you may not write the folder, whose mode is %s"
-                   % (name, _mode(folder)))
+                   % (name, _mode(above)))
     return None
+
+
+def _nearest(path: str) -> str:
+    """The folder at a path, else the nearest one above it: folders that aren't there are made."""
+    while not os.path.lexists(path):
+        path = os.path.dirname(path)
+    return path
 
 
 def _second_name(folder: str, path: str) -> str:
     """The name of a link in the folder that leads to a path where nothing is yet, if there is one."""
     meant = os.path.realpath(path)
     try:
-        with os.scandir(folder) as entries:
-            links = [entry for entry in entries if entry.is_symlink() and is_file_name(entry.name)]
+        links = [(name, entry) for name, entry in tree.entries(folder) if entry.is_symlink()]
     except OSError:
         return ""
-    return next((link.name for link in links if os.path.realpath(link.path) == meant), "")
+    return next((name for name, link in links if os.path.realpath(link.path) == meant), "")
 
 
 def why_full(folder: str, size: int) -> Optional[Why]:
@@ -189,7 +195,7 @@ def why_failed(folder: str, names: Iterable[str], elsewhere: bool, size: int) ->
 def _store_files(folder: str) -> List[str]:
     """The names of the folder's Org files."""
     try:
-        return sorted(name for name in os.listdir(folder) if is_file_name(name))
+        return sorted(name for name, _ in tree.entries(folder))
     except OSError:
         return []
 

@@ -28,10 +28,10 @@ class Misused(Error):
 class CannotOpen(Error):
     """The program didn't open the folder, and no command was run.
 
-    `name` is the program's word for it (`Locked`, `BadJournal`, `Changed NAME`, `Outside NAME`, `Linked NAME`,
-    `Device`, `SameFile NAME`, `TooLarge NAME`, `TooManyFiles`, `OutOfMemory`, `bad name NAME`, `bad states`, `usage`),
-    `said` its line on standard error, `status` its exit status. Of a `Device`, `cause` and `file` say why, and `why` is
-    a sentence on it; `Changed`, `Outside` and `Linked` have a `file` too.
+    `name` is the program's word for it (`Locked`, `Inside PATH`, `BadJournal`, `Changed NAME`, `Outside NAME`,
+    `Linked NAME`, `Device`, `SameFile NAME`, `TooLarge NAME`, `TooManyFiles`, `OutOfMemory`, `bad name NAME`,
+    `bad states`, `usage`), `said` its line on standard error, `status` its exit status. Of a `Device`, `cause` and
+    `file` say why, and `why` is a sentence on it; `Changed`, `Outside` and `Linked` have a `file` too.
     """
 
     def __init__(self, message: str, *, name: str = "", said: str = "", status: int = 3, cause: Cause = "",

@@ -9,6 +9,7 @@ from .light import TYPE_CHECKING, os
 from .marks import JOURNAL_MOST, look_at_journal
 from .names import ARCHIVE, JOURNAL, is_archive, is_file_name, own_name
 from .plain import NotPlain, check_plain
+from .tree import files
 
 if TYPE_CHECKING:
     from typing import Callable, Dict, Iterable, List, Optional, Sequence
@@ -33,6 +34,8 @@ class Folder:
         """Whether what was read isn't of one moment, since a store wrote all the time."""
         self.recovered: Callable[[Recovered], None] = lambda change: None
         """Is called where an opening finished a change that a crash had cut short."""
+        self.passed_over: Callable[[str], None] = lambda way: None
+        """Is called with the way to each folder of the store that can't be read, where the files are listed."""
 
     def check_journal(self) -> None:
         """Raises `CannotRead` where the journal is no plain file, or is larger than one can be."""
@@ -46,7 +49,7 @@ class Folder:
     def names(self, archives: bool = True) -> List[str]:
         """The store's files that are there, in byte order; an archive file counts beside its file alone."""
         try:
-            there = {entry.name for entry in os.scandir(self.path) if is_file_name(entry.name) and _is_file(entry)}
+            there = files(self.path, self.passed_over)
         except OSError as fault:
             raise CannotRead("%s: %s; name the folder with -C DIR" % (self.path, fault.strerror)) from None
         own = [name for name in there if not is_archive(name)]
@@ -113,11 +116,3 @@ class Folder:
         if store.recovered:
             self.recovered(store.recovered)
         return store
-
-
-def _is_file(entry: os.DirEntry[str]) -> bool:
-    """Whether an entry is a file, or leads to one; a link in a circle doesn't."""
-    try:
-        return entry.is_file()
-    except OSError:
-        return False

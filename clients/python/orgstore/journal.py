@@ -10,6 +10,7 @@ from .light import TYPE_CHECKING, record
 from .marks import JOURNAL_MOST, gate_is_open
 from .names import JOURNAL, is_file_name
 from .plain import open_plain
+from .tree import way_in
 
 if TYPE_CHECKING:
     import datetime
@@ -258,7 +259,8 @@ def leads_out(folder: str, name: str) -> bool:
     if not os.path.islink(path):
         return False
     above, target = os.path.split(os.path.realpath(path))
-    return above != os.path.realpath(folder) or not is_file_name(target)
+    way = way_in(folder, above)
+    return way is None or not is_file_name(way + target)
 
 
 def holder(folder: str) -> Optional[int]:

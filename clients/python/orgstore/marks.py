@@ -6,6 +6,7 @@ from _stat import S_ISREG
 from .light import TYPE_CHECKING, os, record
 from .names import JOURNAL
 from .plain import open_plain
+from .tree import entries
 
 if TYPE_CHECKING:
     from typing import Dict, Iterable, List, Optional, Tuple
@@ -31,7 +32,7 @@ def mark_of(known: os.stat_result) -> Mark:
 
 
 def look(folder: str, only: Optional[Iterable[str]] = None) -> Dict[str, Mark]:
-    """The marks of the Org files that are in a folder, or of some of them."""
+    """The marks of the Org files that are in a store, or of some of them."""
     marks = {}
     if only is not None:
         for name in only:
@@ -43,10 +44,9 @@ def look(folder: str, only: Optional[Iterable[str]] = None) -> Dict[str, Mark]:
                 marks[name] = mark_of(known)
         return marks
     try:
-        with os.scandir(folder) as entries:
-            for entry in entries:
-                if entry.name.endswith((".org", ".org_archive")) and entry.name[0] != "." and entry.is_file():
-                    marks[entry.name] = mark_of(entry.stat())
+        for name, entry in entries(folder):
+            if entry.is_file():
+                marks[name] = mark_of(entry.stat())
     except OSError:
         pass  # a file, or the folder, goes away just now: that is a change too
     return marks

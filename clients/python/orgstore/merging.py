@@ -15,6 +15,7 @@ from .entry import Entry, entries
 from .errors import NoProgram
 from .keywords import States
 from .lines import as_bytes, as_string, path_text
+from .names import own_name
 from .outline import Outline
 from .process import program
 from .section import open_clock
@@ -23,6 +24,9 @@ from .stamps import Stamp
 __all__ = ["Event", "Merged", "NotMerged", "Row", "merge", "what_becomes"]
 
 Texts = Dict[str, bytes]
+
+NAME_MOST = 200
+"""The most bytes of a name that orgmerge takes, without the ending of an archive."""
 
 
 class NotMerged(Exception):
@@ -96,11 +100,27 @@ def merge(base: Texts, ours: Texts, theirs: Texts, states: States) -> Merged:
     return with_one_clock(merged, ours, theirs, states)
 
 
+def flat(name: str) -> str:
+    """A name without folders, as orgmerge takes it: a file of a folder below has its way in its name.
+
+    >>> flat("work/50%.org")
+    'work%2F50%25.org'
+    """
+    return name.replace("%", "%25").replace("/", "%2F")
+
+
+def unflat(name: str) -> str:
+    """The name that a flat one is of."""
+    return name.replace("%2F", "/").replace("%25", "%")
+
+
 def write_folder(place: str, texts: Texts) -> None:
     """Makes a folder of these files."""
     os.mkdir(place)
     for name, text in texts.items():
-        with open(os.path.join(place, name), "wb") as file:
+        if len(as_bytes(own_name(flat(name)))) > NAME_MOST:
+            raise NotMerged("the way to %s is too long" % name)
+        with open(os.path.join(place, flat(name)), "wb") as file:
             file.write(text)
 
 
@@ -109,14 +129,14 @@ def read_folder(place: str) -> Texts:
     texts: Texts = {}
     for name in sorted(os.listdir(place)):
         with open(os.path.join(place, name), "rb") as file:
-            texts[name] = file.read()
+            texts[unflat(name)] = file.read()
     return texts
 
 
 def events(report: bytes) -> List[Event]:
     """The lines of a report."""
     rows = (as_string(line).split("\t", 4) for line in report.split(b"\n") if line)
-    return [Event(*row, *[""] * (5 - len(row))) for row in rows]
+    return [Event(kind, unflat(file), *rest, *[""] * (3 - len(rest))) for kind, file, *rest in rows]
 
 
 def read_rows(table: str) -> List[Row]:
@@ -200,7 +220,7 @@ class Unit:
 def units(texts: Texts, states: States) -> List[Unit]:
     """What a folder consists of, in the order in which a table counts."""
     found: List[Unit] = []
-    for name in sorted(texts, key=as_bytes):
+    for name in sorted(texts, key=lambda name: as_bytes(flat(name))):
         outline, first = Outline(name, texts[name], states), len(found)
         starts = [heading.start for heading in outline.headings] + [len(texts[name])]
         found.append(Unit(name, (), name, texts[name][:starts[0]], -1))

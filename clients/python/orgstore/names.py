@@ -1,4 +1,5 @@
-"""Names of files: which ones the store takes, and which file an archive belongs to."""
+"""Names of files: which ones the store takes, and which file an archive belongs to. A name is the way from the store's
+folder to the file, as `projects/plan.org`."""
 from __future__ import annotations
 
 from .light import TYPE_CHECKING, pattern
@@ -34,14 +35,24 @@ def is_file_name(name: str) -> bool:
     return name_fault(name) is None
 
 
+def is_way(folder: str) -> bool:
+    """Whether files in the folder at this way from a store's can have names."""
+    return is_file_name(folder + "/a.org")
+
+
 def name_fault(file: str) -> Optional[str]:
     """Why a name is no file name of a store."""
-    if "/" in file:
-        return "'%s' has a folder: a file is named without one" % file
-    if not file.endswith((".org", ".org" + ARCHIVE)) or file.startswith("."):
+    *folders, last = file.split("/")
+    if not last.endswith((".org", ".org" + ARCHIVE)) or last.startswith("."):
         return "'%s' is no file name: one ends in .org or .org_archive, and doesn't begin with a dot" % file
+    for folder in folders:
+        if not folder or folder.startswith(".") or folder.endswith((".org", ".org" + ARCHIVE)):
+            return ("'%s' is no file name: '%s' can't be a folder's, which doesn't begin with a dot or end in .org"
+                    % (file, folder))
     if not file.isprintable() and _ODD.search(file):
         return "'%s' is no file name: it has control characters, or bytes that are no UTF-8" % ascii(file)[1:-1]
-    if len(as_bytes(own_name(file))) > 200:
+    if max(map(len, as_bytes(own_name(file)).split(b"/"))) > 200:
         return "'%s..' is no file name: it has more than 200 bytes" % file[:40]
+    if len(as_bytes(own_name(file))) > 1000:
+        return "'%s..' is no file name: it has more than 1,000 bytes" % file[:40]
     return None

@@ -23,6 +23,7 @@ _OPENING: Dict[str, str] = {
     "Changed": "a change was cut short, and %s was written by another program since, or copied or restored. Nothing "
                "was done: orgstore.unfinished shows the change, and finish does it over what is there now, or forget "
                "gives it up",
+    "Inside": "it is part of the store in %s: open that, and name its files with their folders",
     "Outside": "a change was cut short, and %s is a link that leads out of the folder. Nothing was done: "
                "orgstore.unfinished shows the change and where the link leads; finish writes there, forget gives it up",
     "Linked": "%s is a link, or no plain file. Nothing was done: find out who put it there, and take it away",
@@ -35,6 +36,7 @@ _OPENING: Dict[str, str] = {
 
 
 _OF_FILES = ("Changed", "Outside", "Linked")
+_OF_NAMES = (*_OF_FILES, "Inside")
 
 
 def cannot_open(folder: str, program: str, status: int, said: str, new: Iterable[str] = ()) -> Error:
@@ -53,10 +55,10 @@ def cannot_open(folder: str, program: str, status: int, said: str, new: Iterable
     why = why_not_opened(folder, new) if name == "Device" else None
     word, _, of = name.partition(" ")
     sentence = why.sentence if why else _OPENING.get(word, "its words aren't taken")
-    if word in _OF_FILES:
+    if word in _OF_NAMES:
         sentence = sentence % of
     if name.startswith("bad name"):
-        sentence = "a new file's name ends in .org, and has no folder"
+        sentence = "a new file's name ends in .org, and leads to no folder that is hidden or outside"
     kind = Locked if name == "Locked" else CannotOpen
     return kind("the folder '%s' can't be opened: %s (%s)" % (folder, sentence, said), name=name, said=said,
                 status=status, cause=why.cause if why else "device" if name == "Device" else "",

@@ -20,7 +20,7 @@ def write(folder: str, name: str, text: bytes = b"") -> None:
 
 def two_names(folder: str) -> None:
     write(folder, "a.org")
-    os.symlink("a.org", os.path.join(folder, "b.org"))
+    os.link(os.path.join(folder, "a.org"), os.path.join(folder, "b.org"))
 
 
 def too_large(folder: str) -> None:
@@ -51,7 +51,7 @@ OPENINGS: List[Tuple[Callable[[str], None], str, str]] = [
      "a change was cut short, and the journal is damaged, or another program's. Nothing was changed: copy the folder, "
      "look through the files, and take orgstore.journal away"),
     (os.rmdir, "Device", "there is no such folder"),
-    (lambda folder: write(folder, "\udcff"), "Device", "the name of its entry '\\xff' isn't UTF-8: rename it"),
+    (lambda folder: write(folder, "\udcff.org"), "Device", "the name of its entry '\\xff.org' isn't UTF-8: rename it"),
     (lambda folder: os.symlink("l.org", folder + "/l.org"), "Device",
      "l.org is a link that leads in a circle: take it away"),
     (lambda folder: os.mkdir(folder + "/orgstore.journal"), "Linked orgstore.journal", LINKED),
@@ -90,9 +90,9 @@ class Openings(FolderTest):
 
     def test_names_and_states(self) -> None:
         folder = self.folder({})
-        self.check(self.refusal(folder, new=("a/x.org",)), "bad name a/x.org", "orgstore: bad name a/x.org", 2,
-                   "the folder '%s' can't be opened: a new file's name ends in .org, and has no folder (orgstore: bad "
-                   "name a/x.org)" % folder)
+        self.check(self.refusal(folder, new=("../x.org",)), "bad name ../x.org", "orgstore: bad name ../x.org", 2,
+                   "the folder '%s' can't be opened: a new file's name ends in .org, and leads to no folder that is "
+                   "hidden or outside (orgstore: bad name ../x.org)" % folder)
         self.check(self.refusal(folder, new=("\udcff.org",)), "usage", "error: an argument isn't UTF-8", 2,
                    "the folder '%s' can't be opened: its words aren't taken (error: an argument isn't UTF-8)" % folder)
         with self.assertRaisesRegex(ValueError, "a group has 1 to 1,000 commands, not 1001"):

@@ -115,8 +115,9 @@ NAMES: List[Row] = [
      "a.txt: 'a.txt' is no file name: one ends in .org or .org_archive, and doesn't begin with a dot"),
     ({}, lambda store: store.show(".a.org"), BadLine,
      ".a.org: '.a.org' is no file name: one ends in .org or .org_archive, and doesn't begin with a dot"),
-    ({}, lambda store: store.show("notes/a.org"), BadLine,
-     "notes/a.org: 'notes/a.org' has a folder: a file is named without one"),
+    ({}, lambda store: store.show(".notes/a.org"), BadLine,
+     ".notes/a.org: '.notes/a.org' is no file name: '.notes' can't be a folder's, which doesn't begin with a dot or "
+     "end in .org"),
     ({"a.org": "* A\n"}, lambda store: store.refile("a.org", "A", "a\tb.org", "T"), BadLine,
      "a.org: A: 'a\\tb.org' is no file name: it has control characters, or bytes that are no UTF-8"),
     ({}, lambda store: store.show("\udcff.org"), BadLine,

@@ -5,3 +5,5 @@ pub mod Back
 pub mod Ranges
 mod NameRows
 pub mod Accounting
+pub mod Parts
+pub mod Folders

@@ -14,4 +14,4 @@ pub mod laws;
 mod name;
 
 pub use disk::{Disk, DiskFault, Standing};
-pub use name::{BadName, FileName};
+pub use name::{BadName, FileName, folder_of};

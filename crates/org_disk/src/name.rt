@@ -11,7 +11,7 @@ ghost use Rattle.std.specs.Cmp.{partial_equiv_from_equiv};
 ghost use Rattle.std.specs.Cmp.Rules.{hashing};
 ghost use Rattle.std.proofs.Common.{rules};
 ghost use Rattle.org_disk.specs.Faults.{bad_name};
-ghost use Rattle.org_disk.specs.Names.{is_name_byte, is_org_name, is_archive_name, archive_name, base_name, is_file_name, journal_name, IsDiskName};
+ghost use Rattle.org_disk.specs.Names.{is_name_byte, is_slash, is_part, is_folder_part, is_way, parts, ends_in_org, is_org_name, is_archive_name, archive_name, base_name, is_file_name, journal_name, IsDiskName, folder_of, last_part};
 
 use org_fault::Fault;
 use std::alloc::{AllocError, Global};
@@ -27,10 +27,13 @@ const ARCHIVE_SUFFIX: &str = "_archive";
 const JOURNAL: &str = "orgstore.journal";
 
 // The most bytes of a name, the suffix of an archive file not counted.
-const MAX_BYTES: usize = 200;
+const MAX_BYTES: usize = 1_000;
 
-/// The name of an Org file, of an archive file, or of the journal. A clause sees it as its bytes;
-/// names are compared and hashed by them.
+// The most bytes of a part of it.
+const MAX_PART: usize = 200;
+
+/// The name of an Org file, of an archive file, or of the journal: the path from the folder of a
+/// store to the file. A clause sees it as its bytes; names are compared and hashed by them.
 #[derive(Drop)]
 pub struct FileName {
     text: String,
@@ -63,9 +66,9 @@ impl FileName {
     /// # Examples
     ///
     /// ```
-    /// let name = FileName::new(alloc, "work.org")?;
-    /// assert_eq!(rt; name.as_str(), "work.org");
-    /// assert!(rt; FileName::new(alloc, "notes/work.org").is_err());
+    /// let name = FileName::new(alloc, "notes/work.org")?;
+    /// assert_eq!(rt; name.as_str(), "notes/work.org");
+    /// assert!(rt; FileName::new(alloc, "../work.org").is_err());
     /// assert!(rt; FileName::new(alloc, "orgstore.journal").is_err());
     /// ```
     pub fn new(alloc: Global, text: &str) -> Result<FileName, Fault<BadName>>
@@ -80,9 +83,11 @@ impl FileName {
         Ok(FileName { text })
     }
 
-    /// Whether a text is the name of an Org file or of an archive file: it ends in `.org` or
-    /// `.org_archive`, holds no slash and no byte below 0x20 nor 0x7F, doesn't begin with `.`, and
-    /// has at most 200 bytes before `_archive`.
+    /// Whether a text is the name of an Org file or of an archive file. It may have folders before
+    /// it, such as `notes/work.org`. It holds no byte below 0x20 nor 0x7F, and the last of its parts
+    /// between slashes ends in `.org` or `.org_archive`, no other one does. No part is empty or
+    /// begins with `.`. A part has at most 200 bytes, and all have at most 1,000 with the slashes,
+    /// not counting `_archive`.
     pub fn accepts(text: &str) -> bool
         ensures { result ≡ is_file_name text.now }
     {
@@ -110,6 +115,21 @@ impl FileName {
         self.text.as_str()
     }
 
+    /// The path of the folder that it leads through, with a slash at its end: `notes/` of
+    /// `notes/work.org`. It is empty where the file stands in the store's own folder.
+    pub fn folder(&self) -> &str
+        ensures value { result.now ≡ folder_of self.now }
+    {
+        folder_of(self.as_str())
+    }
+
+    /// The name of the file in that folder: `work.org` of `notes/work.org`.
+    pub fn last_part(&self) -> &str
+        ensures value { result.now ≡ last_part self.now }
+    {
+        last_part_of(self.as_str())
+    }
+
     /// Whether it is an archive file's name. The journal's isn't.
     pub fn is_archive(&self) -> bool
         ensures { result ≡ is_archive_name self.now }
@@ -134,6 +154,26 @@ impl FileName {
     }
 }
 
+/// A path as far as its last slash: `notes/` of `notes/work.org`.
+pub fn folder_of(path: &str) -> &str
+    ensures { result.now ≡ folder_of path.now }
+{
+    match path.rfind('/') {
+        Some(at) => &path[..at + 1],
+        None => "",
+    }
+}
+
+// What stands after that.
+fn last_part_of(path: &str) -> &str
+    ensures { result.now ≡ last_part path.now }
+{
+    match path.rfind('/') {
+        Some(at) => &path[at + 1..],
+        None => path,
+    }
+}
+
 // A name without the suffix of an archive file.
 fn base_of(name: &[u8]) -> &[u8]
     ensures { result.now ≡ base_name name.now }
@@ -148,13 +188,10 @@ fn base_of(name: &[u8]) -> &[u8]
 fn is_org_name(name: &[u8]) -> bool
     ensures { result ≡ is_org_name name.now }
 {
-    name.len() <= MAX_BYTES
-        && !name.starts_with(b".")
-        && name.ends_with(b".org")
-        && has_name_bytes(name)
+    name.len() <= MAX_BYTES && has_name_bytes(name) && is_way(name)
 }
 
-// Whether it holds no control character, no DEL and no slash.
+// Whether it holds no control character and no DEL.
 fn has_name_bytes(name: &[u8]) -> bool
     ensures { result ≡ list_all is_name_byte name.now }
 {
@@ -164,7 +201,52 @@ fn has_name_bytes(name: &[u8]) -> bool
 fn is_name_byte(byte: u8) -> bool
     ensures { result ≡ is_name_byte byte }
 {
-    byte >= b' ' && byte != 0x7F && byte != b'/'
+    byte >= b' ' && byte != 0x7F
+}
+
+// Whether it names a file, after the folders that lead there.
+#[tactic(auto, using(crate::proofs::Parts::no_slash_more, crate::proofs::Parts::no_slash_at))]
+fn is_way(name: &[u8]) -> bool
+    ensures { result ≡ is_way (parts name.now) }
+{
+    let mut start = 0;
+    for (at, byte) in name.iter().enumerate() {
+        if !is_slash(*byte) {
+            continue;
+        }
+        if !is_folder_part(&name[start..at]) {
+            return false;
+        }
+        start = at + 1;
+    }
+    let file = &name[start..];
+    is_part(file) && ends_in_org(file)
+}
+
+fn is_slash(byte: u8) -> bool
+    ensures { result ≡ is_slash byte }
+{
+    byte == b'/'
+}
+
+// Whether it can be a part of a name.
+fn is_part(part: &[u8]) -> bool
+    ensures { result ≡ is_part part.now }
+{
+    !part.is_empty() && part.len() <= MAX_PART && !part.starts_with(b".")
+}
+
+// Whether it can be a folder's name.
+fn is_folder_part(part: &[u8]) -> bool
+    ensures { result ≡ is_folder_part part.now }
+{
+    is_part(part) && !ends_in_org(base_of(part))
+}
+
+fn ends_in_org(name: &[u8]) -> bool
+    ensures { result ≡ ends_in_org name.now }
+{
+    name.ends_with(b".org")
 }
 
 impl Clone for FileName {

@@ -16,9 +16,9 @@ use std::test::Fail;
 fn file_name_new(rt: HostRuntime) -> Result<(), Fail> {
     let alloc = rt.alloc();
     // Shown:
-    let name = FileName::new(alloc, "work.org")?;
-    assert_eq!(rt; name.as_str(), "work.org");
-    assert!(rt; FileName::new(alloc, "notes/work.org").is_err());
+    let name = FileName::new(alloc, "notes/work.org")?;
+    assert_eq!(rt; name.as_str(), "notes/work.org");
+    assert!(rt; FileName::new(alloc, "../work.org").is_err());
     assert!(rt; FileName::new(alloc, "orgstore.journal").is_err());
     Ok(())
 }

@@ -2,19 +2,24 @@
 use Rattle.std.proofs.Common.{◌≡◌, ℕ, List, [], ◌∷◌, true, false, refl, sym, ◌∙◌}
 use Rattle.org_disk.specs.Disk.{stable, write, cut, sync}
 use Rattle.org_folder.specs.Calls.{Event, World, files, reading, IsLeftAlone, IsRight}
-use Rattle.org_folder.specs.Calls.Event.{Filled, Locked, Entry, Listed, There, Unseen, Absent, Length, Read, Write, Again, Cut, Sync, Made, Entered, Failed}
+use Rattle.org_folder.specs.Calls.Event.{Filled, Locked, Above, Alone, Entry, Listed, Folder, There, Led, Unseen, Absent, Length, Read, Write, Again, Cut, Sync, Made, MadeFolder, Entered, Failed}
 use Rattle.org_folder.specs.CallsLaws.{changed_other}
 
 pub still_as_first : (world : World) (calls : List Event) (name : List ℕ) → IsLeftAlone name calls → files world calls name ≡ world.start name
 still_as_first world [] name alone = refl
 still_as_first world (Filled path ∷ earlier) name alone = still_as_first world earlier name alone
 still_as_first world (Locked path ∷ earlier) name alone = still_as_first world earlier name alone
+still_as_first world (Above store ∷ earlier) name alone = still_as_first world earlier name alone
+still_as_first world (Alone ∷ earlier) name alone = still_as_first world earlier name alone
+still_as_first world (Folder folder own ∷ earlier) name alone = still_as_first world earlier name alone
 still_as_first world (Entry other ∷ earlier) name alone = still_as_first world earlier name alone
-still_as_first world (Listed ∷ earlier) name alone = still_as_first world earlier name alone
-still_as_first world (There other device number plain ∷ earlier) name alone = still_as_first world earlier name alone
+still_as_first world (Listed folder ok ∷ earlier) name alone = still_as_first world earlier name alone
+still_as_first world (There other device number plain link ∷ earlier) name alone = still_as_first world earlier name alone
+still_as_first world (Led other end ∷ earlier) name alone = still_as_first world earlier name alone
 still_as_first world (Unseen other ∷ earlier) name alone = still_as_first world earlier name alone
 still_as_first world (Made other ok ∷ earlier) name alone = still_as_first world earlier name alone
-still_as_first world (Entered other ok ∷ earlier) name alone = still_as_first world earlier name alone
+still_as_first world (MadeFolder folder ok ∷ earlier) name alone = still_as_first world earlier name alone
+still_as_first world (Entered folder other ok ∷ earlier) name alone = still_as_first world earlier name alone
 still_as_first world (Absent other ∷ earlier) name alone = still_as_first world earlier name alone
 still_as_first world (Length other n ∷ earlier) name alone = still_as_first world earlier name alone
 still_as_first world (Read other from bytes ∷ earlier) name alone = still_as_first world earlier name alone

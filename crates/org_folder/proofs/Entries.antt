@@ -1,13 +1,14 @@
 -- Entries that are noted one after another.
-use Rattle.std.proofs.Common.{arith, ◌≡◌, refl, ℕ, ◌+◌, ◌<◌, List, [], ◌∷◌, ◌++◌, map, take, length, get_or, false}
+use Rattle.std.proofs.Common.{arith, ◌≡◌, refl, ap, ℕ, ◌+◌, ◌<◌, List, [], ◌∷◌, ◌++◌, map, take, length, get_or, true, false}
 use Rattle.std.proofs.lemmas.Grind.{common_steps}
 use Rattle.std.proofs.lemmas.List.{map-append, take_more}
 use Rattle.std.proofs.lemmas.Bool.{or_from, or_parts}
 use Rattle.std.specs.List.{list_any}
 use Rattle.std.specs.Str.{bytes_eq}
 use Rattle.org_disk.specs.Disk.{stable}
+use Rattle.org_disk.specs.Names.{folder_of, last_part}
 use Rattle.org_folder.specs.Calls.{Event, World, IsRightList, entries_in, files, with_entries}
-use Rattle.org_folder.specs.Calls.Event.{Entry, Listed, Locked}
+use Rattle.org_folder.specs.Calls.Event.{Entry, Listed}
 
 with_one : (names : List (List ℕ)) (name : List ℕ) (earlier : List Event) → with_entries (names ++ name ∷ []) earlier ≡ Entry name ∷ with_entries names earlier
 with_one [] name earlier = refl
@@ -25,6 +26,7 @@ unlisted name (first ∷ names) earlier none before =
     let parts = or_parts (bytes_eq name first) (list_any (bytes_eq name) names) none in
     unlisted name names (Entry first ∷ earlier) parts.1 (or_from (bytes_eq name first) (list_any (bytes_eq name) (entries_in earlier)) parts.0 before)
 
-pub unlisted_absent : (world : World) (path : List ℕ) (names : List (List ℕ)) (earlier : List Event) (name : List ℕ) → list_any (bytes_eq name) names ≡ false
-    → IsRightList world (with_entries names (Locked path ∷ earlier)) → files world (Listed ∷ with_entries names (Locked path ∷ earlier)) name ≡ stable []
-unlisted_absent world path names earlier name none right = right name (unlisted name names (Locked path ∷ earlier) none refl)
+pub unlisted_absent : (world : World) (folder : List ℕ) (names : List (List ℕ)) (earlier : List Event) (name : List ℕ) → entries_in earlier ≡ [] → folder_of name ≡ folder
+    → list_any (bytes_eq (last_part name)) names ≡ false → IsRightList world folder (with_entries names earlier) → files world (Listed folder true ∷ with_entries names earlier) name ≡ stable []
+unlisted_absent world folder names earlier name alone within none right =
+    right name within (unlisted (last_part name) names earlier none (ap (list_any (bytes_eq (last_part name))) alone))

@@ -7,5 +7,6 @@ mod Entries
 pub mod Looked
 mod Seen
 mod Entered
-mod Listed
 mod Accounting
+mod Since
+mod Walked

@@ -1,8 +1,8 @@
 -- What a call that is in the record did to the files and to their past.
 use Rattle.std.proofs.Common.{◌≡◌, ◌≢◌, ℕ, List, ◌∷◌, length, true, false, IsErr, Result, Ok, Err, sym, ◌∙◌, ap, subst, inl}
-use Rattle.org_disk.specs.Disk.{FileState, IsImage, AreImages, AreLeftBy, IsLeftBy, Passes}
+use Rattle.org_disk.specs.Disk.{FileState, IsImage, AreImages, AreLeftBy, Changes, IsLeftBy, Passes}
 use Rattle.org_disk.specs.declared.disk.DiskFault.{DiskFault}
-use Rattle.org_disk.proofs.Moments.{Image, passes_as}
+use Rattle.org_disk.proofs.Moments.{Image, passes_as, passes_then}
 use Rattle.org_folder.specs.Calls.{Event, World, files, changed, AreRight, LeftSince, Looks, Does}
 use Rattle.org_folder.specs.CallsLaws.{changed_here, changed_other, own_image}
 
@@ -45,3 +45,11 @@ does_nothing world effect name old new (Err fault) failed right looks = record {
 pub does_not_come : (world : World) (effect : FileState → FileState) (name : List ℕ) (old new : List Event) (result : Answer) → IsErr result → AreRight world old × Looks world old new
     → AreRight world old × Does world effect name old new result
 does_not_come world effect name old new result failed looks = (looks.0, does_nothing world effect name old new result failed looks.0 looks.1)
+
+-- a look, and then a call on a file
+pub looks_does : (world : World) (effect : FileState → FileState) (name : List ℕ) (old mid new : List Event) (result : Answer) → Looks world old mid → Does world effect name mid new result → Does world effect name old new result
+looks_does world effect name old mid new result looks does = record {
+  changes = subst (λ (fs : List ℕ → FileState). Changes effect name fs (files world new) result) looks.same does.changes;
+  time = passes_then (looks_left world effect name old mid looks) does.time
+      (λ image left. subst (λ (fs : List ℕ → FileState). AreLeftBy effect name fs image) looks.same left);
+}

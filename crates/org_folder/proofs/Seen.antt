@@ -14,7 +14,8 @@ seen_on old new looks name None seen =
     subst (λ (l : List Event). Contains l (Absent name)) (sym looks.after) (Contains-append_right looks.calls old (Absent name) seen)
 seen_on old new looks name (Some node) seen = (
   seen.0,
-  subst (λ (l : List Event). Contains l (There name node.device node.number seen.0)) (sym looks.after) (Contains-append_right looks.calls old (There name node.device node.number seen.0) seen.1),
+  seen.1,
+  subst (λ (l : List Event). Contains l (There name node.device node.number seen.0 seen.1)) (sym looks.after) (Contains-append_right looks.calls old (There name node.device node.number seen.0 seen.1) seen.2),
 )
 
 before_or_last : (i n m : ℕ) → i < m → m ≡ n + 1 → (i < n) ⊎ (n ≡ i)

@@ -5,7 +5,7 @@ use Rattle.std.specs.Str.{bytes_eq}
 use Rattle.org_disk.specs.Disk.{FileState, IsImage, AreImages, stable, write, cut, sync}
 use Rattle.org_disk.specs.OwnImages.{IsOwnImage, stable_own}
 use Rattle.org_folder.specs.Calls.{Event, World, files, reading, AreRight, LeftSince}
-use Rattle.org_folder.specs.Calls.Event.{Filled, Locked, Entry, Listed, There, Unseen, Absent, Length, Read, Write, Again, Cut, Sync, Made, Entered, Failed}
+use Rattle.org_folder.specs.Calls.Event.{Filled, Locked, Above, Alone, Entry, Listed, Folder, There, Led, Unseen, Absent, Length, Read, Write, Again, Cut, Sync, Made, MadeFolder, Entered, Failed}
 use Rattle.org_folder.specs.Unwritten.{AreLeftAlone, with_first, with_stable}
 use Rattle.org_folder.proofs.Absent.{still_as_first}
 
@@ -17,9 +17,14 @@ module _ (these : List ℕ → Bool) (world : World) where
   earlier_alone : (event : Event) (earlier : List Event) → AreLeftAlone these (event ∷ earlier) → AreLeftAlone these earlier
   earlier_alone (Filled path) earlier alone = alone
   earlier_alone (Locked path) earlier alone = alone
+  earlier_alone (Above store) earlier alone = alone
+  earlier_alone Alone earlier alone = alone
+  earlier_alone (Folder folder own) earlier alone = alone
+  earlier_alone (MadeFolder folder ok) earlier alone = alone
   earlier_alone (Entry other) earlier alone = alone
-  earlier_alone Listed earlier alone = alone
-  earlier_alone (There other device number plain) earlier alone = alone
+  earlier_alone (Listed folder ok) earlier alone = alone
+  earlier_alone (There other device number plain link) earlier alone = alone
+  earlier_alone (Led other end) earlier alone = alone
   earlier_alone (Unseen other) earlier alone = alone
   earlier_alone (Absent other) earlier alone = alone
   earlier_alone (Length other n) earlier alone = alone
@@ -30,7 +35,7 @@ module _ (these : List ℕ → Bool) (world : World) where
   earlier_alone (Cut other n ok) earlier alone = λ name is. (alone name is).1
   earlier_alone (Sync other ok) earlier alone = λ name is. (alone name is).1
   earlier_alone (Made other ok) earlier alone = alone
-  earlier_alone (Entered other ok) earlier alone = alone
+  earlier_alone (Entered folder other ok) earlier alone = alone
 
   -- another file, by the same calls
   changed_same : (other name : List ℕ) (effect : FileState → FileState) (one two : FileState) → one ≡ two → (if bytes_eq other name then effect one else one) ≡ (if bytes_eq other name then effect two else two)
@@ -40,9 +45,14 @@ module _ (these : List ℕ → Bool) (world : World) where
   others_same [] name not = cond-false (these name) (stable (world.start name).content) (world.start name) not
   others_same (Filled path ∷ earlier) name not = others_same earlier name not
   others_same (Locked path ∷ earlier) name not = others_same earlier name not
+  others_same (Above store ∷ earlier) name not = others_same earlier name not
+  others_same (Alone ∷ earlier) name not = others_same earlier name not
+  others_same (Folder folder own ∷ earlier) name not = others_same earlier name not
+  others_same (MadeFolder folder ok ∷ earlier) name not = others_same earlier name not
   others_same (Entry other ∷ earlier) name not = others_same earlier name not
-  others_same (Listed ∷ earlier) name not = others_same earlier name not
-  others_same (There other device number plain ∷ earlier) name not = others_same earlier name not
+  others_same (Listed folder ok ∷ earlier) name not = others_same earlier name not
+  others_same (There other device number plain link ∷ earlier) name not = others_same earlier name not
+  others_same (Led other end ∷ earlier) name not = others_same earlier name not
   others_same (Unseen other ∷ earlier) name not = others_same earlier name not
   others_same (Absent other ∷ earlier) name not = others_same earlier name not
   others_same (Length other n ∷ earlier) name not = others_same earlier name not
@@ -50,7 +60,7 @@ module _ (these : List ℕ → Bool) (world : World) where
   others_same (Again other from bytes ok ∷ earlier) name not = others_same earlier name not
   others_same (Failed other ∷ earlier) name not = others_same earlier name not
   others_same (Made other ok ∷ earlier) name not = others_same earlier name not
-  others_same (Entered other ok ∷ earlier) name not = others_same earlier name not
+  others_same (Entered folder other ok ∷ earlier) name not = others_same earlier name not
   others_same (Write other from bytes true ∷ earlier) name not =
       changed_same other name (write from bytes) (files taken earlier name) (files world earlier name) (others_same earlier name not)
   others_same (Write other from bytes false ∷ earlier) name not =
@@ -83,12 +93,17 @@ module _ (these : List ℕ → Bool) (world : World) where
       (cases_Bool (these name))
   still_right (Filled path ∷ earlier) alone right = (right.0, still_right earlier alone right.1)
   still_right (Locked path ∷ earlier) alone right = (right.0, still_right earlier alone right.1)
+  still_right (Above store ∷ earlier) alone right = (right.0, still_right earlier alone right.1)
+  still_right (Alone ∷ earlier) alone right = (right.0, still_right earlier alone right.1)
+  still_right (Folder folder own ∷ earlier) alone right = (right.0, still_right earlier alone right.1)
+  still_right (MadeFolder folder ok ∷ earlier) alone right = (right.0, still_right earlier alone right.1)
   still_right (Entry other ∷ earlier) alone right = (right.0, still_right earlier alone right.1)
-  still_right (Listed ∷ earlier) alone right = (right.0, still_right earlier alone right.1)
-  still_right (There other device number plain ∷ earlier) alone right = (right.0, still_right earlier alone right.1)
+  still_right (Listed folder ok ∷ earlier) alone right = (right.0, still_right earlier alone right.1)
+  still_right (There other device number plain link ∷ earlier) alone right = (right.0, still_right earlier alone right.1)
+  still_right (Led other end ∷ earlier) alone right = (right.0, still_right earlier alone right.1)
   still_right (Unseen other ∷ earlier) alone right = (right.0, still_right earlier alone right.1)
   still_right (Made other ok ∷ earlier) alone right = (right.0, still_right earlier alone right.1)
-  still_right (Entered other ok ∷ earlier) alone right = (right.0, still_right earlier alone right.1)
+  still_right (Entered folder other ok ∷ earlier) alone right = (right.0, still_right earlier alone right.1)
   still_right (Absent name ∷ earlier) alone right = (absent, still_right earlier alone right.1)
     where
       absent : files taken earlier name ≡ stable []

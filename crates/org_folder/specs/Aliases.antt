@@ -20,7 +20,8 @@ is_again nodes at = list_any (λ other. is_same other (get_or nodes at None)) (t
 -- A look among these calls found this file under a name, or none.
 abbrev pub IsSeen : List Event → List ℕ → Option Node → Type 0
 IsSeen calls name (Some node) =
-    (plain : Bool) × Contains calls (There name node.device node.number plain)
+    (plain : Bool) × (link : Bool)
+    × Contains calls (There name node.device node.number plain link)
 IsSeen calls name None = Contains calls (Absent name)
 
 -- .. under each of the first names

@@ -7,7 +7,7 @@ use Rattle.std.specs.Str.{bytes_eq}
 use Rattle.org_disk.specs.Disk.{FileState, IsImage, AreImages, write, cut, sync}
 use Rattle.org_disk.specs.OwnImages.{IsOwnImage, write_own, cut_own, sync_own}
 use Rattle.org_folder.specs.Calls.{Event, World, files, changed, reading, AreRight, LeftSince}
-use Rattle.org_folder.specs.Calls.Event.{Filled, Locked, Entry, Listed, There, Unseen, Absent, Length, Read, Write, Again, Cut, Sync, Made, Entered, Failed}
+use Rattle.org_folder.specs.Calls.Event.{Filled, Locked, Above, Alone, Entry, Listed, Folder, There, Led, Unseen, Absent, Length, Read, Write, Again, Cut, Sync, Made, MadeFolder, Entered, Failed}
 
 -- a file that reads as one of its images
 reading_keeps : (content : List ℕ) (file : FileState) → IsImage file content
@@ -48,13 +48,18 @@ pub own_image : (world : World) (calls : List Event) → AreRight world calls �
 own_image world [] right name = right name
 own_image world (Filled path ∷ earlier) right name = own_image world earlier right.1 name
 own_image world (Locked path ∷ earlier) right name = own_image world earlier right.1 name
+own_image world (Above store ∷ earlier) right name = own_image world earlier right.1 name
+own_image world (Alone ∷ earlier) right name = own_image world earlier right.1 name
+own_image world (Folder folder own ∷ earlier) right name = own_image world earlier right.1 name
 own_image world (Entry n ∷ earlier) right name = own_image world earlier right.1 name
-own_image world (Listed ∷ earlier) right name = own_image world earlier right.1 name
-own_image world (There n device number plain ∷ earlier) right name =
+own_image world (Listed folder ok ∷ earlier) right name = own_image world earlier right.1 name
+own_image world (There n device number plain link ∷ earlier) right name =
     own_image world earlier right.1 name
+own_image world (Led n end ∷ earlier) right name = own_image world earlier right.1 name
 own_image world (Unseen n ∷ earlier) right name = own_image world earlier right.1 name
 own_image world (Made n ok ∷ earlier) right name = own_image world earlier right.1 name
-own_image world (Entered n ok ∷ earlier) right name = own_image world earlier right.1 name
+own_image world (MadeFolder folder ok ∷ earlier) right name = own_image world earlier right.1 name
+own_image world (Entered folder n ok ∷ earlier) right name = own_image world earlier right.1 name
 own_image world (Absent n ∷ earlier) right name = own_image world earlier right.1 name
 own_image world (Length n length ∷ earlier) right name = own_image world earlier right.1 name
 own_image world (Read n from bytes ∷ earlier) right name = own_image world earlier right.1 name

@@ -4,7 +4,7 @@ use Rattle.std.specs.Prelude.{◌≡◌, ◌⊎◌, ℕ, Bool, true, false, not,
 use Rattle.std.specs.Str.{bytes_eq}
 use Rattle.org_disk.specs.Names.{is_file_name}
 use Rattle.org_folder.specs.Calls.{Event}
-use Rattle.org_folder.specs.Calls.Event.{Filled, Locked, Entry, Listed, There, Unseen, Absent, Length, Read, Write, Again, Cut, Sync, Made, Entered, Failed}
+use Rattle.org_folder.specs.Calls.Event.{Filled, Locked, Above, Alone, Entry, Listed, Folder, There, Led, Unseen, Absent, Length, Read, Write, Again, Cut, Sync, Made, MadeFolder, Entered, Failed}
 use Rattle.org_folder.specs.declared.calls.How.{How}
 use Rattle.org_folder.specs.declared.calls.How.TheVariants as opened
 use Rattle.org_folder.specs.declared.calls.SystemCall.{SystemCall}
@@ -45,6 +45,7 @@ has_effect (system.Write from ok) = true
 has_effect (system.Truncate length ok) = true
 has_effect (system.DataSync ok) = true
 has_effect (system.Sync ok) = true
+has_effect (system.MakeFolder ok) = true
 has_effect (system.ChangeMode mode ok) = true
 has_effect (system.Lock ok) = false
 has_effect (system.List ok) = false
@@ -81,12 +82,14 @@ are_own_modes (Call (system.ChangeMode mode ok) path bytes ∷ earlier) =
     (not (is_file_name path) || was_made path earlier) && are_own_modes earlier
 are_own_modes (Call made path bytes ∷ earlier) = are_own_modes earlier
 
--- whether a folder was synced, and no file made since
-abbrev pub is_folder_synced : List Raw → Bool
-is_folder_synced [] = false
-is_folder_synced (Call (system.Open how ok) path bytes ∷ earlier) = false
-is_folder_synced (Call (system.Sync true) path bytes ∷ earlier) = true
-is_folder_synced (Call made path bytes ∷ earlier) = is_folder_synced earlier
+-- whether the folder at this path was synced, and no file or folder made since
+abbrev pub is_folder_synced : List ℕ → List Raw → Bool
+is_folder_synced folder [] = false
+is_folder_synced folder (Call (system.Open how ok) path bytes ∷ earlier) = false
+is_folder_synced folder (Call (system.MakeFolder ok) path bytes ∷ earlier) = false
+is_folder_synced folder (Call (system.Sync true) path bytes ∷ earlier) =
+    bytes_eq path folder || is_folder_synced folder earlier
+is_folder_synced folder (Call made path bytes ∷ earlier) = is_folder_synced folder earlier
 
 -- the newest call is such a one, and the others go with the rest
 abbrev pub head : (Raw → Bool) → (List Raw → Bool) → List Raw → Bool
@@ -125,10 +128,17 @@ is_make name ok (Call (system.Open how did) path bytes) =
     bytes_eq path name && (makes how && bears_out ok did)
 is_make name ok other = false
 
--- a folder was synced
-abbrev pub is_folder_sync : Bool → Raw → Bool
-is_folder_sync ok (Call (system.Sync did) path bytes) = bears_out ok did
-is_folder_sync ok other = false
+-- a folder was made at this path
+abbrev pub is_folder_make : List ℕ → Bool → Raw → Bool
+is_folder_make folder ok (Call (system.MakeFolder did) path bytes) =
+    bytes_eq path folder && same did ok
+is_folder_make folder ok other = false
+
+-- the folder at this path was synced
+abbrev pub is_folder_sync : List ℕ → Bool → Raw → Bool
+is_folder_sync folder ok (Call (system.Sync did) path bytes) =
+    bytes_eq path folder && bears_out ok did
+is_folder_sync folder ok other = false
 
 -- paths were made to lead from the folder at this path
 abbrev pub is_enter : List ℕ → Raw → Bool
@@ -138,17 +148,21 @@ is_enter path other = false
 -- These calls were made for these steps, in their order, and no other. Where a folder is locked, all
 -- paths lead from it from then on; a write is of these bytes to this place of the file that was
 -- opened under this name; and so on. A write of no bytes, which tries a file, is no such call. Where
--- a file wasn't made, or a file or an entry not put on the device, it may have come to no call. Nor does it
--- where the folder was synced since a file was made, or where bytes would be written over themselves
--- in a file that may not be written.
+-- a file wasn't made, or a file or an entry not put on the device, it may have come to no call. Nor
+-- does it where the entry's own folder was synced since a file or a folder was made, or where bytes
+-- would be written over themselves in a file that may not be written.
 abbrev pub accounts : List Event → List Raw → Bool
 accounts [] [] = true
 accounts [] (first ∷ earlier) = false
 accounts (Filled path ∷ steps) calls = accounts steps calls
 accounts (Locked path ∷ steps) calls = head (is_enter path) (accounts steps) calls
+accounts (Above store ∷ steps) calls = accounts steps calls
+accounts (Alone ∷ steps) calls = accounts steps calls
 accounts (Entry name ∷ steps) calls = accounts steps calls
-accounts (Listed ∷ steps) calls = accounts steps calls
-accounts (There name device number plain ∷ steps) calls = accounts steps calls
+accounts (Listed folder ok ∷ steps) calls = accounts steps calls
+accounts (Folder folder own ∷ steps) calls = accounts steps calls
+accounts (There name device number plain link ∷ steps) calls = accounts steps calls
+accounts (Led name end ∷ steps) calls = accounts steps calls
 accounts (Unseen name ∷ steps) calls = accounts steps calls
 accounts (Absent name ∷ steps) calls = accounts steps calls
 accounts (Length name n ∷ steps) calls = accounts steps calls
@@ -166,11 +180,13 @@ accounts (Sync name false ∷ steps) calls =
 accounts (Made name true ∷ steps) calls = head (is_make name true) (accounts steps) calls
 accounts (Made name false ∷ steps) calls =
     head (is_make name false) (accounts steps) calls || accounts steps calls
-accounts (Entered name true ∷ steps) calls =
-    head (is_folder_sync true) (accounts steps) calls
-    || (is_folder_synced calls && accounts steps calls)
-accounts (Entered name false ∷ steps) calls =
-    head (is_folder_sync false) (accounts steps) calls || accounts steps calls
+accounts (MadeFolder folder ok ∷ steps) calls =
+    head (is_folder_make folder ok) (accounts steps) calls
+accounts (Entered folder name true ∷ steps) calls =
+    head (is_folder_sync folder true) (accounts steps) calls
+    || (is_folder_synced folder calls && accounts steps calls)
+accounts (Entered folder name false ∷ steps) calls =
+    head (is_folder_sync folder false) (accounts steps) calls || accounts steps calls
 
 -- The record of these steps goes with this record of calls.
 abbrev pub GoesWith : List Event → List Raw → Type 0
@@ -179,8 +195,17 @@ GoesWith steps calls = IsTrue (accounts steps (acts (effects calls)))
 abbrev pub AreOwnModes : List Raw → Type 0
 AreOwnModes calls = IsTrue (are_own_modes (effects calls))
 
-abbrev pub IsFolderSynced : List Raw → Type 0
-IsFolderSynced calls = IsTrue (is_folder_synced (acts (effects calls)))
+abbrev pub IsFolderSynced : List ℕ → List Raw → Type 0
+IsFolderSynced folder calls = IsTrue (is_folder_synced folder (acts (effects calls)))
+
+-- whether each of these folders was synced so
+abbrev pub are_folders_synced : List (List ℕ) → List Raw → Bool
+are_folders_synced [] calls = true
+are_folders_synced (folder ∷ folders) calls =
+    is_folder_synced folder calls && are_folders_synced folders calls
+
+abbrev pub AreFoldersSynced : List (List ℕ) → List Raw → Type 0
+AreFoldersSynced folders calls = IsTrue (are_folders_synced folders (acts (effects calls)))
 
 -- A file was made under this name, where that succeeded, and perhaps given permissions. A call that
 -- failed may have come to none.
@@ -213,16 +238,16 @@ SyncsContent path old new true = new ≡ Call (system.DataSync true) path [] ∷
 SyncsContent path old new false =
     (new ≡ Call (system.DataSync false) path [] ∷ old) ⊎ OnlyAsks old new
 
--- a folder was synced; a call that failed may have come to no sync
-pub record SyncsOne (old new : List Raw) (ok : Bool) : Type 0 where
-  pub path : List ℕ
-  pub is : effects new ≡ Call (system.Sync ok) path [] ∷ effects old
+-- the folder at this path was synced; a call that failed may have come to no sync
+abbrev pub SyncsOne : (folder : List ℕ) (old new : List Raw) (ok : Bool) → Type 0
+SyncsOne folder old new ok = effects new ≡ Call (system.Sync ok) folder [] ∷ effects old
 
-abbrev pub SyncsFolder : (old new : List Raw) → Bool → Type 0
-SyncsFolder old new true = SyncsOne old new true
-SyncsFolder old new false = SyncsOne old new false ⊎ OnlyAsks old new
+abbrev pub SyncsFolder : List ℕ → (old new : List Raw) → Bool → Type 0
+SyncsFolder folder old new true = SyncsOne folder old new true
+SyncsFolder folder old new false = SyncsOne folder old new false ⊎ OnlyAsks old new
 
--- an entry was put on the device: by a sync of its folder, or by none
-abbrev pub Enters : (old new : List Raw) → Bool → Type 0
-Enters old new true = SyncsOne old new true ⊎ (OnlyAsks old new × IsFolderSynced old)
-Enters old new false = SyncsOne old new false ⊎ OnlyAsks old new
+-- an entry in this folder was put on the device: by a sync of the folder, or by none
+abbrev pub PutsEntry : List ℕ → (old new : List Raw) → Bool → Type 0
+PutsEntry folder old new true =
+    SyncsOne folder old new true ⊎ (OnlyAsks old new × IsFolderSynced folder old)
+PutsEntry folder old new false = SyncsOne folder old new false ⊎ OnlyAsks old new

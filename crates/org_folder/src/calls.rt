@@ -71,6 +71,8 @@ pub struct Status {
     pub number: u64,
     /// Its kind and its permissions, as stat(2) has them in `st_mode`.
     pub mode: u32,
+    /// The user that it belongs to.
+    pub owner: u32,
     /// The group that it belongs to.
     pub group: u32,
     /// Its length in bytes.
@@ -87,12 +89,19 @@ const KIND: u32 = 0o170000;
 
 const PLAIN_FILE: u32 = 0o100000;
 
+const FOLDER: u32 = 0o040000;
+
 const LINK: u32 = 0o120000;
 
 impl Status {
     /// Whether it is a plain file.
     pub fn is_file(&self) -> bool {
         self.mode & KIND == PLAIN_FILE
+    }
+
+    /// Whether it is a folder.
+    pub fn is_folder(&self) -> bool {
+        self.mode & KIND == FOLDER
     }
 
     /// Whether it is a symbolic link.
@@ -131,6 +140,8 @@ pub enum SystemCall {
     DataSync(bool),
     /// fsync(2): an open folder.
     Sync(bool),
+    /// mkdir(2), with the permissions of the user's own setting: a path.
+    MakeFolder(bool),
     /// fchmod(2): an open file, its new permissions.
     ChangeMode(u32, bool),
     /// flock(2), exclusive and without waiting: an open folder.
@@ -234,6 +245,10 @@ pub trait Calls {
         ensures { made self.new ≡ Call (system.Sync (is_ok result))
             (string_bytes folder.now.path) [] ∷ made self.old };
 
+    /// Makes a folder. It fails where anything is there.
+    fn make_folder(&mut self, path: &str) -> io::Result<()>
+        ensures { made self.new ≡ Call (system.MakeFolder (is_ok result)) path.now [] ∷ made self.old };
+
     /// Gives a file these permissions.
     fn change_mode(&mut self, file: &Handle<Self::File>, mode: u32) -> io::Result<()>
         ensures { made self.new ≡ Call (system.ChangeMode mode (is_ok result))
@@ -244,7 +259,8 @@ pub trait Calls {
         ensures { made self.new ≡ Call (system.Lock (is_ok result))
             (string_bytes folder.now.path) [] ∷ made self.old };
 
-    /// The names of all entries of a folder.
+    /// The names of the entries of a folder. One that isn't UTF-8 is left out, and where it ends in
+    /// `.org` the call fails.
     fn list(&mut self, path: &str) -> io::Result<Vec<String>>
         ensures { made self.new ≡ Call (system.List (is_ok result)) path.now [] ∷ made self.old };
 

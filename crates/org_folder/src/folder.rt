@@ -200,7 +200,7 @@ where
         }
     }
 
-    // Makes a file that was found absent.
+    // Makes a file that was found absent, and opens it.
     fn make(&mut self, name: &FileName) -> Result<usize, DiskFault>
         requires { HasAbsent name.now (S.history self.old.system) }
         ensures place { IfOk result (StandsAt name.now self.new.files.items) }
@@ -211,11 +211,24 @@ where
     {
         self.absent.swap_remove(name);
         self.absent_at_first.swap_remove(name);
-        let opened = self.system.make(name)?;
+        let opened = self.made(name)?;
         match self.place(name) {
             Ok(at) => Ok(at),
             Err(place) => self.keep(place, opened),
         }
+    }
+
+    // A file that was found absent, and is made.
+    fn made(&mut self, name: &FileName) -> Result<Opened<S::File>, DiskFault>
+        requires { HasAbsent name.now (S.history self.old.system) }
+        ensures name { IfOk result (λ opened. opened.name ≡ name.now) }
+        ensures entry { IfOk result (λ opened. IsFalse opened.is_entered) }
+        ensures absent { self.new.absent ≡ self.old.absent }
+        ensures at_first { self.new.absent_at_first ≡ self.old.absent_at_first }
+        ensures looks { LooksRight S.System self.old.system self.new.system }
+        ensures failures { NotesFailure S.System self.old.system self.new.system result }
+    {
+        self.system.make(name)
     }
 
     // Where the file of a name stands among those that are open, or where it would.
@@ -287,8 +300,26 @@ where
         → HasAbsent name (S.history system.new) }
     ensures held { IsHeld (S.history system.old) → IsHeld (S.history system.new) }
 {
-    if !opened.is_entered() {
-        system.sync_entry(opened)?;
+    if opened.is_entered() {
+        return sync_entered(system, opened);
     }
+    system.sync_entry(opened)?;
+    sync_entered(system, opened)
+}
+
+// Syncs a file whose entry is on the device.
+fn sync_entered<S: System>(system: &mut S, opened: &Opened<S::File>) -> Result<(), DiskFault>
+where
+    S::File: Drop,
+    requires this { IsTrue opened.now.is_entered }
+    requires named { HasEntered opened.now.name (S.history system.old) }
+    ensures synced { DoesRight S.System sync opened.now.name system.old system.new result }
+    ensures failures { NotesFailure S.System system.old system.new result }
+    ensures others { (name : List ℕ) → HasEntered name (S.history system.old)
+        → HasEntered name (S.history system.new) }
+    ensures absent { (name : List ℕ) → HasAbsent name (S.history system.old)
+        → HasAbsent name (S.history system.new) }
+    ensures held { IsHeld (S.history system.old) → IsHeld (S.history system.new) }
+{
     system.sync(opened)
 }

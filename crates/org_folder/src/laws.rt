@@ -1,12 +1,13 @@
 //! The laws of the record of calls, for all values.
 //!
 //! Each is the contract of a function with nothing to do.
-ghost use Rattle.std.specs.Prelude.{◌≡◌, Bool, List, ℕ, [], ◌∷◌, IsFalse};
+ghost use Rattle.std.specs.Prelude.{◌≡◌, Bool, List, ℕ, [], ◌∷◌, true, IsFalse};
 ghost use Rattle.std.specs.List.{list_any};
 ghost use Rattle.std.specs.Str.{bytes_eq};
 ghost use Rattle.org_disk.specs.Disk.{stable};
-ghost use Rattle.org_folder.specs.Calls.{AreRight, Event, IsLeftAlone, IsRight, IsRightList, LeftSince, World, files, with_entries};
-ghost use Rattle.org_folder.specs.Calls.Event.{Absent, Listed, Locked};
+ghost use Rattle.org_disk.specs.Names.{folder_of, last_part};
+ghost use Rattle.org_folder.specs.Calls.{AreRight, Event, IsLeftAlone, IsRight, IsRightList, LeftSince, World, entries_in, files, with_entries};
+ghost use Rattle.org_folder.specs.Calls.Event.{Absent, Listed};
 ghost use Rattle.org_folder.specs.Unwritten.{AreLeftAlone, with_first, with_stable};
 
 /// That there is no file of a name is a right answer, as often as it is given, where the file was
@@ -19,13 +20,14 @@ pub fn absent_is_right()
         → IsRight world (Absent name) calls }
 {}
 
-/// Where the folder's list is right, a name that isn't listed has no file: it stands for the empty
-/// one, after a crash too. The list was made next to the folder's lock.
+/// Where the list of a folder is right, a name of that folder that isn't listed has no file: it
+/// stands for the empty one, after a crash too. No entry of another list came just before.
 pub fn unlisted_is_absent()
-    ensures { (world : World) (path : List ℕ) (names : List (List ℕ)) (earlier : List Event)
-        (name : List ℕ) → IsFalse (list_any (bytes_eq name) names)
-        → IsRightList world (with_entries names (Locked path ∷ earlier))
-        → files world (Listed ∷ with_entries names (Locked path ∷ earlier)) name ≡ stable [] }
+    ensures { (world : World) (folder : List ℕ) (names : List (List ℕ)) (earlier : List Event)
+        (name : List ℕ) → entries_in earlier ≡ [] → folder_of name ≡ folder
+        → IsFalse (list_any (bytes_eq (last_part name)) names)
+        → IsRightList world folder (with_entries names earlier)
+        → files world (Listed folder true ∷ with_entries names earlier) name ≡ stable [] }
 {}
 
 /// What a crash may leave of files that no call wrote, cut or synced makes no difference to a run,

@@ -17,8 +17,13 @@ pub enum Call {
     Filled,
     Locked,
     Entry,
-    Listed,
-    There(u64, u64, bool),
+    Listed(bool),
+    Folder(bool),
+    Above,
+    Alone,
+    There(u64, u64, bool, bool),
+    // its bytes are the path at which it ends
+    Led,
     Unseen,
     Absent,
     Length(u64),
@@ -28,6 +33,8 @@ pub enum Call {
     Cut(u64, bool),
     Sync(bool),
     Made(bool),
+    MadeFolder(bool),
+    // its bytes are the path of the folder that was to be synced
     Entered(bool),
     Failed,
 }

@@ -1,10 +1,11 @@
-//! The calls of a system on a folder and its files: all that the program makes, and their record.
+//! The calls of a system on the folder of a store, on those below and on their files: all that the
+//! program makes, and their record.
 //!
 //! Code that is generic over `System` has no other way to the folder. The record stands in proofs
 //! alone. Whether its answers were right is the premise under which a folder is an honest disk.
-ghost use Rattle.std.specs.Prelude.{◌≡◌, List, ◌∷◌, is_ok, map, string_bytes, IsTrue, IsFalse, IfOk, IfSome, IfNone, OnOk, OnErr};
-ghost use Rattle.org_folder.specs.Calls.{Event, HasAbsent, HasEntered, IsWithin, World, has_failed, is_filled, is_held, with_entries, StandIn};
-ghost use Rattle.org_folder.specs.Calls.Event.{Absent, Again, Cut, Entered, Failed, Filled, Length, Listed, Locked, Made, Read, Sync, There, Unseen, Write};
+ghost use Rattle.std.specs.Prelude.{◌≡◌, List, ◌∷◌, true, false, is_ok, map, string_bytes, IsTrue, IsFalse, IfOk, IfSome, IfNone, OnOk, OnErr};
+ghost use Rattle.org_folder.specs.Calls.{Enters, Event, HasAbsent, HasEntered, IsWithin, Makes, World, has_failed, is_filled, is_held, with_entries, StandIn};
+ghost use Rattle.org_folder.specs.Calls.Event.{Above, Absent, Again, Alone, Cut, Failed, Filled, Folder, Length, Listed, Locked, Read, Sync, There, Unseen, Write};
 
 use crate::aliases::Node;
 use crate::calls::Handle;
@@ -22,6 +23,7 @@ mod looks;
 mod reach;
 mod seen;
 mod standing;
+mod way;
 
 pub use calls_system::CallsSystem;
 
@@ -43,9 +45,10 @@ pub struct Opened<F> {
     handle: Handle<F>,
     // it was opened for writing too
     is_writable: bool,
-    // it was found in the folder itself: no link led to it, and it wasn't made
+    // its entry stands in the folder that its name leads through: no link led to it, and it wasn't
+    // made
     is_own: bool,
-    // its entry in the folder is known to be on the device
+    // its entry and those of the folders that lead to it are known to be on the device
     is_entered: bool,
     // what the system last said of it
     seen: Cell<Seen>,
@@ -82,7 +85,7 @@ impl<F: Drop> Opened<F> {
         &self.name
     }
 
-    // Whether its name still leads to it, as far as the folder's last change shows that.
+    // Whether its name still leads to it, as far as the last change of the store's folder shows.
     fn is_found(&self, folder: &Change) -> bool {
         match self.found.get() {
             Some(before) => before.is_still(folder),
@@ -90,7 +93,7 @@ impl<F: Drop> Opened<F> {
         }
     }
 
-    /// Whether its entry in the folder is known to be on the device.
+    /// Whether its entry is known to be on the device, and those of the folders that lead to it.
     pub fn is_entered(&self) -> bool
         ensures { result ≡ self.now.is_entered }
     {
@@ -98,12 +101,13 @@ impl<F: Drop> Opened<F> {
     }
 }
 
-/// What a name leads to: a file, which is a plain one, or a folder, a pipe, a socket or a device. In
-/// the journal's place a link is no plain one.
+/// What a name leads to: a file, which is a plain one, or a folder, a pipe, a socket or a device,
+/// and whether a link stands there. In the journal's place a link is no plain one.
 #[derive(Clone, Copy)]
 pub struct Found {
     pub node: Node,
     pub is_plain: bool,
+    pub is_link: bool,
 }
 
 /// The calls of a system on one folder and on its files: code that is generic over it has no other
@@ -141,16 +145,36 @@ pub trait System {
         ensures ok { OnOk result (history self.new ≡ Locked path.now ∷ history self.old) }
         ensures err { OnErr result (history self.new ≡ history self.old) };
 
-    /// The names of all entries of the folder.
-    fn list(&mut self) -> Result<Vec<String>, ListFault>
-        ensures ok { IfOk result (λ names. history self.new
-            ≡ Listed ∷ with_entries (map string_bytes names.items) (history self.old)) }
+    /// The path of the store's folder that is the nearest above the folder that was locked, if that
+    /// store would list a file in it. There is none where the folder is a store itself.
+    fn store_above(&mut self) -> Result<Option<String>, ListFault>
+        ensures above { IfOk result (λ found. IfSome found (λ store.
+            history self.new ≡ Above (string_bytes store) ∷ history self.old)) }
+        ensures alone { IfOk result (λ found. IfNone found
+            (history self.new ≡ Alone ∷ history self.old)) }
+        ensures err { OnErr result (history self.new ≡ history self.old) };
+
+    /// The names of the entries of a folder: the one that was locked, or one below it, by its path
+    /// with a slash at its end. None where it may not be read, or isn't there.
+    fn list(&mut self, folder: &str) -> Result<Option<Vec<String>>, ListFault>
+        ensures listed { IfOk result (λ found. IfSome found (λ names. history self.new
+            ≡ Listed folder.now true
+            ∷ with_entries (map string_bytes names.items) (history self.old))) }
+        ensures closed { IfOk result (λ found. IfNone found
+            (history self.new ≡ Listed folder.now false ∷ history self.old)) }
+        ensures err { OnErr result (history self.new ≡ history self.old) };
+
+    /// Whether the folder at a path belongs to the store: it is a folder itself, on the file system
+    /// of the one that was locked, of the same owner, and has no entry `orgstore.journal`.
+    fn is_own_folder(&mut self, folder: &str) -> Result<bool, ListFault>
+        ensures ok { IfOk result (λ own.
+            history self.new ≡ Folder folder.now own ∷ history self.old) }
         ensures err { OnErr result (history self.new ≡ history self.old) };
 
     /// Looks where a name leads. Links are followed, but for the journal's: a link is no plain file.
     fn look(&mut self, name: &FileName) -> Result<Option<Found>, ListFault>
         ensures there { IfOk result (λ found. IfSome found (λ found. history self.new
-            ≡ There name.now found.node.device found.node.number found.is_plain
+            ≡ There name.now found.node.device found.node.number found.is_plain found.is_link
             ∷ history self.old)) }
         ensures absent { IfOk result (λ found. IfNone found
             (history self.new ≡ Absent name.now ∷ history self.old)) }
@@ -177,12 +201,13 @@ pub trait System {
         ensures { history self.new ≡ Failed name.now ∷ history self.old };
 
     /// Opens the file of a name, which is made where there is none. Its content stays as it is. It
-    /// was found absent before.
+    /// was found absent before. The folders that lead to it are made first, where they aren't there,
+    /// and the entry of each is put on the device before anything is made in it.
     fn make(&mut self, name: &FileName) -> Result<Opened<Self::File>, DiskFault>
         requires { HasAbsent name.now (history self.old) }
         ensures name { IfOk result (λ opened. opened.name ≡ name.now) }
         ensures entry { IfOk result (λ opened. IsFalse opened.is_entered) }
-        ensures made { history self.new ≡ Made name.now (is_ok result) ∷ history self.old };
+        ensures made { Makes name.now (is_ok result) (history self.old) (history self.new) };
 
     /// The length of a file in bytes. While the files of a record are being written, it fails where
     /// another program is seen to have written this one since these calls looked at it.
@@ -234,9 +259,9 @@ pub trait System {
         requires { IsWithin world (history self.old) opened.now.name to }
         ensures { history self.new ≡ Cut opened.now.name to (is_ok result) ∷ history self.old };
 
-    /// Puts a file on the device. Its entry in the folder was put there before. Once a sync has
-    /// failed, of whichever file or entry, none succeeds: systems forget what they failed to put
-    /// there.
+    /// Puts a file on the device. Its entry in its folder was put there before, and so were the
+    /// entries of the folders that lead to it. Once a sync has failed, of whichever file or entry,
+    /// none succeeds: systems forget what they failed to put there.
     fn sync(&mut self, opened: &Opened<Self::File>) -> Result<(), DiskFault>
         requires this { IsTrue opened.now.is_entered }
         requires named { HasEntered opened.now.name (history self.old) }
@@ -244,15 +269,17 @@ pub trait System {
         ensures synced { history self.new
             ≡ Sync opened.now.name (is_ok result) ∷ history self.old };
 
-    /// Puts the entry of a file in its folder on the device. A call that fails leaves it as little
-    /// known as before; and once a sync has failed, none succeeds.
+    /// Puts the entry of a file in its folder on the device, and before that the entries of the
+    /// folders that lead to it. A call that fails leaves it as little known as before; and once a
+    /// sync has failed, none succeeds.
     fn sync_entry(&mut self, opened: &mut Opened<Self::File>) -> Result<(), DiskFault>
         ensures name { opened.new.name ≡ opened.old.name }
         ensures ok { OnOk result (IsTrue opened.new.is_entered) }
         ensures once { OnOk result (IsFalse (has_failed (history self.old))) }
         ensures err { OnErr result (opened.new ≡ opened.old) }
-        ensures entered { history self.new
-            ≡ Entered opened.old.name (is_ok result) ∷ history self.old };
+        ensures failed { OnErr result (IsTrue (has_failed (history self.new))) }
+        ensures entered { Enters opened.old.name (is_ok result)
+            (history self.old) (history self.new) };
 
     /// Reads a file back. It fails where that doesn't hold these bytes, or where another program is
     /// seen to have changed or replaced it since these calls looked at it. Only a failure is noted:

@@ -46,7 +46,7 @@ patch_length most patch within =
 old_patch_length : (most final : ℕ) (patch : Patch) → length patch.bytes ≤ most → length (old_patch_bytes final patch) ≤ 24 + most
 old_patch_length most final patch within = grind (arith, common_steps)
 
-name_length : (name : List ℕ) → length name ≤ 208 → length (name_bytes name) ≤ 210
+name_length : (name : List ℕ) → length name ≤ 1_008 → length (name_bytes name) ≤ 1_010
 name_length name short = omega (arith, short, length-append (big_bytes 2 (length name)) name, length-bytes_high_first 2 (length name))
 
 context_length : (context : List ℕ) → length context ≤ most_context → length (context_bytes context) ≤ 33

@@ -23,14 +23,14 @@ use Rattle.org_journal.proofs.Patched.{Follows, follows_is, follows_again, AllFo
 
 -- ---- the length of a name
 
-length-base : (name : List ℕ) (b : Bool) → length (cond b (take (length name - 8) name) name) ≤ 200 → length name ≤ 208
+length-base : (name : List ℕ) (b : Bool) → length (cond b (take (length name - 8) name) name) ≤ 1_000 → length name ≤ 1_008
 length-base name true le = omega (arith, le, length-take (length name - 8) name)
 length-base name false le = omega (arith, le)
 
-org_short : (name : List ℕ) → is_org_name name ≡ true → length name ≤ 200
-org_short name e = leb-true (length name) 200 (both_true _ _ (both_true _ _ (both_true _ _ e).0).0).0
+org_short : (name : List ℕ) → is_org_name name ≡ true → length name ≤ 1_000
+org_short name e = leb-true (length name) 1_000 (both_true _ _ (both_true _ _ e).0).0
 
-pub name_short : (name : List ℕ) → is_file_name name ≡ true → length name ≤ 208
+pub name_short : (name : List ℕ) → is_file_name name ≡ true → length name ≤ 1_008
 name_short name e = length-base name (is_archive_name name) (org_short (base_name name) e)
 
 -- its length has 2 bytes

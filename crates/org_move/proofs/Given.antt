@@ -6,7 +6,7 @@ use Rattle.std.specs.List.{AllByRecursion, join_with_byte}
 use Rattle.std.specs.Option.{option_map, unwrap_or}
 use Rattle.std.proofs.lemmas.List.{append-nil}
 use Rattle.std.specs.Prelude.{slice_range}
-use Rattle.org_disk.specs.Names.{IsDiskName}
+use Rattle.org_disk.specs.Names.{IsDiskName, last_part}
 use Rattle.org_splice.specs.Lines.{lines_of}
 use Rattle.org_splice.specs.declared.Span.{Span}
 use Rattle.org_stamp.specs.Calendar.{Moment}
@@ -79,7 +79,7 @@ all_good states name now t i ps valid is =
     subst (AllByRecursion IsGood) (sym is) (good_of (archive_properties states name now (tree t) i) (all_put states name now (tree t) i (name_line name valid) (tree-is t).valid))
 
 -- the category
-pub category_is : (file : List ℕ) (d : Document) (i : ℕ) (o : Option (Bor (List ℕ))) (name value : Bor (List ℕ)) → option_map read o ≡ nearest (codes "CATEGORY") d i → name.now ≡ without_org file
+pub category_is : (file : List ℕ) (d : Document) (i : ℕ) (o : Option (Bor (List ℕ))) (name value : Bor (List ℕ)) → option_map read o ≡ nearest (codes "CATEGORY") d i → name.now ≡ without_org (last_part file)
     → value ≡ unwrap_or o name → value.now ≡ category_of file d i
-category_is file d i None name value is name_is value_is = ap read value_is ∙ name_is ∙ ap (λ o. unwrap_or o (without_org file)) is
-category_is file d i (Some text) name value is name_is value_is = ap read value_is ∙ ap (λ o. unwrap_or o (without_org file)) is
+category_is file d i None name value is name_is value_is = ap read value_is ∙ name_is ∙ ap (λ o. unwrap_or o (without_org (last_part file))) is
+category_is file d i (Some text) name value is name_is value_is = ap read value_is ∙ ap (λ o. unwrap_or o (without_org (last_part file))) is

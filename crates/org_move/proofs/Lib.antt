@@ -22,3 +22,4 @@ pub mod Apart
 pub mod Across
 pub mod Within
 pub mod Archives
+mod Ways

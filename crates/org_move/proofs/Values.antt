@@ -9,7 +9,7 @@ use Rattle.std.specs.Str.{str_eq_ignore_ascii_case}
 use Rattle.std.proofs.lemmas.Bool.{cases_Bool, false≢true}
 use Rattle.std.proofs.lemmas.List.{take-append-drop}
 use Rattle.std.proofs.lemmas.Slice.Eq.{bytes_eq-Decides}
-use Rattle.org_disk.specs.Names.{IsDiskName, archive_suffix, base_name, is_archive_name, is_file_name, is_name_byte, is_org_name, journal_name}
+use Rattle.org_disk.specs.Names.{IsDiskName, archive_suffix, base_name, folder_of, is_archive_name, is_file_name, is_name_byte, is_org_name, is_way, journal_name, last_part, parts}
 use Rattle.org_splice.specs.Blanks.{is_blank, is_solid, behind, end_of, front, trimmed}
 use Rattle.org_splice.specs.Lines.{IsLine, lines_of}
 use Rattle.org_splice.proofs.Ends.{both}
@@ -68,7 +68,7 @@ name_bytes (b ∷ l) all =
     record { flat = (λ e. let none : is_name_byte b ≡ false = rw e refl in absurd (false≢true (sym none ∙ parts.0)), (name_bytes l parts.1).flat) }
 
 org_line : (l : List ℕ) → is_org_name l ≡ true → Flat l
-org_line l good = name_bytes l (both _ (list_all is_name_byte l) good).1
+org_line l good = name_bytes l (both _ (list_all is_name_byte l) (both _ (is_way (parts l)) good).0).1
 
 suffixed : (l : List ℕ) → is_archive_name l ≡ true → is_org_name (base_name l) ≡ true → Flat l
 suffixed l archive good =
@@ -187,7 +187,8 @@ unwrap_line (Some y) x p q = p
 
 category_line : (name : List ℕ) (d : Document) (i : ℕ) → Flat name → IsValid d → Flat (category_of name d i)
 category_line name d i line valid =
-    unwrap_line (nearest (codes "CATEGORY") d i) (without_org name) (last_value_line (codes "CATEGORY") d (ancestors_of d i ++ i ∷ []) valid) (either_line _ _ _ (first_line _ name line) line)
+    let last : Flat (last_part name) = last_line (length (folder_of name)) name line in
+    unwrap_line (nearest (codes "CATEGORY") d i) (without_org (last_part name)) (last_value_line (codes "CATEGORY") d (ancestors_of d i ++ i ∷ []) valid) (either_line _ _ _ (first_line _ (last_part name) last) last)
 
 -- ---- titles and tags
 
@@ -347,13 +348,18 @@ heading_line : (states : Keywords) (l : List ℕ) → Flat l → IfSome (heading
 heading_line states [] line = empty_line
 heading_line states (b ∷ bs) line = at_level_line states (b ∷ bs) (level_of (b ∷ bs)) line
 
-with_heading_line : (file : List ℕ) (o : Option Heading) → IfSome o (λ h. Flat h.title)
-    → IfSome (option_map (λ (heading : Heading). let to : Destination = record { file = file; level = heading.level; title = heading.title } in to) o) (λ to. Flat to.title)
+in_file_line : (heading : Heading) (file : Option (List ℕ)) → Flat heading.title
+    → IfSome (option_map (λ (file : List ℕ). let to : Destination = record { file = file; level = heading.level; title = heading.title } in to) file) (λ to. Flat to.title)
+in_file_line heading None line = tt
+in_file_line heading (Some file) line = line
+
+with_heading_line : (file : Option (List ℕ)) (o : Option Heading) → IfSome o (λ h. Flat h.title)
+    → IfSome (option_and_then (λ (heading : Heading). option_map (λ (file : List ℕ). let to : Destination = record { file = file; level = heading.level; title = heading.title } in to) file) o) (λ to. Flat to.title)
 with_heading_line file None line = tt
-with_heading_line file (Some heading) line = line
+with_heading_line file (Some heading) line = in_file_line heading file line
 
 of_halves_line : (states : Keywords) (name : List ℕ) (o : Option Halves) → IfSome o (λ h. Flat h.heading)
-    → IfSome (option_and_then (λ (halves : Halves). option_map (λ (heading : Heading). let to : Destination = record { file = file_named name halves.file; level = heading.level; title = heading.title } in to) (heading_of states halves.heading)) o) (λ to. Flat to.title)
+    → IfSome (option_and_then (λ (halves : Halves). option_and_then (λ (heading : Heading). option_map (λ (file : List ℕ). let to : Destination = record { file = file; level = heading.level; title = heading.title } in to) (file_named name halves.file)) (heading_of states halves.heading)) o) (λ to. Flat to.title)
 of_halves_line states name None line = tt
 of_halves_line states name (Some halves) line = with_heading_line (file_named name halves.file) (heading_of states halves.heading) (heading_line states halves.heading line)
 

@@ -3,6 +3,7 @@
 use Rattle.std.specs.Prelude.{ℕ, ◌==◌, nat_eq, if◌then◌else◌, Option, None, Some, Result, Ok, Err, List, [], ◌∷◌, ◌++◌, codes, filter, length, take, ◌-◌, ◌+◌}
 use Rattle.std.specs.List.{ends_with, join_with_byte}
 use Rattle.std.specs.Option.{unwrap_or}
+use Rattle.org_disk.specs.Names.{last_part}
 use Rattle.org_fault.specs.declared.refusal.Refusal.{Refusal}
 use Rattle.org_fault.specs.declared.refusal.Refusal.TheVariants.{AlreadyArchive, InsideItself}
 use Rattle.org_stamp.specs.Calendar.{Moment, weekday_of}
@@ -33,9 +34,10 @@ abbrev pub without_org : List ℕ → List ℕ
 without_org name =
     if ends_with nat_eq name (codes ".org") then take (length name - 4) name else name
 
--- the nearest CATEGORY, or the file's name
+-- the nearest CATEGORY, or the file's own name without its folders
 abbrev pub category_of : List ℕ → Document → ℕ → List ℕ
-category_of name d i = unwrap_or (nearest (codes "CATEGORY") d i) (without_org name)
+category_of name d i =
+    unwrap_or (nearest (codes "CATEGORY") d i) (without_org (last_part name))
 
 abbrev pub named : List ℕ → List ℕ → NodeProperty
 named name value = record { name = name; value = value }

@@ -1,15 +1,15 @@
 -- Where an archived subtree goes (Org manual, "Moving a tree to an archive file"; Org Syntax,
 -- "Keywords").
-use Rattle.std.specs.Prelude.{◌≡◌, ◌⊎◌, ◌<◌, ◌≤◌, ℕ, nat_lt, ◌==◌, Bool, false, ◌&&◌, if◌then◌else◌, List, [], ◌∷◌, ◌++◌, codes, length, take, drop, Option, None, Some, is_some, Result, Ok, Err}
+use Rattle.std.specs.Prelude.{◌≡◌, ◌⊎◌, ◌<◌, ◌≤◌, ℕ, ◌-◌, nat_lt, ◌==◌, Bool, false, ◌&&◌, if◌then◌else◌, List, [], ◌∷◌, ◌++◌, codes, length, take, drop, Option, None, Some, is_some, Result, Ok, Err}
 use Rattle.std.specs.Borrow.{Bor}
 use Rattle.std.specs.List.{find}
 use Rattle.std.specs.Option.{option_map, option_and_then, option_or, unwrap_or}
-use Rattle.std.specs.Str.{str_eq_ignore_ascii_case, is_utf8}
+use Rattle.std.specs.Str.{bytes_eq, str_eq_ignore_ascii_case, is_utf8}
 use Rattle.org_fault.specs.declared.refusal.Refusal.{Refusal}
 use Rattle.org_fault.specs.declared.refusal.Refusal.TheVariants.{AlreadyArchive, BadLocation, NoSuchFile}
 use Rattle.org_splice.specs.Blanks.{is_blank, behind, trimmed}
 use Rattle.org_splice.specs.Lines.{terminated, lines_of}
-use Rattle.org_disk.specs.Names.{is_archive_name, is_file_name}
+use Rattle.org_disk.specs.Names.{folder_of, is_archive_name, is_file_name, last_part, parts}
 use Rattle.org_meta.specs.Lines.{BeginsWith}
 use Rattle.org_outline.specs.declared.steps.Step.{Step}
 use Rattle.org_outline.specs.States.{Keywords}
@@ -100,10 +100,25 @@ with_name name (b ∷ []) = b ∷ []
 with_name name (b ∷ c ∷ bs) =
     if b == 37 && c == 115 then name ++ with_name name bs else b ∷ with_name name (c ∷ bs)
 
--- an empty part is the same file
-abbrev pub file_named : List ℕ → List ℕ → List ℕ
-file_named name [] = name
-file_named name (b ∷ bs) = with_name name (b ∷ bs)
+-- a folder's path, with a slash at its end, after one more part of a way; `..` leads one folder up,
+-- and not above the store, whose path is empty
+abbrev pub after_part : List ℕ → List ℕ → Option (List ℕ)
+after_part folder part =
+    if bytes_eq part (codes "..") then
+    (if length folder == 0 then None else Some (folder_of (take (length folder - 1) folder)))
+    else Some (folder ++ part ++ codes "/")
+
+-- the path at the end of a way that begins in a folder
+abbrev pub at_end : List ℕ → List (List ℕ) → Option (List ℕ)
+at_end folder [] = Some (take (length folder - 1) folder)
+at_end folder (part ∷ rest) =
+    option_and_then (λ folder. at_end folder rest) (after_part folder part)
+
+-- The file that a text says in the file of this name: it is read from that file's folder, and `%s`
+-- is the name there. An empty text is the same file.
+abbrev pub file_named : List ℕ → List ℕ → Option (List ℕ)
+file_named name [] = Some name
+file_named name (b ∷ bs) = at_end (folder_of name) (parts (with_name (last_part name) (b ∷ bs)))
 
 pub record Heading : Type 0 where
   pub level : ℕ
@@ -138,11 +153,13 @@ heading_of states (b ∷ bs) = option_and_then (titled_line states (b ∷ bs)) (
 -- the destination that a value names in the file of this name, if it names one
 abbrev pub location_of : Keywords → List ℕ → List ℕ → Option Destination
 location_of states name value =
-    option_and_then (λ halves. option_map (λ heading. let to : Destination = record {
-      file = file_named name halves.file;
+    option_and_then (λ halves. option_and_then (λ heading. option_map (λ file.
+    let to : Destination = record {
+      file = file;
       level = heading.level;
       title = heading.title;
     } in to)
+    (file_named name halves.file))
     (heading_of states halves.heading))
     (halves_of value)
 

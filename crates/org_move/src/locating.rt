@@ -2,15 +2,16 @@
 //!
 //! A property of the entry or above it comes before the file's first `#+ARCHIVE:` line, and that
 //! before the file's own archive.
-ghost use Rattle.std.specs.Prelude.{◌≡◌, ◌⊎◌, ◌<◌, ◌≤◌, ◌^◌, ◌+◌, ◌++◌, ◌∷◌, [], ℕ, List, true, false, IfOk, IfSome, IfNone, None, codes, length, take, drop};
+ghost use Rattle.std.specs.Prelude.{◌≡◌, ◌⊎◌, ◌<◌, ◌≤◌, ◌^◌, ◌+◌, ◌++◌, ◌∷◌, [], ℕ, List, true, false, if◌then◌else◌, IfOk, IfSome, IfNone, None, Some, codes, length, take, drop};
 ghost use Rattle.std.specs.List.{find};
 ghost use Rattle.std.specs.Option.{option_map};
+ghost use Rattle.org_disk.specs.Names.{parts};
 ghost use Rattle.org_splice.specs.Lines.{lines_of};
 ghost use Rattle.org_splice.specs.Searched.{IsSearched};
 ghost use Rattle.org_outline.specs.Parts.{AreParts, Parts};
 ghost use Rattle.org_outline.specs.Tree.{node_count, tree};
 ghost use Rattle.org_move.specs.Answers.{IsNameOf, IsPlaceAs};
-ghost use Rattle.org_move.specs.Location.{ComesTo, LeavesLines, location_at, file_named, halves_made, halves_of, has_archive_line, heading_made, heading_of, is_archive_line, is_title_alone, value_for, value_of_lines, with_file, with_name};
+ghost use Rattle.org_move.specs.Location.{ComesTo, Destination, LeavesLines, after_part, and_file, at_end, location_at, file_named, halves_made, halves_of, has_archive_line, heading_made, heading_of, is_archive_line, is_title_alone, value_for, value_of_lines, with_file, with_name};
 ghost use Rattle.org_splice.specs.Blanks.{is_blank, behind};
 
 use crate::destination::Location;
@@ -208,14 +209,64 @@ fn with_name(alloc: Global, name: &[u8], text: &[u8]) -> Result<Vec<u8>, AllocEr
     Ok(made)
 }
 
-/// The name of the file that the text says, `%s` being the own name; an empty text is the own file.
-fn file_text(alloc: Global, name: &[u8], text: &[u8]) -> Result<Vec<u8>, AllocError>
-    ensures { IfOk result (λ made. made.items ≡ file_named name.now text.now) }
+/// The name of the file that the text says in the file of this name. It is read from the folder of
+/// that file, `%s` is its own name there, and `..` leads one folder up. An empty text is the own
+/// file. None leads above the store.
+fn file_text(alloc: Global, name: &FileName, text: &[u8]) -> Result<Option<Vec<u8>>, AllocError>
+    ensures { IfOk result (λ made. option_map (λ file. file.items) made
+        ≡ file_named name.now text.now) }
 {
     if text.is_empty() {
-        return Vec::from_slice(alloc, name);
+        return Ok(Some(Vec::from_slice(alloc, name.as_str().as_bytes())?));
     }
-    with_name(alloc, name, text)
+    let way = with_name(alloc, name.last_part().as_bytes(), text)?;
+    end_of(Vec::from_slice(alloc, name.folder().as_bytes())?, &way)
+}
+
+/// The path at the end of a way that begins in the folder at this path, if it doesn't lead above the
+/// store.
+fn end_of(folder: Vec<u8>, way: &[u8]) -> Result<Option<Vec<u8>>, AllocError>
+    ensures { IfOk result (λ made. option_map (λ file. file.items) made
+        ≡ at_end folder.items (parts way.now)) }
+{
+    let mut path = folder;
+    let mut start = 0;
+    for (at, byte) in way.iter().enumerate() {
+        if *byte != b'/' {
+            continue;
+        }
+        if !take_part(&mut path, &way[start..at])? {
+            return Ok(None);
+        }
+        start = at + 1;
+    }
+    if !take_part(&mut path, &way[start..])? {
+        return Ok(None);
+    }
+    path.pop();
+    Ok(Some(path))
+}
+
+/// Goes on by a part of a way from the folder at a path, which ends in a slash or is empty. Whether
+/// that doesn't lead above the store.
+fn take_part(path: &mut Vec<u8>, part: &[u8]) -> Result<bool, AllocError>
+    ensures { IfOk result (λ taken. after_part path.old.items part.now
+        ≡ (if taken then Some path.new.items else None)) }
+{
+    if part != b"..".as_slice() {
+        path.extend_from_slice(part)?;
+        path.push(b'/')?;
+        return Ok(true);
+    }
+    if path.pop().is_none() {
+        return Ok(false);
+    }
+    let above = match memrchr(b'/', path.as_slice()) {
+        Some(slash) => slash + 1,
+        None => 0,
+    };
+    path.truncate(above);
+    Ok(true)
 }
 
 /// The name that the bytes are.
@@ -242,10 +293,13 @@ fn place(
     title: &[u8],
 ) -> Result<Location, Fault<Refusal>>
     requires { level + 1 < 2 ^ 63 }
-    ensures { let file = file_named name.now file.now in
-        IsPlaceAs (with_file (record { file = file; level = level; title = title.now })) result }
+    ensures { IsPlaceAs (and_file (option_map (λ file. let to : Destination
+        = record { file = file; level = level; title = title.now } in to)
+        (file_named name.now file.now))) result }
 {
-    let file = file_text(alloc, name.as_str().as_bytes(), file)?;
+    let Some(file) = file_text(alloc, name, file)? else {
+        return Err(Fault::Refused(Refusal::BadLocation));
+    };
     let file = file_name(alloc, &file)?;
     let title = Vec::from_slice(alloc, title)?;
     Ok(Location {
@@ -267,7 +321,7 @@ fn place(
 ///
 /// - `AlreadyArchive`: the file is an archive file;
 /// - `BadLocation`: what was found isn't a file's name, `::` and then nothing or a heading line
-///   that is a title alone;
+///   that is a title alone; or it leads above the store;
 /// - `NoSuchFile`: no file can have that name;
 /// - `OutOfMemory`.
 pub fn location_searched(

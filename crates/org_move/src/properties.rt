@@ -5,7 +5,7 @@
 ghost use Rattle.std.specs.Prelude.{◌≡◌, ◌<◌, ◌++◌, ℕ, true, IfOk, map};
 ghost use Rattle.std.specs.List.{AllByRecursion};
 ghost use Rattle.std.specs.Option.{option_map};
-ghost use Rattle.org_disk.specs.Names.{IsDiskName};
+ghost use Rattle.org_disk.specs.Names.{IsDiskName, last_part};
 ghost use Rattle.org_splice.specs.Lines.{terminated, IsLine, lines_of};
 ghost use Rattle.org_outline.specs.Tree.{Document, node_at, node_count, tree};
 ghost use Rattle.org_outline.specs.States.{Keywords};
@@ -17,6 +17,7 @@ ghost use Rattle.org_move.specs.Inherited.{inherited_tags, titles_above};
 ghost use Rattle.org_move.specs.Given.{IsGood, given};
 
 use crate::inherited::{first_tags, nearest, nonempty, titles_and_tags};
+use memchr::memrchr;
 use org_meta::{Lines, put_property};
 use org_outline::{Node, Outline};
 use org_stamp::{Moment, Stamp};
@@ -69,6 +70,16 @@ fn with_property(
 struct Property<'a> {
     name: &'static [u8],
     value: Option<&'a [u8]>,
+}
+
+/// The name of a file in its folder.
+fn last_part(name: &[u8]) -> &[u8]
+    ensures { result.now ≡ last_part name.now }
+{
+    match memrchr(b'/', name) {
+        Some(slash) => name.split_at(slash + 1).1,
+        None => name,
+    }
 }
 
 /// A section with properties put into it, in their order.
@@ -208,7 +219,7 @@ pub(crate) fn archived_section(
 {
     let time = time_text(alloc, now)?;
     let above = inherited(alloc, outline, node)?;
-    let category = nearest(outline, node, b"CATEGORY").unwrap_or(without_org(file));
+    let category = nearest(outline, node, b"CATEGORY").unwrap_or(without_org(last_part(file)));
     let keyword = outline.parts(node).keyword;
     let span = outline.section(node);
     let section = Lines {

@@ -19,7 +19,7 @@ use Rattle.org_serve.specs.declared.end.ServeEnd.{ServeEnd}
 use Rattle.org_serve.specs.declared.end.ServeEnd.TheVariants.{End, Unsettled, Device, Read, Write}
 use Rattle.org_program.specs.declared.arguments.Arguments.{Arguments}
 use Rattle.org_program.specs.declared.fault.Fault.{Fault}
-use Rattle.org_program.specs.declared.fault.Fault.TheVariants.{BadName, BadStates, Locked, SameFile, Linked, Open, Ended}
+use Rattle.org_program.specs.declared.fault.Fault.TheVariants.{BadName, BadStates, Locked, Inside, SameFile, Linked, Open, Ended}
 use Rattle.org_program.specs.Lists.{names_in, states_in, AreListed}
 
 -- what the program reports of how serving ended: nothing only where the input was served to its
@@ -88,14 +88,24 @@ abbrev pub NameAStore : Arguments → Type 0
 NameAStore arguments =
     (first_bad (names_in arguments) ≡ None) × IsTrue (are_states (states_in arguments))
 
+-- why a folder couldn't be locked, or isn't a store's own
+abbrev pub IsOfFolder : Fault → Type 0
+IsOfFolder Locked = Unit {0}
+IsOfFolder (Inside store) = Unit {0}
+IsOfFolder (Open refused.Device) = Unit {0}
+IsOfFolder (Open refused.OutOfMemory) = Unit {0}
+IsOfFolder fault = ⊥
+
 -- Why the names and states of the arguments aren't a store's, or its folder can't be had beside
 -- them. What comes first in this order is reported: the first bad name, bad states, a folder on
--- which another store is open, the rest of the folder. Want of memory may take the place of each.
+-- which another store is open, a store above, the rest of the folder. Want of memory may take the
+-- place of each.
 abbrev pub IsCause : Arguments → Fault → Type 0
 IsCause arguments (BadName name) = first_bad (names_in arguments) ≡ Some (string_bytes name)
 IsCause arguments BadStates =
     (first_bad (names_in arguments) ≡ None) × IsFalse (are_states (states_in arguments))
 IsCause arguments Locked = NameAStore arguments
+IsCause arguments (Inside store) = NameAStore arguments
 IsCause arguments Linked = NameAStore arguments
 IsCause arguments (Open refused.Device) = NameAStore arguments
 IsCause arguments (SameFile name) = NameAStore arguments

@@ -8,7 +8,7 @@ use Rattle.org_fileset.specs.Forgetting.{ForgetsOver, IsTransient}
 use Rattle.org_fileset.specs.declared.open.OpenFault.{OpenFault}
 use Rattle.org_fileset.specs.declared.open.OpenFault.TheVariants as refused
 use Rattle.org_folder.specs.Calls.{Event, OnlyLooks, failed_calls}
-use Rattle.org_folder.specs.Calls.Event.{Filled, Locked}
+use Rattle.org_folder.specs.Calls.Event.{Alone, Filled, Locked}
 use Rattle.org_folder.specs.Listing.{Lists}
 use Rattle.org_folder.specs.declared.system.System.{Ghosts}
 use Rattle.org_folder.specs.declared.disk.CallsDisk.{CallsDisk}
@@ -36,12 +36,14 @@ pub record ListsNames (arguments : Arguments) (listed : List (List ℕ)) (old ne
   pub only : arguments.only.items ≢ [] → new ≡ old
 
 -- A store is set up as the arguments say: its names are those given and, where `--only` isn't,
--- those that were listed of the folder, once it was locked. Since then calls only looked.
+-- those that were listed of the folder and those below, once it was locked and no store was found
+-- above it. Since then calls only looked.
 pub record IsSetUp (arguments : Arguments) (setup : Setup) (old new : List Event) : Type 0 where
   pub listed : List (List ℕ)
   pub listing : List Event
   pub are_listed : AreListed arguments listed
-  pub lists : ListsNames arguments listed (Locked (string_bytes arguments.folder) ∷ old) listing
+  pub lists : ListsNames arguments listed
+      (Alone ∷ Locked (string_bytes arguments.folder) ∷ old) listing
   pub since : OnlyLooks listing new
   pub openable : All IsOrgFile setup.names.items
   pub names : setup.names.items ≡ names_in arguments ++ listed
@@ -52,6 +54,11 @@ pub record IsSetUp (arguments : Arguments) (setup : Setup) (old new : List Event
 abbrev pub LocksFirst : List ℕ → List Event → List Event → Type 0
 LocksFirst path old new = OnlyLooks (Locked path ∷ old) new
 
+-- The locked folder was found to be a store itself, or none above would list a file in it: nothing
+-- but its lock was asked before that.
+abbrev pub IsAlone : List ℕ → List Event → List Event → Type 0
+IsAlone path old new = OnlyLooks (Alone ∷ Locked path ∷ old) new
+
 -- Lines were served over the folder of these calls, by a store that was set up as the arguments
 -- say. Before that the folder that the arguments name was locked, and then the calls only looked.
 pub record ServesFolder {C F : Type 0} (g : Ghosts C F) (found : C)
@@ -59,6 +66,8 @@ pub record ServesFolder {C F : Type 0} (g : Ghosts C F) (found : C)
     (end : Result ServeEnd OpenFault) (io : Exchange) : Type 0 where
   pub disk : CallsDisk C F g
   pub locks : LocksFirst (string_bytes arguments.folder)
+      (Filled (string_bytes arguments.folder) ∷ g.history found) (g.history disk.folder.system)
+  pub alone : IsAlone (string_bytes arguments.folder)
       (Filled (string_bytes arguments.folder) ∷ g.history found) (g.history disk.folder.system)
   -- .. and none failed
   pub failures : failed_calls (g.history disk.folder.system) ≡ failed_calls (g.history found)
@@ -99,6 +108,8 @@ pub record ForgetsFolder {C F : Type 0} (g : Ghosts C F) (found : C)
     (ended : Result (Unit {0}) Fault) : Type 0 where
   pub disk : CallsDisk C F g
   pub locks : LocksFirst (string_bytes arguments.folder)
+      (Filled (string_bytes arguments.folder) ∷ g.history found) (g.history disk.folder.system)
+  pub alone : IsAlone (string_bytes arguments.folder)
       (Filled (string_bytes arguments.folder) ∷ g.history found) (g.history disk.folder.system)
   -- .. and none failed
   pub failures : failed_calls (g.history disk.folder.system) ≡ failed_calls (g.history found)

@@ -32,6 +32,9 @@ pub enum Fault {
     /// Another store is open on the folder.
     #[error("orgstore: open: Locked")]
     Locked,
+    /// The folder is inside another store, which would list its files: the path of that one.
+    #[error("orgstore: open: Inside {0}")]
+    Inside(String),
     /// This name of the store's leads to the file of another one.
     #[error("orgstore: open: SameFile {0}")]
     SameFile(FileName),

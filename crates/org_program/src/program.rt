@@ -1,19 +1,19 @@
 //! A run of the program: its arguments, the folder of its files, and how it ended.
 //!
-//! The order is fixed: words, names, states, lock, listing, two names of one file, opening. The
-//! folder isn't listed where the words name the only files of the store.
+//! The order is fixed: words, names, states, lock, a store above, listing, two names of one file,
+//! opening. The folder isn't listed where the words name the only files of the store.
 ghost use Rattle.std.specs.Prelude.{◌≡◌, ◌≢◌, ◌∷◌, ◌++◌, map, string_bytes, IfOk, IfErr, IsFalse, OnOk, All};
 ghost use Rattle.org_disk.specs.Names.{IsOrgFile};
 ghost use Rattle.org_folder.specs.Right.{HaveNoFiles};
 ghost use Rattle.org_folder.specs.Calls.{OnlyLooks, is_filled, is_held};
-ghost use Rattle.org_folder.specs.Calls.Event.{Filled};
+ghost use Rattle.org_folder.specs.Calls.Event.{Alone, Filled, Locked};
 ghost use Rattle.org_serve.specs.Writes.{exchange};
 ghost use Rattle.org_store.specs.Group.{IsGroup};
-ghost use Rattle.org_program.specs.Causes.{forgetting, reported, IsCause, MayShare};
+ghost use Rattle.org_program.specs.Causes.{forgetting, reported, IsCause, IsOfFolder, MayShare};
 ghost use Rattle.org_program.specs.declared.arguments.Recovery.TheVariants.{Forgotten};
 ghost use Rattle.org_program.specs.Faults.{IsFaultOfRun};
 ghost use Rattle.org_program.specs.Lists.{AreListed};
-ghost use Rattle.org_program.specs.Runs.{Forgets, ForgetsFolder, IsSetUp, ListsNames, LocksFirst, RunsFolder};
+ghost use Rattle.org_program.specs.Runs.{Forgets, ForgetsFolder, IsAlone, IsSetUp, ListsNames, LocksFirst, RunsFolder};
 ghost use Rattle.org_program.specs.Words.{Say};
 
 use crate::arguments::{self, Arguments};
@@ -72,8 +72,8 @@ pub struct Unserved<S> {
 ///
 /// No line is read, and none written, and of the folder nothing is changed, where words aren't
 /// taken (`Usage`), or where no store is set up: in this order `BadName`, `BadStates`, `Locked`,
-/// then `Open(Device)`, `Linked` or `SameFile`. Want of memory, `Open(OutOfMemory)`, may take the
-/// place of each.
+/// `Inside`, then `Open(Device)`, `Linked` or `SameFile`. Want of memory, `Open(OutOfMemory)`, may
+/// take the place of each.
 pub fn run<S: System + Drop, R: Source, W: Sink>(
     alloc: Global,
     system: S,
@@ -164,6 +164,8 @@ fn start<S: System>(
         × HaveNoFiles S.System system.new made.2.keys) }
     ensures locks { IfOk result (λ made. LocksFirst (string_bytes made.0.folder)
         (Filled (string_bytes made.0.folder) ∷ S.history system.old) (S.history system.new)) }
+    ensures alone { IfOk result (λ made. IsAlone (string_bytes made.0.folder)
+        (Filled (string_bytes made.0.folder) ∷ S.history system.old) (S.history system.new)) }
     ensures looks { OnlyLooks (S.history system.old) (S.history system.new) }
     ensures fault { IfErr result (IsFaultOfRun (map string_bytes words.now)) }
 {
@@ -187,12 +189,14 @@ fn setup<S: System>(
         × HaveNoFiles S.System system.new made.1.keys) }
     ensures locks { OnOk result (LocksFirst (string_bytes arguments.now.folder)
         (S.history system.old) (S.history system.new)) }
+    ensures alone { OnOk result (IsAlone (string_bytes arguments.now.folder)
+        (S.history system.old) (S.history system.new)) }
     ensures looks { OnlyLooks (S.history system.old) (S.history system.new) }
     ensures cause { IfErr result (IsCause arguments.now) }
 {
     let mut names = given_names(alloc, arguments)?;
     let states = states(alloc, &arguments.todo, &arguments.done)?;
-    system.lock(&arguments.folder)?;
+    hold(system, &arguments.folder)?;
     names.append(&mut listed_names(alloc, system, arguments)?)?;
     let absent = check_files(alloc, system, &names)?;
     let group = arguments.group;
@@ -204,6 +208,21 @@ fn setup<S: System>(
         },
         absent,
     ))
+}
+
+// Locks a folder that is a store itself, or in which no store above would list a file.
+fn hold<S: System>(system: &mut S, folder: &str) -> Result<(), Fault>
+    requires { IsFalse (is_held (S.history system.old)) }
+    ensures alone { OnOk result (S.history system.new
+        ≡ Alone ∷ Locked folder.now ∷ S.history system.old) }
+    ensures looks { OnlyLooks (S.history system.old) (S.history system.new) }
+    ensures fault { IfErr result IsOfFolder }
+{
+    system.lock(folder)?;
+    match system.store_above()? {
+        Some(store) => Err(Fault::Inside(store)),
+        None => Ok(()),
+    }
 }
 
 // The names of the folder's Org files, unless the arguments name the only ones.

@@ -2,12 +2,16 @@
 
 Of a file stands what it held at its last sync. Each write and each cut since then may have happened or not, whole or in
 part; where something was written there may be anything; the length may be any from the least to the greatest that the
-file had since. A name whose folder wasn't synced after it was made may be missing. That is the disk of docs/FORMATS.md,
-and `File.allows` says it a second time, in that page's words, of each image that is drawn.
+file had since. A name whose folder wasn't synced after it was made may be missing, and all that is in a folder whose name
+is missing. That is the disk of docs/FORMATS.md, and `File.allows` says it a second time, in that page's words, of each image
+that is drawn.
+
+Names lead from the store's folder, and those of folders end in a slash: `projects/`, `projects/a.org`.
 """
 from __future__ import annotations
 
 import itertools
+import os
 import random
 from dataclasses import dataclass, replace
 from functools import cached_property
@@ -151,6 +155,38 @@ Disk = Mapping[str, File]
 Image = Dict[str, bytes]
 
 
+def folder_of(name: str) -> str:
+    """The folder in which a name stands; "" is the store's."""
+    above = name.rstrip("/").rpartition("/")[0]
+    return above and above + "/"
+
+
+def folders_on(name: str) -> Iterator[str]:
+    """The folders that lead to a name."""
+    above = folder_of(name)
+    while above:
+        yield above
+        above = folder_of(above)
+
+
+def with_folders(disk: Disk) -> Dict[str, File]:
+    """The disk with the folders of its files, whose names are on the device."""
+    return {**{folder: File() for name in disk for folder in folders_on(name)}, **disk}
+
+
+def reached(image: Image) -> Image:
+    """What is left of an image: nothing can be in a folder that isn't there."""
+    return {name: content for name, content in image.items() if all(folder in image for folder in folders_on(name))}
+
+
+def entries(folder: str) -> Iterator[str]:
+    """The names of all that is in a folder and below it."""
+    for above, folders, files in os.walk(folder):
+        way = os.path.relpath(above, folder) + "/" if above != folder else ""
+        yield from (way + name + "/" for name in folders)
+        yield from (way + name for name in files)
+
+
 def stable(files: Mapping[str, bytes]) -> Dict[str, File]:
     return {name: File(content) for name, content in files.items()}
 
@@ -182,14 +218,15 @@ def images(disk: Disk, rng: random.Random, count: int) -> Iterator[Image]:
     if all(file.stable for file in disk.values()):
         yield contents(disk)
         return
-    yield from subsets(disk)
+    yield from map(reached, subsets(disk))
     for _ in range(count):
-        yield {name: file.drawn(rng) for name, file in disk.items() if file.entered or rng.random() < 0.5}
+        yield reached({name: file.drawn(rng) for name, file in disk.items() if file.entered or rng.random() < 0.5})
     for byte in (0, 1, 255):
         yield {name: file.filled(byte) for name, file in disk.items()}
 
 
 def allows(disk: Disk, image: Image) -> bool:
     """Whether a crash may leave this of the disk."""
-    return image.keys() <= disk.keys() and all(
-        file.allows(image[name]) if name in image else not file.entered for name, file in disk.items())
+    return image.keys() <= disk.keys() and reached(image) == image and all(
+        file.allows(image[name]) if name in image else not file.entered or any(
+            folder not in image for folder in folders_on(name)) for name, file in disk.items())

@@ -19,7 +19,7 @@ import subprocess
 from dataclasses import dataclass, replace
 from typing import Dict, FrozenSet, IO, Iterator, List, Optional, Sequence, Tuple
 
-from .disk import Disk, Image, Write, allows, contents, images
+from .disk import Disk, Image, Write, allows, contents, entries, images
 from .trace import Changed, Event, Replied, Serves, after, trace
 
 JOURNAL = "orgstore.journal"
@@ -92,8 +92,11 @@ def folder_of(room: str, image: Image) -> Iterator[str]:
     os.mkdir(folder)
     try:
         for name, content in image.items():
-            with open(os.path.join(folder, name), "wb", buffering=0) as file:
-                file.write(content)
+            path = os.path.join(folder, name)
+            os.makedirs(os.path.dirname(path), exist_ok=True)
+            if not name.endswith("/"):
+                with open(path, "wb", buffering=0) as file:
+                    file.write(content)
         yield folder
     finally:
         shutil.rmtree(folder)
@@ -101,9 +104,11 @@ def folder_of(room: str, image: Image) -> Iterator[str]:
 
 def taken(folder: str) -> Image:
     image = {}
-    for name in os.listdir(folder):
-        with open(os.path.join(folder, name), "rb") as file:
-            image[name] = file.read()
+    for name in entries(folder):
+        image[name] = b""
+        if not name.endswith("/"):
+            with open(os.path.join(folder, name), "rb") as file:
+                image[name] = file.read()
     return image
 
 

@@ -6,9 +6,9 @@ Where it can, the judge has to find an image that shows it.
 from __future__ import annotations
 
 from dataclasses import dataclass
-from typing import Iterator, List, Sequence, Tuple
+from typing import Iterable, Iterator, List, Sequence, Tuple
 
-from .disk import Disk, Write, contents
+from .disk import Disk, Write, contents, folder_of
 from .judge import JOURNAL, Run, files_of
 from .trace import Changed, Event, FolderSynced, Made, Replied, Serves, Synced
 
@@ -123,10 +123,12 @@ def closings(trace: Trace) -> Iterator[Mutant]:
 
 
 def folder_syncs(trace: Trace) -> Iterator[Mutant]:
-    """A new name isn't synced: of a file, whose commit ends, or of the journal, after which files change."""
+    """A new name isn't synced: of a file or a folder, whose commit ends, or of the journal, after which files change."""
     for at, event in enumerate(trace.events):
-        loose = {name for name, file in trace.disks[at].items() if not file.entered}
-        if event != FolderSynced() or not loose or not any(isinstance(before, Made) for before in trace.events[:at]):
+        if not isinstance(event, FolderSynced):
+            continue
+        loose = {name for name, file in trace.disks[at].items() if not file.entered and folder_of(name) == event.folder}
+        if not loose or not any(isinstance(before, Made) for before in trace.events[:at]):
             continue
         rest = trace.events[at + 1:]
         end = at + 1 + rest.index(event) if event in rest else len(trace.events)
@@ -135,8 +137,14 @@ def folder_syncs(trace: Trace) -> Iterator[Mutant]:
         else:
             # An empty file that is lost is an absent one, which is the same.
             closed = trace.next(at, "closed")
-            shows = trace.journal_sync(closed) < end and any(contents(trace.disks[closed])[name] for name in loose)
+            shows = trace.journal_sync(closed) < end and has_text(trace.disks[closed], loose)
             yield trace.without("no sync of a new file's name", at, end, shows)
+
+
+def has_text(disk: Disk, names: Iterable[str]) -> bool:
+    """Whether a file of these names, or in the folders among them, has any text."""
+    return any(file.content for name, file in disk.items() if any(
+        name == other or other.endswith("/") and name.startswith(other) for other in names))
 
 
 def openings(trace: Trace) -> Iterator[Mutant]:
@@ -153,10 +161,14 @@ def openings(trace: Trace) -> Iterator[Mutant]:
         elif not trace.has_file(first, trace.serves):
             yield Mutant("no sync of a file that is found", events, 0, end, True)
     # An empty file that is lost is an absent one, which is the same.
-    loose = {name for name, file in start.items() if not file.entered and (file.content or file.changes)}
-    if loose:
-        events = tuple(event for at, event in enumerate(trace.events) if at >= first or event != FolderSynced())
-        again = FolderSynced() in trace.events[first:trace.serves]
+    for folder in sorted({folder_of(name) for name in start}):
+        loose = {name for name, file in start.items() if not file.entered and folder_of(name) == folder
+                 and (file.content or file.changes or name.endswith("/") and has_text(start, [name]))}
+        if not loose:
+            continue
+        synced = FolderSynced(folder)
+        events = tuple(event for at, event in enumerate(trace.events) if at >= first or event != synced)
+        again = synced in trace.events[first:trace.serves]
         # A journal is missed only where files change.
         shows = not again and (loose != {JOURNAL} or trace.has_file(first, end))
         yield Mutant("no sync of a folder that is found", events, 0, end, shows)

@@ -1,4 +1,4 @@
-"""Chains of sessions over one folder, each from where the one before was stopped; and the reports on them.
+"""Chains of sessions over one folder, or over a tree of folders, each from where the one before was stopped; and the reports on them.
 
 The next session begins at a random point of the last one's trace: after a power cut, with one image of the disk; or
 after a kill, with what the system still holds, of which a later power cut may take what wasn't synced.
@@ -14,7 +14,7 @@ import tempfile
 from dataclasses import dataclass, field, replace
 from typing import Dict, List, Tuple
 
-from .disk import Write, images, stable
+from .disk import Write, images, stable, with_folders
 from .judge import (JOURNAL, Drawing, Files, Odd, Opener, Run, Session, Violation, files_of, is_closed, record,
                     violations)
 from .mutants import KINDS, mutants
@@ -119,7 +119,7 @@ class Search:
         self.tally.chains += 1
         before = len(self.found)
         rng, other = random.Random("%d %d" % (self.seed, number)), random.Random("%d %d other" % (self.seed, number))
-        maker = Maker(rng)
+        maker = Maker(rng, is_tree=number % 2 == 1)
         session = first(maker, rng)
         while True:
             try:
@@ -184,11 +184,12 @@ def first(maker: Maker, rng: random.Random) -> Session:
     group = rng.choice((1, 1, 1, 2, 3, 8))
     kind = rng.randrange(5)
     if kind == 0:
-        return Session(maker.unsynced(files), maker.words, group, lines, None)
+        return Session(with_folders(maker.unsynced(files)), maker.words, group, lines, None)
     if kind == 1:
         found, wanted, journal = maker.cut_short(files)
-        return Session(stable({**found, JOURNAL: journal}), maker.words, group, lines, frozenset([files_of(wanted)]))
-    return Session(stable(files), maker.words, group, lines, frozenset([files_of(files)]))
+        return Session(with_folders(stable({**found, JOURNAL: journal})), maker.words, group, lines,
+                       frozenset([files_of(wanted)]))
+    return Session(with_folders(stable(files)), maker.words, group, lines, frozenset([files_of(files)]))
 
 
 def following(run: Run, maker: Maker, rng: random.Random) -> Session:

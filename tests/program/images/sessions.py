@@ -50,14 +50,18 @@ def escaped(text: str) -> str:
 
 
 class Maker:
-    """Makes the folders and lines of one chain of sessions."""
+    """Makes the folders and lines of one chain of sessions. In a tree some files are in folders below, and a new one is in
+    folders that aren't there."""
 
-    def __init__(self, rng: random.Random) -> None:
+    def __init__(self, rng: random.Random, is_tree: bool = False) -> None:
         self.rng = rng
+        names, self.new = ["a.org", "b.org", "c.org", "d.org"], "new.org"
+        if is_tree:
+            names, self.new = ["a.org", "projects/b.org", "projects/x/c.org", "d.org"], "new/deep/new.org"
         self.count = 0
         self.known: List[Tuple[str, Path]] = []
-        self.names = ["a.org", "b.org", "c.org", "d.org"][:rng.randint(2, 4)]
-        self.words: Tuple[str, ...] = ("--new", "new.org", "--todo", "TODO,NEXT", "--done", "DONE,CANCELLED")
+        self.names = names[:rng.randint(2, 4)]
+        self.words: Tuple[str, ...] = ("--new", self.new, "--todo", "TODO,NEXT", "--done", "DONE,CANCELLED")
         self.clock = rng.randrange(24 * 60)
         # Now and then texts span several sectors.
         self.is_large = rng.random() < 0.3
@@ -180,7 +184,7 @@ class Maker:
     def capture(self) -> List[str]:
         """The fields of a capture to some target of some file."""
         rng = self.rng
-        name = rng.choice((*self.names, "new.org"))
+        name = rng.choice((*self.names, self.new))
         kind = rng.choice(("top", "top", "head", "path", "date", "date:path"))
         above: Path = ()
         if kind == "head":

@@ -11,7 +11,7 @@ import subprocess
 from dataclasses import dataclass, replace
 from typing import Dict, Iterable, List, Optional, Sequence, Tuple, Union
 
-from .disk import Change, Cut, Disk, File, Write
+from .disk import Change, Cut, Disk, File, Write, entries, folder_of
 
 # What may change a file or a folder, make it durable, or reply, and which file a number stands for.
 WATCHED = """openat open creat openat2 close dup dup2 dup3 read write pwrite64 writev pwritev pwritev2 sendfile splice
@@ -28,7 +28,7 @@ class Unmodelled(Exception):
 
 @dataclass(frozen=True)
 class Made:
-    """A file is made, empty."""
+    """A file is made, empty, or a folder."""
     name: str
 
 
@@ -47,7 +47,8 @@ class Synced:
 
 @dataclass(frozen=True)
 class FolderSynced:
-    """The folder's names are synced."""
+    """The names in a folder are synced."""
+    folder: str = ""
 
 
 @dataclass(frozen=True)
@@ -74,7 +75,8 @@ def after(disk: Disk, event: Event) -> Disk:
         file = disk[event.name]
         return {**disk, event.name: File(file.content, entered=file.entered)}
     if isinstance(event, FolderSynced):
-        return {name: replace(file, entered=True) for name, file in disk.items()}
+        return {name: replace(file, entered=True) if folder_of(name) == event.folder else file
+                for name, file in disk.items()}
     return disk
 
 
@@ -94,11 +96,11 @@ class Reader:
     def __init__(self, folder: str, names: Iterable[str]) -> None:
         self.folder = folder
         self.names = set(names)
-        self.opened: Dict[int, str] = {}    # "" is the folder itself
+        self.opened: Dict[int, str] = {}    # "" is the folder itself, and the others' names end in a slash
         self.events: List[Event] = []
 
     def entry(self, path: bytes) -> Optional[str]:
-        """The name of an entry of the folder, "" for the folder itself, None for what lies elsewhere."""
+        """The name of what is in the folder or below it, "" for the folder itself, None for what lies elsewhere."""
         text = os.fsdecode(path)
         lasting = re.match(r"/proc/self/fd/(\d+)/", text)
         if lasting:
@@ -108,7 +110,8 @@ class Reader:
         full = os.path.normpath(os.path.join(os.path.dirname(self.folder), text))
         if full == self.folder:
             return ""
-        return os.path.basename(full) if os.path.dirname(full) == self.folder else None
+        name = full[len(self.folder) + 1:] if full.startswith(self.folder + "/") else None
+        return name + "/" if name and name + "/" in self.names else name
 
     def line(self, line: str) -> None:
         """One line of strace's. Calls that failed had no effect."""
@@ -149,7 +152,9 @@ class Reader:
             if number == 1:
                 self.events.append(Replied(texts(words)[0][:result]))
         elif name in ("fsync", "fdatasync") and file is not None:
-            self.events.append(Synced(file) if file else FolderSynced())
+            self.events.append(FolderSynced(file) if not file or file.endswith("/") else Synced(file))
+        elif name == "mkdir":
+            self.make_folder(texts(words)[0])
         elif name == "pwrite64" and file:
             if result > 0:
                 self.events.append(Changed(file, Write(int(words.rsplit(",", 1)[1]), texts(words)[0][:result])))
@@ -157,6 +162,12 @@ class Reader:
             self.events.append(Changed(file, Cut(int(words.split(",")[1]))))
         else:
             self.judge_harmless(name, words, file)
+
+    def make_folder(self, path: bytes) -> None:
+        name = self.entry(path)
+        if name:
+            self.names.add(name + "/")
+            self.events.append(Made(name + "/"))
 
     def judge_harmless(self, name: str, words: str, file: Optional[str]) -> None:
         """Ends the reading where another call may have touched the folder."""
@@ -167,7 +178,7 @@ class Reader:
 def trace(words: Sequence[str], folder: str, lines: bytes, kept: str = "") -> Tuple[List[Event], bytes]:
     """Runs a program over a folder under strace: the events, and what it wrote to standard error. A trace that is kept, in
     the folder of this name, has all calls."""
-    names = os.listdir(folder)
+    names = list(entries(folder))
     written = "%s/images.%d" % (kept, len(os.listdir(kept))) if kept else folder + ".trace"
     watched = ["-v"] if kept else ["-e", "trace=" + ",".join(WATCHED)]
     strace = ["strace", "-o", written, *watched, "-xx", "-s", str(LONGEST)]

@@ -46,8 +46,8 @@ def status_of(call: Call, at: int) -> Status:
     """What a look answered."""
     major, minor = call.field(at, "stx_dev_major"), call.field(at, "stx_dev_minor")
     born = call.time(at, "stx_btime") if call.field(at, "stx_mask") & HAS_BIRTH else None
-    return Status(os.makedev(major, minor), call.field(at, "stx_ino"), call.field(at, "stx_mode"), call.field(at, "stx_gid"),
-                  call.field(at, "stx_size"), call.time(at, "stx_mtime"), call.time(at, "stx_ctime"), born)
+    return Status(os.makedev(major, minor), call.field(at, "stx_ino"), call.field(at, "stx_mode"), call.field(at, "stx_uid"),
+                  call.field(at, "stx_gid"), call.field(at, "stx_size"), call.time(at, "stx_mtime"), call.time(at, "stx_ctime"), born)
 
 
 @dataclass
@@ -164,6 +164,10 @@ class Comparison:
     def Sync(self, note: Note, calls: Taker) -> None:
         self.on_one("fsync", note, calls)
 
+    def MakeFolder(self, note: Note, calls: Taker) -> None:
+        call = calls.next("mkdir", self.at(note.path), 0o777)
+        self.holds(call.ok == note.ok, call, note)
+
     def ChangeMode(self, note: Note, calls: Taker) -> None:
         call = self.on_one("fchmod", note, calls)
         self.holds(call.number(1) == note.numbers()[0], call, note)
@@ -196,7 +200,9 @@ class Comparison:
     def RealPath(self, note: Note, calls: Taker) -> None:
         """Each link on the way is read, as realpath(3) does."""
         path = self.at(note.path)
-        self.holds(note.data == walked(path, calls), calls.calls[-1], note)
+        end = walked(path, calls)
+        if note.data != end:
+            raise Differs("%r leads to %r, and is noted as %s" % (path, end, note))
 
     def Text(self, note: Note, calls: Taker) -> None:
         call = calls.next("openat", -100, note.path, os.O_RDONLY | OPENED)
@@ -263,7 +269,7 @@ class Comparison:
 def walked(path: bytes, calls: Taker) -> bytes:
     """Where a path ends, by the links that were read. Empty where that fails."""
     at, parts, links = b"", path.split(b"/")[::-1], 0
-    if not path.startswith(b"/"):
+    if path and not path.startswith(b"/"):
         at = calls.next("getcwd").text(0).rstrip(b"\0")
     while parts:
         part = parts.pop()
@@ -276,14 +282,15 @@ def walked(path: bytes, calls: Taker) -> bytes:
                 target = call.text(1)
                 parts += target.split(b"/")[::-1]
                 at = b"" if target.startswith(b"/") else at
-            elif call.error == "EINVAL":
+            else:
                 at += b"/" + part
-                # what a slash follows, and nothing else, has to be a folder
-                if calls.is_next("faccessat2") and not calls.next("faccessat2", -100, at + b"/").ok:
+                # what a slash follows, and nothing else, has to be a folder; else it is there where it is no link
+                is_there = calls.next("faccessat2", -100, at + b"/").ok if calls.is_next("faccessat2") else call.error == "EINVAL"
+                if not is_there:
                     return b""
-            if not call.ok and call.error != "EINVAL" or links > MOST_LINKS:
+            if links > MOST_LINKS:
                 return b""
-    return at or b"/"
+    return (at or b"/") if path else b""
 
 
 def is_note(calls: List[Call], at: int) -> bool:

@@ -15,7 +15,7 @@ from .strace import TEXT, Call
 
 COUNTED = {"pread64": 3, "pwrite64": 3, "ftruncate": 1, "fchmod": 1}
 BYTES = {"pwrite64": 1, "pread64": 1, "readlink": 1}
-PATHS = {"openat": 1, "statx": 1, "readlink": 0}
+PATHS = {"openat": 1, "statx": 1, "readlink": 0, "mkdir": 0}
 FILES = ("pread64", "pwrite64", "ftruncate", "fdatasync", "fsync", "fchmod", "flock", "getdents64")
 
 
@@ -54,7 +54,7 @@ def other_file(call: Call) -> Optional[Call]:
 
 def other_answer(call: Call) -> Optional[Call]:
     """A success that the system didn't tell of, or the other way round."""
-    if call.name not in ("openat", "statx", *FILES) or call.name == "getdents64":
+    if call.name not in ("openat", "statx", "mkdir", *FILES) or call.name == "getdents64":
         return None
     return replace(call, result=-1, error="EIO") if call.ok else None
 
@@ -75,7 +75,7 @@ def noted(calls: List[Call]) -> Iterator[int]:
         if is_note(calls, first):
             first += 3
             continue
-        if calls[first].name in ("openat", "statx", "readlink", *FILES):
+        if calls[first].name in (*PATHS, *FILES):
             yield first
         first += 1
 

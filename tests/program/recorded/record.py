@@ -12,7 +12,7 @@ RECORD = b"/dev/null"
 OPENS = 0o2000001  # O_WRONLY | O_CLOEXEC, with which the program opens nothing else
 
 STATUS = re.compile(
-    r"Some\(Status \{ device: (\d+), number: (\d+), mode: (\d+), group: (\d+), length: (\d+), "
+    r"Some\(Status \{ device: (\d+), number: (\d+), mode: (\d+), owner: (\d+), group: (\d+), length: (\d+), "
     r"modified: (Time \{[^}]*\}), changed: (Time \{[^}]*\}), born: (None|Some\(Time \{[^}]*\}\)) \}\)")
 TIME = re.compile(r"Time \{ seconds: (-?\d+), nanoseconds: (\d+) \}")
 
@@ -23,6 +23,7 @@ class Status:
     device: int
     number: int
     mode: int
+    owner: int
     group: int
     length: int
     modified: Tuple[int, int]
@@ -55,10 +56,10 @@ class Note:
         found = STATUS.fullmatch(self.words)
         if not found:
             raise Unread("no status: %s" % self.words)
-        device, number, mode, group, length = map(int, found.groups()[:5])
-        modified, changed = time_of(found.group(6)), time_of(found.group(7))
-        born = None if found.group(8) == "None" else time_of(found.group(8))
-        return Status(device, number, mode, group, length, modified, changed, born)
+        device, number, mode, owner, group, length = map(int, found.groups()[:6])
+        modified, changed = time_of(found.group(7)), time_of(found.group(8))
+        born = None if found.group(9) == "None" else time_of(found.group(9))
+        return Status(device, number, mode, owner, group, length, modified, changed, born)
 
     def __str__(self) -> str:
         return "%s(%s) %r, %d bytes" % (self.kind, self.words, self.path[:200], self.size)

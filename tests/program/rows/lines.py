@@ -282,7 +282,7 @@ BAD_LINES = [
     "show\ta.org",
     "show\ta.org\t\n",
     "show\ta.txt\n",
-    "show\ta\\sb.org\n",
+    "show\t..\\sb.org\n",
     "show\ta.org\r\n",
     "Show\ta.org\n",
     "capture\ta.org\ttops\tlast\t2026-07-01 10:00\t* N\t\n",

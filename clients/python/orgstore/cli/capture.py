@@ -114,11 +114,11 @@ def judged_body(body: bytes, above: int, indent: bool) -> bytes:
 def capture_file(run: Run) -> Tuple[str, List[str]]:
     """The file to capture into, and the names that are new: --file, the first word, else inbox.org."""
     given = run.options.file
-    if given is None and run.words and names_file(run.words[0]):
+    if given is None and run.words and names_file(run.folder, run.words[0]):
         given = run.words.pop(0)
-    name = file_of(run.folder, given or run.settings.get("capture.file") or INBOX)
+    name = file_of(run.folder, given) if given else run.settings.get("capture.file") or INBOX
     if not is_file_name(name):
-        raise Usage("'%s' can't be a file's name: it ends in .org, and has no slash and no dot in front" % name)
+        raise Usage("'%s' can't be a file's name: it ends in .org, and no part of it begins with a dot" % name)
     base = own_name(name)
     if run.folder.has(base):
         return name, []

@@ -11,8 +11,10 @@ from typing import Dict, Iterable, List, Optional, Tuple
 from ..folder import Folder
 from ..lines import path_text
 from ..settings import settings
+from .naming import file_of, words_for_files
 from .parsing import TOP, Option
 from .run import find_folder, read_states
+from .stops import Stop, Usage
 
 Answer = Tuple[str, List[Tuple[str, str]]]
 
@@ -126,14 +128,22 @@ def named(kind: str, file: List[str], folder: Optional[Folder]) -> Answer:
     if folder is None:
         return "words", [(word, "") for word in VALUES.get(kind, ())]
     if kind == "FILE":
-        return "names", [(name, "") for name in folder.names(archives=False)]
+        return "names", [(word, "") for word in words_for_files(folder)]
+    names = meant(folder, file)
     if kind.startswith("HEADING"):
-        names = [name for name in file[-1:] if folder.has(name)]
         return "names", [(path_text(heading.steps), "") for name in names for heading in folder.outline(name).headings]
     if kind == "STATE":
-        states = folder.states_of(file[-1]) if file and folder.has(file[-1]) else folder.states
+        states = folder.states_of(names[0]) if names else folder.states
         return "words", [(word, "") for word in states.active + states.done]
     if kind == "NAME":
         return "words", [(name[len("template."):], text) for name, text in settings(folder.path).items()
                          if name.startswith("template.")]
     return "words", [(word, "") for word in VALUES.get(kind, ())]
+
+
+def meant(folder: Folder, file: List[str]) -> List[str]:
+    """The name of the file that a word names, where it names one that is there."""
+    try:
+        return [name for name in (file_of(folder, word) for word in file[-1:]) if folder.has(name)]
+    except (Stop, Usage):
+        return []

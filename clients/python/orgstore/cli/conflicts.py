@@ -84,7 +84,7 @@ def resolve(run: Run) -> int:
 def take_mark(run: Run) -> Optional[Tuple[Place, int]]:
     """The entry whose mark the next word names as FILE:LINE, and which of its marks that is."""
     line = FILE_LINE.fullmatch(run.words[0]) if len(run.words) == 1 and not run.options.file else None
-    if not line or not names_file(line[1]) or not run.folder.has(file_of(run.folder, line[1])):
+    if not line or not names_file(run.folder, line[1]) or not run.folder.has(file_of(run.folder, line[1])):
         return None
     for entry in entries_in([run.folder.outline(file_of(run.folder, line[1]))]):
         for number, mark in enumerate(marks(entry)):

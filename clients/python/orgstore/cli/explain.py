@@ -82,6 +82,7 @@ def cannot_open(fault: CannotOpen, folder: str) -> str:
                    "recover` shows the change and where the link leads, and finishes it or gives it up" % of,
         "Linked": "%s is a link, or no plain file; nothing was changed. Find out who put it there, and take it away"
                   % of,
+        "Inside": "it is part of the store %s; name that one with -C" % of,
         "TooManyFiles": "it has more than 256 Org files; move some into another folder",
         "Device": "the disk failed; find out what is wrong with it, and unmount it, before the next command",
         "OutOfMemory": "there was no memory to open it; try again",

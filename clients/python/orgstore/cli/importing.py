@@ -24,9 +24,10 @@ def import_tasks(run: Run) -> int:
         raise Usage("no file to import; - is standard input")
     source = run.words.pop(0)
     run.no_more_words()
-    file = file_of(run.folder, run.options.file or run.settings.get("capture.file") or INBOX)
+    given = run.options.file
+    file = file_of(run.folder, given) if given else run.settings.get("capture.file") or INBOX
     if not is_file_name(file):
-        raise Usage("'%s' can't be a file's name: it ends in .org, and has no slash and no dot in front" % file)
+        raise Usage("'%s' can't be a file's name: it ends in .org, and no part of it begins with a dot" % file)
     tasks = read_tasks(run, source)
     run.finish_begun()
     tasks, known = new_tasks(run, tasks)

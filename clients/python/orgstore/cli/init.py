@@ -6,9 +6,12 @@ from typing import Dict, List
 
 from ..folder import Folder
 from ..heading import States
+from ..names import JOURNAL
 from ..pending import KEPT_OUT
 from ..plain import open_plain
 from ..settings import SETTINGS
+from ..tree import has_journal, store_over
+from .adopting import opened, sync_folder
 from .parsing import INBOX, Command, flag
 from .report import ask, at_terminal
 from .run import Run, find_folder, read_states, settings_of
@@ -24,6 +27,9 @@ def init(run: Run) -> int:
     if options.show:
         return show(run, find_folder(words[0] if words else options.directory))
     path = words[0] if words else options.directory or os.environ.get("ORGSTORE_DIR") or "."
+    above = None if has_journal(path) else store_over(path)
+    if above is not None and not options.separate:
+        raise cannot("Inside", "%s is part of the store %s; --separate begins one of its own there" % (path, above))
     try:
         os.makedirs(path, mode=0o700, exist_ok=True)  # whoever may read a folder can hold its lock
     except OSError as fault:
@@ -32,6 +38,8 @@ def init(run: Run) -> int:
     states = read_states(settings_of(path), options.states)
     if old is not None and str(States.parse(old)) != str(states):
         raise refusal("UnknownState", "%s has the states %s already; edit it" % (os.path.join(path, SETTINGS), old))
+    if above is not None:
+        separate(run, path, above)
     folder = Folder(path, states, options.wait)
     folder.check_journal()
     folder.recovered = run.report.recovered
@@ -90,6 +98,19 @@ def add_lines(file: str, lines: List[str]) -> None:
         stream.write((between + "".join(line + "\n" for line in lines)).encode())
 
 
+def separate(run: Run, path: str, above: str) -> None:
+    """Makes an empty journal in a folder of a store. That store is open meanwhile, so that no change of it is under way
+    or cut short."""
+    journal = os.path.join(path, JOURNAL)
+    flags = os.O_WRONLY | os.O_CREAT | os.O_EXCL | os.O_NOFOLLOW | os.O_CLOEXEC
+    with opened(run, above):
+        try:
+            os.close(os.open(journal, flags, 0o600))
+            sync_folder(path)
+        except OSError as fault:
+            raise cannot("Device", "%s can't be made: %s" % (journal, fault.strerror)) from None
+
+
 def write_states(folder: str, states: States) -> None:
     """Adds the states to the settings that are there, else writes them to a new file."""
     try:
@@ -114,5 +135,6 @@ COMMANDS = {
         "[DIR]", "begins a folder and writes its states to .orgstore", init,
         "Makes DIR; else takes that of -C or $ORGSTORE_DIR, else the one that one stands in. --states gives states.",
         "orgs init ~/org --states 'TODO WAIT | DONE CANCELLED'\norgs init --show",
-        (flag("--show", help="say what holds in the folder, and begin none"),), begins=True),
+        (flag("--separate", help="begin one inside another store, whose files those of DIR then aren't"),
+         flag("--show", help="say what holds in the folder, and begin none")), begins=True),
 }

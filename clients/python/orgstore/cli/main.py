@@ -24,7 +24,7 @@ MODULES = {
     "out": "clocks", "time": "clocks", "clock": "timesheet", "agenda": "agenda", "today": "agenda",
     "overdue": "agenda", "ls": "reading", "find": "reading", "show": "reading", "export": "exporting",
     "check": "exporting", "status": "status", "recover": "recovering", "sync": "sync",
-    "conflicts": "conflicts", "resolve": "conflicts", "merge-copy": "copies", "init": "init",
+    "conflicts": "conflicts", "resolve": "conflicts", "merge-copy": "copies", "init": "init", "adopt": "adopting",
 }
 """The subcommands in the order of the help, and the module that has each in its `COMMANDS`: only what is called is
 loaded."""

@@ -4,8 +4,10 @@ from __future__ import annotations
 from ..light import TYPE_CHECKING, os, pattern, record
 from ..lines import Nth, path_text, steps
 from ..names import is_file_name
+from ..phrases import listed
+from ..tree import way_in
 from .report import shown
-from .stops import refusal
+from .stops import Usage, refusal
 
 if TYPE_CHECKING:
     from typing import Callable, List, Optional, Sequence, Tuple
@@ -28,17 +30,37 @@ def named(file: str, path: Sequence[Step]) -> str:
 
 
 def file_of(folder: Folder, word: str) -> str:
-    """A file's name, where it is given with the way to it."""
+    """A file's name in the store. The word is the way to it, from the working directory or from the store's folder; or
+    its own name, where the working directory has it, or the store's folder, or one folder alone."""
     way, name = os.path.split(word)
-    if way:
-        try:
-            same = os.path.samefile(way, folder.path)
-        except OSError:
-            same = False
-        if not same:
-            raise refusal("NoSuchFile", "%s isn't in the folder %s; name its folder with -C DIR"
-                          % (word, folder.path), word)
-    return name
+    if not way:
+        return _bare(folder, name)
+    found = [start + name for start in (way_in(folder.path, way), way_in(folder.path, os.path.join(folder.path, way)))
+             if start is not None]
+    if not found:
+        raise refusal("NoSuchFile", "%s isn't in the folder %s; name its folder with -C DIR"
+                      % (word, folder.path), word)
+    return next(filter(folder.has, found), found[0])
+
+
+def _bare(folder: Folder, name: str) -> str:
+    """A file's name in the store, where it is given without the way to it."""
+    here = way_in(folder.path, ".")
+    first = [(here or "") + name, name]
+    if any(map(folder.has, first)) or not is_file_name(name):
+        return next(filter(folder.has, first), name)
+    found = [other for other in folder.names() if other.endswith("/" + name)]
+    if len(found) > 1:
+        raise Usage("%s are of this name: name one with its folder" % listed(found))
+    return found[0] if found else first[0]
+
+
+def words_for_files(folder: Folder) -> List[str]:
+    """The words that name the store's files: the way from its folder, and from the working directory to those below."""
+    names = folder.names(archives=False)
+    here = way_in(folder.path, ".") or ""
+    near = dict.fromkeys(name[len(here):] for name in names if here and name.startswith(here))
+    return [*near, *(name for name in names if name not in near)]
 
 
 def existing(folder: Folder, word: str) -> str:
@@ -55,10 +77,10 @@ def no_file(folder: Folder, name: str) -> Stop:
                    "TITLE` makes it" % (name, folder.path, name), name)
 
 
-def names_file(word: str) -> bool:
+def names_file(folder: Folder, word: str) -> bool:
     """Whether a word is a file's name, or the way to one."""
     way, name = os.path.split(word)
-    return is_file_name(name) and (not way or os.path.isdir(way))
+    return is_file_name(name) and (not way or os.path.isdir(way) or folder.has(word))
 
 
 @record(frozen=True)

@@ -8,7 +8,7 @@ from . import streams
 from .stops import FAULT, OK
 
 if TYPE_CHECKING:
-    from typing import Any, Dict, Optional, Union
+    from typing import Any, Dict, Optional, Set, Union
 
     from ..journal import Recovered
     from .stops import Stop
@@ -32,6 +32,7 @@ class Report:
         """Whether a command of this run is on the disk: then the run has done its work, whoever hears of it."""
         self.unheard: Optional[OSError] = None
         """Why standard output takes no more."""
+        self._passed_over: Set[str] = set()
 
     def print(self, text: Union[str, bytes]) -> None:
         """Writes to standard output, as long as that takes it."""
@@ -68,6 +69,12 @@ class Report:
             self.print_object({"reply": "warning", "name": name, "message": text})
         else:
             self.warn(text)
+
+    def passed_over(self, way: str) -> None:
+        """Tells of a folder that can't be read, once."""
+        if way not in self._passed_over:
+            self._passed_over.add(way)
+            self.caution("Unread", "the folder %s can't be read, so its files are left out" % shown(way.rstrip("/")))
 
     def stopped(self, stop: Stop) -> int:
         """Says how the run, or one of its commands, ended early, and answers the status."""

@@ -11,6 +11,7 @@ from ..lines import steps
 from ..marks import gate_is_open
 from ..names import ARCHIVE, JOURNAL, RECORD, own_name
 from ..settings import SETTINGS, settings
+from ..tree import has_journal, store_of
 from .naming import FILE_LINE, LISTED, Place, existing, file_of, named, names_file
 from .report import at_terminal, shown
 from .stops import OK, Usage, cannot, cannot_write, refusal
@@ -84,9 +85,10 @@ class Run:
 
     @cached
     def path(self) -> str:
-        """The folder that is meant; where it is found above the one that one stands in, that is said."""
+        """The folder that is meant; where it is found above the one that was named, or that one stands in, that is
+        said."""
         found, named = find_folder(self.options.directory), self.options.directory or os.environ.get("ORGSTORE_DIR")
-        if not named and found != os.getcwd():
+        if found != (named or os.getcwd()):
             self.report.note("the folder is %s" % shown(found))
         return found
 
@@ -104,7 +106,7 @@ class Run:
             from .syncing import check_no_sync  # rare
 
             check_no_sync(self.path)
-        folder.recovered = self.report.recovered
+        folder.recovered, folder.passed_over = self.report.recovered, self.report.passed_over
         return folder
 
     @cached
@@ -123,8 +125,8 @@ class Run:
         if getattr(self.options, "file", None):
             name, self.options.file = self.options.file, None
             return existing(self.folder, name)
-        if self.words and names_file(self.words[0]):
-            if len(self.words) > 1 or self.folder.has(os.path.basename(self.words[0])):
+        if self.words and names_file(self.folder, self.words[0]):
+            if len(self.words) > 1 or self.folder.has(file_of(self.folder, self.words[0])):
                 return existing(self.folder, self.words.pop(0))
         return None
 
@@ -136,7 +138,7 @@ class Run:
             return Place(file, word)
         line, listed = FILE_LINE.fullmatch(word), LISTED.fullmatch(word)
         found = listed or line
-        if found and names_file(found[1]) and self.folder.has(file_of(self.folder, found[1])):
+        if found and names_file(self.folder, found[1]) and self.folder.has(file_of(self.folder, found[1])):
             name = file_of(self.folder, found[1])
             if file is not None and name != file:
                 raise Usage("%s isn't in %s" % (shown(word), file))
@@ -259,18 +261,18 @@ class Recording:
 
 
 def find_folder(given: Optional[str]) -> str:
-    """-C DIR, else $ORGSTORE_DIR, else the nearest folder from here upward that has a journal or settings. Where others
-    than this user own that, or what it has of the two, it is refused: they could have notes written to them."""
+    """-C DIR, else $ORGSTORE_DIR, or the store above that has its files; else the nearest folder from here upward that
+    has a journal, the user's home and / not among them. Where others than this user own that, or its journal or
+    settings, it is refused: they could have notes written to them."""
     folder = given or os.environ.get("ORGSTORE_DIR")
     if folder:
         if not os.path.isdir(folder):
             raise cannot("NoFolder", "%s is no folder; make it with `orgs init %s`" % (folder, folder))
-        return folder
+        return folder if has_journal(folder) else store_of(folder) or folder
     at = os.getcwd()
     while True:
-        marks = [name for name in (JOURNAL, SETTINGS) if os.path.lexists(os.path.join(at, name))]
-        if marks:
-            check_owner(at, marks)
+        if os.path.lexists(os.path.join(at, JOURNAL)) and at not in ("/", os.environ.get("HOME")):
+            check_owner(at, [JOURNAL, SETTINGS])
             return at
         if at == os.path.dirname(at):
             raise cannot("NoFolder", "no %s here or above; name the folder with -C DIR, or begin one with `orgs init`"

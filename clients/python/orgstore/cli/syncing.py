@@ -54,8 +54,8 @@ class Joined:
 
 
 def is_note(name: str) -> bool:
-    """Whether the store can have a file of this name, other than the record of a sync."""
-    return is_file_name(name) and name != RECORD
+    """Whether it is the name of a file that a sync merges: one of the store's own folder, other than the record."""
+    return is_file_name(name) and "/" not in name and name != RECORD
 
 
 def repository(folder: str) -> Git:

@@ -29,7 +29,21 @@ const NAMES: &[(usize, &str, bool)] = &[
     (0, "a.txt", false),
     (0, ".org", false),
     (0, ".org_archive", false),
-    (0, "a/b.org", false),
+    (0, "a/b.org", true),
+    (0, "a/b c/d.org_archive", true),
+    (0, "a_archive/b.org", true),
+    (0, "../b.org", false),
+    (0, "a/../b.org", false),
+    (0, "a/./b.org", false),
+    (0, "/b.org", false),
+    (0, "a//b.org", false),
+    (0, "a/", false),
+    (0, "a/.org", false),
+    (0, "a/.git/b.org", false),
+    (0, "a.org/b.org", false),
+    (0, "a.org_archive/b.org", false),
+    (200, "/b.org", true),
+    (201, "/b.org", false),
     (0, "a\x1F.org", false),
     (0, "a\x7F.org", false),
     (0, "a.ORG", false),
@@ -47,6 +61,47 @@ fn accepted_names(rt: HostRuntime) {
     for (i, (letters, end, accepted)) in NAMES.iter().enumerate() {
         hold_row(&rt, is_accepted(&rt, alloc, *letters, end) == *accepted, i);
     }
+}
+
+// A name, the path of the folder that it leads through, and its last part.
+const WAYS: &[(&str, &str, &str)] = &[
+    ("a.org", "", "a.org"),
+    ("a/b.org", "a/", "b.org"),
+    ("ä/b c/d.org_archive", "ä/b c/", "d.org_archive"),
+];
+
+#[test]
+fn ways(rt: HostRuntime) {
+    let alloc = rt.alloc();
+    for (i, (name, folder, last)) in WAYS.iter().enumerate() {
+        let name = name_of(&rt, alloc, name);
+        let is_right = name.folder() == *folder && name.last_part() == *last;
+        hold_row(&rt, is_right, i);
+    }
+}
+
+// Nine folders of 99 letters each, and after them so many letters and this.
+fn deep(rt: &impl Abort, alloc: Global, letters: usize, end: &str) -> String {
+    let folder = with_letters(rt, alloc, 99, "/");
+    let mut text = folder.as_str().repeat(alloc, 9).expect(rt, "memory");
+    text.push_str(&with_letters(rt, alloc, letters, end))
+        .expect(rt, "memory");
+    text
+}
+
+#[test]
+fn longest_names(rt: HostRuntime) {
+    let alloc = rt.alloc();
+    hold(&rt, FileName::accepts(&deep(&rt, alloc, 96, ".org")));
+    hold(
+        &rt,
+        FileName::accepts(&deep(&rt, alloc, 96, ".org_archive")),
+    );
+    hold(&rt, !FileName::accepts(&deep(&rt, alloc, 97, ".org")));
+    hold(
+        &rt,
+        !FileName::accepts(&deep(&rt, alloc, 97, ".org_archive")),
+    );
 }
 
 // Whether this is the archive file of inbox.org, comes after it, and neither is the other.

@@ -88,9 +88,8 @@ const FILES: &[(&str, Entry)] = &[
     ("found/c.org", Entry::File(b"* C\n")),
 ];
 
-// Of files that were found the first sync takes the folder, for all of them, until a file is made:
-// of two that are opened and taken out of the folder the first is synced without a look for its
-// folder, and the second isn't.
+// Of files that were found the first sync takes the folder, for all of them. Those that are opened
+// and taken out of the folder are synced without a look for it.
 const FOUND: &[Step] = &[
     Step::Call("a.org", Call::Sync, Ok(0)),
     Step::Call("b.org", Call::Length, Ok(4)),
@@ -99,7 +98,36 @@ const FOUND: &[Step] = &[
     Step::Other("found/c.org", Entry::Gone),
     Step::Call("b.org", Call::Sync, Ok(0)),
     Step::Call("d.org", Call::Write(b"* D\n"), Ok(0)),
-    Step::Call("c.org", Call::Sync, Err(DiskFault)),
+    Step::Call("c.org", Call::Sync, Ok(0)),
+];
+
+const BELOW: &[(&str, Entry)] = &[
+    ("below/store", Entry::Folder),
+    ("below/store/orgstore.journal", Entry::File(b"")),
+    ("below/store/a.org", Entry::File(b"* A\n")),
+    ("below/plain", Entry::Folder),
+    ("below/plain/a.org", Entry::File(b"* A\n")),
+    ("below/link", Entry::Link("plain")),
+];
+
+// Folders are made with a file in them. What is in another store, or behind a link, is no file of
+// this one; and a file is tried no more once another program begins a store in its folder.
+const TREE: &[Step] = &[
+    Step::Call("projects/x/p.org", Call::Length, Ok(0)),
+    Step::IsAbsent("below/projects"),
+    Step::Call("projects/x/p.org", Call::Write(b"* P\n"), Ok(0)),
+    Step::Call("projects/x/p.org", Call::Sync, Ok(0)),
+    Step::Holds("below/projects/x/p.org", b"* P\n"),
+    Step::Call("projects/q.org", Call::Each, Ok(0)),
+    Step::Call("plain/a.org", Call::Length, Ok(4)),
+    Step::Call("store/a.org", Call::Length, Err(DiskFault)),
+    Step::Call("store/n.org", Call::Write(b""), Err(DiskFault)),
+    Step::IsAbsent("below/store/n.org"),
+    Step::Call("link/a.org", Call::Length, Err(DiskFault)),
+    Step::Call("projects/x/p.org", Call::Write(b""), Ok(0)),
+    Step::Other("below/projects/orgstore.journal", Entry::File(b"")),
+    Step::Call("projects/x/p.org", Call::Write(b""), Err(DiskFault)),
+    Step::Call("plain/a.org", Call::Write(b""), Ok(0)),
 ];
 
 const FAILING: &[(&str, Entry)] = &[
@@ -131,6 +159,7 @@ const FOLDERS: &[(&str, &[(&str, Entry)], &[Step])] = &[
     ("linked", LINKS, LINKED),
     ("entered", &[], ENTERED),
     ("found", FILES, FOUND),
+    ("below", BELOW, TREE),
     ("failing", FAILING, COUNTED),
 ];
 

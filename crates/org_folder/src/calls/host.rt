@@ -10,11 +10,15 @@ use super::log::Log;
 use super::{Calls, Handle, How, Status, SystemCall, Time, status_in};
 use std::alloc::{AllocError, Global};
 use std::fs::{File, Files, Metadata, OpenFile, OpenOptions, Permissions, TryLockError};
+use std::io::{Error, ErrorKind, Read};
 use std::os::fd::AsRawFd;
 use std::os::unix::fs::{FileExt, MetadataExt, OpenOptionsExt, PermissionsExt};
 use std::path::{Path, PathBuf};
 use std::time::UNIX_EPOCH;
-use std::{fs, io};
+use std::{fs, io, str};
+
+// How much of a folder is read at a time, in bytes.
+const MOST_READ: usize = 32_768;
 
 /// A folder that was opened and may be locked.
 pub trait Locks {
@@ -56,6 +60,7 @@ impl Status {
             device: metadata.dev(),
             number: metadata.ino(),
             mode: metadata.mode(),
+            owner: metadata.uid(),
             group: metadata.gid(),
             length: metadata.len(),
             modified: Time::new(metadata.mtime(), metadata.mtime_nsec()),
@@ -101,8 +106,15 @@ where
 
     fn names_in(&self, path: &str) -> io::Result<Vec<String>> {
         let mut names = Vec::new(self.rt.alloc());
-        for entry in fs::read_dir(&self.rt, self.at(path)?.as_path())? {
-            names.push(String::from_str(self.rt.alloc(), entry?.file_name())?)?;
+        let mut folder = self.rt.open_dir(self.at(path)?.as_path().as_str())?;
+        let mut read = [0; MOST_READ];
+        for _ in 0..u64::MAX {
+            // No read ends within a name.
+            let length = folder.read(&mut read)?;
+            if length == 0 {
+                break;
+            }
+            push_names(self.rt.alloc(), &read[..length], &mut names)?;
         }
         Ok(names)
     }
@@ -120,6 +132,21 @@ where
             _ => String::from_str(self.rt.alloc(), path),
         }
     }
+}
+
+// Puts names, each ended by a zero byte, with others: those of entries, as far as they are UTF-8.
+fn push_names(alloc: Global, read: &[u8], names: &mut Vec<String>) -> io::Result<()> {
+    for name in read.split(|byte| *byte == 0) {
+        match str::from_utf8(name) {
+            Ok("" | "." | "..") => {}
+            Ok(name) => names.push(String::from_str(alloc, name)?)?,
+            Err(_) if name.ends_with(b".org") => {
+                return Err(Error::from(ErrorKind::InvalidFilename));
+            }
+            Err(_) => {}
+        }
+    }
+    Ok(())
 }
 
 // What a look says of a file.
@@ -196,6 +223,15 @@ where
         let done = folder.file.sync_all();
         self.note(SystemCall::Sync(done.is_ok()), folder.path());
         done
+    }
+
+    fn make_folder(&mut self, path: &str) -> io::Result<()> {
+        let made = match self.at(path) {
+            Ok(path) => fs::create_dir(&self.rt, path.as_path()),
+            Err(error) => Err(io::Error::from(error)),
+        };
+        self.note(SystemCall::MakeFolder(made.is_ok()), path);
+        made
     }
 
     fn change_mode(&mut self, file: &Handle<R::File>, mode: u32) -> io::Result<()> {

@@ -9,6 +9,7 @@ use super::Opened;
 use super::reach::followed;
 use super::seen::{Change, Seen};
 use crate::calls::{Calls, Handle, Status};
+use org_disk::FileName;
 use std::cell::Cell;
 use std::io;
 use std::io::{Error, ErrorKind};
@@ -72,7 +73,7 @@ pub(super) fn same_in<C: Calls>(
     }
     let entry = calls.link_stat(opened.name.as_str())?;
     let status = only_same(opened, followed(calls, &opened.name, entry)?)?;
-    opened.found.set(shown_in(folder, &entry));
+    opened.found.set(shown_in(folder, &opened.name, &entry));
     Ok(status)
 }
 
@@ -85,9 +86,10 @@ fn only_same<F>(opened: &Opened<F>, now: Status) -> io::Result<Status> {
 }
 
 // The folder's last change, if a later one shows: the system's clock has gone on since that one, to
-// when it changed a plain file that stands in the folder.
-fn shown_in(folder: &Change, entry: &Status) -> Option<Change> {
-    if entry.is_file() && Change::of(entry).is_later_than(folder) {
+// when it changed a plain file that stands in this folder itself.
+fn shown_in(folder: &Change, name: &FileName, entry: &Status) -> Option<Change> {
+    let is_in_it = name.folder().is_empty() && entry.is_file();
+    if is_in_it && Change::of(entry).is_later_than(folder) {
         return Some(*folder);
     }
     None

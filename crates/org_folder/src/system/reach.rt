@@ -8,6 +8,7 @@ ghost use Rattle.org_folder.specs.Raw.{AreOwnModes, IsMadeAt, LimitsMode, OnlyAs
 
 use super::access::{ANYONE, Access, OWNER};
 use super::seen::Seen;
+use super::way::Ways;
 use super::{Found, Reached};
 use crate::aliases::Node;
 use crate::calls::{Calls, Handle, How, Status};
@@ -22,28 +23,21 @@ pub(super) fn is_journal(name: &FileName) -> bool
     !FileName::accepts(name.as_str())
 }
 
-pub(super) fn found<C: Calls>(calls: &mut C, name: &FileName) -> io::Result<Found>
+pub(super) fn found<C: Calls>(ways: &mut Ways, calls: &mut C, name: &FileName) -> io::Result<Found>
     ensures { OnlyAsks (C.made calls.old) (C.made calls.new) }
 {
-    let status = looked_at(calls, name)?;
+    ways.check(calls, name)?;
+    let entry = calls.link_stat(name.as_str())?;
+    let is_link = entry.is_symlink();
+    let status = followed(calls, name, entry)?;
     Ok(Found {
         node: Node::new(status.device, status.number),
         is_plain: status.is_file(),
+        is_link,
     })
 }
 
-// What a name leads to. The journal's leads to what stands in the folder itself.
-fn looked_at<C: Calls>(calls: &mut C, name: &FileName) -> io::Result<Status>
-    ensures { OnlyAsks (C.made calls.old) (C.made calls.new) }
-{
-    if is_journal(name) {
-        calls.link_stat(name.as_str())
-    } else {
-        calls.stat(name.as_str())
-    }
-}
-
-// The same, where this stands in the folder itself.
+// What a name leads to, where this stands in the folder itself. The journal's leads to that.
 pub(super) fn followed<C: Calls>(
     calls: &mut C,
     name: &FileName,
@@ -60,12 +54,14 @@ pub(super) fn followed<C: Calls>(
 
 // The file of a name, and what the system said of it before it was opened.
 pub(super) fn find<C: Calls>(
+    ways: &mut Ways,
     calls: &mut C,
     name: &FileName,
 ) -> io::Result<(Reached<C::File>, Status)>
     ensures name { IfOk result (λ found. string_bytes found.0.handle.path ≡ name.now) }
     ensures asks { OnlyAsks (C.made calls.old) (C.made calls.new) }
 {
+    ways.check(calls, name)?;
     let entry = calls.link_stat(name.as_str())?;
     let is_own = entry.is_file();
     let status = followed(calls, name, entry)?;

@@ -8,12 +8,12 @@
 ghost use Rattle.org_folder.specs.Raw.{OnlyAsks};
 
 use super::reach::there;
+use super::way::{Ways, is_foreign};
 use crate::calls::{Calls, Status, Time};
 use crate::list::is_org_file;
 use org_disk::{FileName, Standing};
 use std::io;
 use std::io::{Error, ErrorKind};
-use std::path::Path;
 
 // How much later than its journal a file may have been written by the store that crashed, in
 // seconds: as long as the writes of a record may take.
@@ -52,21 +52,28 @@ fn after(time: &Time, seconds: i64) -> Time {
 }
 
 // How the file of a name stands beside a journal with these times. A file that isn't there stands
-// as it was left: it was still to be made.
+// as it was left: it was still to be made. The folders that lead to it are looked at again: the file
+// may be open already, and is written next.
 pub(super) fn stands<C: Calls>(
+    ways: &mut Ways,
     calls: &mut C,
     name: &FileName,
     journal: Option<Times>,
 ) -> io::Result<Standing>
     ensures { OnlyAsks (C.made calls.old) (C.made calls.new) }
 {
+    match ways.try_again(calls, name) {
+        Err(error) if error.kind() == ErrorKind::NotFound => return Ok(Standing::Left),
+        Err(error) if is_foreign(&error) => return Ok(Standing::Outside),
+        answer => answer?,
+    }
     let Some(entry) = there(calls.link_stat(name.as_str()))? else {
         return Ok(Standing::Left);
     };
     if !entry.is_symlink() {
         return beside_journal(calls, &entry, journal);
     }
-    match linked(calls, name.as_str())? {
+    match linked(ways, calls, name.as_str())? {
         Some(file) => beside_journal(calls, &file, journal),
         None => Ok(Standing::Outside),
     }
@@ -87,26 +94,28 @@ fn beside_journal<C: Calls>(
 
 // The file that a link leads to, where it is one of the folder's Org files. A link that leads
 // nowhere may lead anywhere.
-fn linked<C: Calls>(calls: &mut C, link: &str) -> io::Result<Option<Status>>
+fn linked<C: Calls>(ways: &mut Ways, calls: &mut C, link: &str) -> io::Result<Option<Status>>
     ensures { OnlyAsks (C.made calls.old) (C.made calls.new) }
 {
     let Some(end) = there(calls.real_path(link))? else {
         return Ok(None);
     };
     let folder = calls.real_path("")?;
-    if !is_org_file_in(folder.as_path(), end.as_path()) {
+    let end = end.as_path();
+    let Some(name) = name_in(folder.as_path().as_str(), end.as_str()) else {
+        return Ok(None);
+    };
+    if !ways.leads_to(calls, name)? {
         return Ok(None);
     }
-    let file = calls.stat(end.as_path().to_string_lossy())?;
+    let file = calls.stat(end.as_str())?;
     Ok(if file.is_file() { Some(file) } else { None })
 }
 
-// Whether a path is that of an Org file of this folder, by its name.
-fn is_org_file_in(folder: Path<'_>, path: Path<'_>) -> bool {
-    match (path.parent(), path.file_name()) {
-        (Some(parent), Some(name)) => parent == folder && is_org_file(name),
-        _ => false,
-    }
+// The name that a path has in a folder, where it is an Org file's there.
+fn name_in<'a>(folder: &str, path: &'a str) -> Option<&'a str> {
+    let name = path.strip_prefix(folder)?.trim_start_matches('/');
+    if is_org_file(name) { Some(name) } else { None }
 }
 
 // How a file with these times stands beside its journal. The system is asked when it started where

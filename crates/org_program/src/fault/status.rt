@@ -13,7 +13,8 @@ impl Fault {
         match self {
             Fault::Ended(_) => 1,
             Fault::Usage(_) | Fault::BadName(_) | Fault::BadStates => 2,
-            Fault::Locked | Fault::SameFile(_) | Fault::Linked | Fault::Open(_) => 3,
+            Fault::Locked | Fault::Inside(_) | Fault::SameFile(_) => 3,
+            Fault::Linked | Fault::Open(_) => 3,
         }
     }
 }

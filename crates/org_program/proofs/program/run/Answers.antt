@@ -6,7 +6,7 @@ use Rattle.org_folder.specs.declared.system.System.{Ghosts}
 use Rattle.org_folder.proofs.Looked.{fine_on, held_on}
 use Rattle.org_store.specs.Group.{IsGroup}
 use Rattle.org_program.proofs.Words.{group_is_given}
-use Rattle.org_program.specs.Runs.{IsSetUp, LocksFirst}
+use Rattle.org_program.specs.Runs.{IsAlone, IsSetUp, LocksFirst}
 use Rattle.org_program.proofs.program.run.Goals as goal
 
 pub serve_synced-disk-requires-clause-group : goal.serve_synced-disk-requires-clause-group
@@ -29,6 +29,9 @@ returns-then-forgets-clause-forgets g c is = (
     locks = subst
         (λ calls. LocksFirst (string_bytes c.in-Ok.arguments.folder) (Filled (string_bytes c.in-Ok.arguments.folder) ∷ g.S.System.history c.args.system) (g.S.System.history calls))
         (sym c.over-disk.ensures.system) c.in-Ok.ensures.locks;
+    alone = subst
+        (λ calls. IsAlone (string_bytes c.in-Ok.arguments.folder) (Filled (string_bytes c.in-Ok.arguments.folder) ∷ g.S.System.history c.args.system) (g.S.System.history calls))
+        (sym c.over-disk.ensures.system) c.in-Ok.ensures.alone;
     failures = none_failed g.S.System c.args.system c.over-disk.result (string_bytes c.in-Ok.arguments.folder) _ c.over-disk.ensures.system c.in-Ok.ensures.locks;
     forgets = c.give_up-end.ensures;
   },
@@ -46,6 +49,9 @@ returns-else-forgets-clause-runs g c other =
         locks = subst
             (λ calls. LocksFirst (string_bytes c.in-Ok.arguments.folder) (Filled (string_bytes c.in-Ok.arguments.folder) ∷ g.S.System.history c.args.system) (g.S.System.history calls))
             (sym c.over-disk.ensures.system) c.in-Ok.ensures.locks;
+        alone = subst
+            (λ calls. IsAlone (string_bytes c.in-Ok.arguments.folder) (Filled (string_bytes c.in-Ok.arguments.folder) ∷ g.S.System.history c.args.system) (g.S.System.history calls))
+            (sym c.over-disk.ensures.system) c.in-Ok.ensures.alone;
         failures = none_failed g.S.System c.args.system c.over-disk.result (string_bytes c.in-Ok.arguments.folder) _ c.over-disk.ensures.system c.in-Ok.ensures.locks;
         adopting = c.over-disk.ensures.adopts ∙ c.adopts-adopts.ensures;
         setup = c.in-Ok.setup;

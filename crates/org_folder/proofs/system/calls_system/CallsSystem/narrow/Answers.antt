@@ -1,4 +1,4 @@
-use Rattle.std.proofs.Common.{sym, subst, List, ℕ, IsFalse, string_bytes}
+use Rattle.std.proofs.Common.{sym, subst, List, ℕ, IsFalse, map, string_bytes}
 use Rattle.org_disk.specs.Names.{is_file_name}
 use Rattle.org_folder.proofs.Accounting.{called, called_synced, unnamed}
 use Rattle.org_folder.proofs.system.calls_system.CallsSystem.narrow.Goals as goal
@@ -15,5 +15,6 @@ invariant_of-self g c =
       failing = self.failing;
       accounts = called self.log.events old new c.narrow.ensures.called self.accounts;
       modes = c.narrow.ensures.modes under self.modes;
-      synced = called_synced self.is_synced old new c.narrow.ensures.called self.synced;
+      folders = self.folders;
+      are_synced = called_synced (map string_bytes self.synced.keys) old new c.narrow.ensures.called self.are_synced;
     }

@@ -1,5 +1,5 @@
-use Rattle.std.proofs.Common.{◌∙◌, sym, subst, List, IsFalse, is_ok}
-use Rattle.org_folder.specs.Calls.{Event, has_failed}
+use Rattle.std.proofs.Common.{◌∙◌, sym, subst, List, IsFalse, is_ok, map, string_bytes}
+use Rattle.org_folder.specs.Calls.{AreOwnFolders, Event, has_failed}
 use Rattle.org_folder.proofs.Accounting.{cut_off, cut_modes, cut_synced}
 use Rattle.org_folder.proofs.system.calls_system.CallsSystemSystem.cut.Goals as goal
 
@@ -14,5 +14,6 @@ invariant_of-self g c =
       failing = λ none. subst (λ (es : List Event). IsFalse (has_failed es)) (sym c.note_file.ensures) (self.failing none);
       accounts = cut_off name c.args.to c.is_ok.result did self.log.events c.note_file.new.self.events old new (c.is_ok.ensures.value ∙ c.answered-answer.ensures.ok) c.note_file.ensures c.cut_off.ensures self.accounts;
       modes = cut_modes name c.args.to did old new c.cut_off.ensures self.modes;
-      synced = cut_synced self.is_synced name c.args.to did old new c.cut_off.ensures self.synced;
+      folders = subst AreOwnFolders (sym c.note_file.ensures) self.folders;
+      are_synced = cut_synced (map string_bytes self.synced.keys) name c.args.to did old new c.cut_off.ensures self.are_synced;
     }

@@ -1,5 +1,5 @@
-use Rattle.std.proofs.Common.{◌≡◌, ◌∙◌, ◌∷◌, ap, sym, subst, List, ℕ, IsFalse}
-use Rattle.org_folder.specs.Calls.{Event, has_failed}
+use Rattle.std.proofs.Common.{◌≡◌, ◌∙◌, ◌∷◌, ap, sym, subst, List, ℕ, IsFalse, map, string_bytes}
+use Rattle.org_folder.specs.Calls.{AreOwnFolders, Event, has_failed}
 use Rattle.org_folder.specs.Calls.Event.{Locked}
 use Rattle.org_folder.proofs.Accounting.{entered, entered_modes, entered_synced}
 use Rattle.org_folder.proofs.system.calls_system.CallsSystemSystem.lock.Goals as goal
@@ -18,5 +18,6 @@ invariant_of-self-2 g c =
       failing = λ none. subst (λ (es : List Event). IsFalse (has_failed es)) (sym noted) (self.failing none);
       accounts = entered path self.log.events c.note.new.self.events old mid new noted made asks self.accounts;
       modes = entered_modes path old mid new made asks self.modes;
-      synced = entered_synced self.is_synced path old mid new made asks self.synced;
+      folders = subst AreOwnFolders (sym noted) self.folders;
+      are_synced = entered_synced (map string_bytes self.synced.keys) path old mid new made asks self.are_synced;
     }

@@ -1,18 +1,10 @@
-use Rattle.std.proofs.Common.{◌≡◌, sym, subst, List, true, false, IsFalse, is_ok}
-use Rattle.org_folder.specs.Calls.{Event, has_failed}
-use Rattle.org_folder.proofs.Accounting.{made_one, made_modes}
+use Rattle.std.proofs.Common.{◌∙◌, IsTrue, is_ok, sym}
+use Rattle.org_folder.proofs.Since.{makes_file, on_ok}
 use Rattle.org_folder.proofs.system.calls_system.CallsSystemSystem.make.Goals as goal
 
-pub invariant_of-self : goal.invariant_of-self
-invariant_of-self g c =
-    let self = c.args.self.now in
-    let name = c.args.name.now in
-    let old = g.C.Calls.made self.calls in
-    let new = g.C.Calls.made c.made-answer.new.calls in
-    let did = is_ok c.made-answer.result in
-    record {
-      failing = λ none. subst (λ (es : List Event). IsFalse (has_failed es)) (sym c.note_file.ensures) (self.failing none);
-      accounts = made_one name c.is_ok.result did self.log.events c.note_file.new.self.events old new c.is_ok.ensures.value c.note_file.ensures c.made-answer.ensures.made self.accounts;
-      modes = made_modes name did old new c.made-answer.ensures.made self.modes;
-      synced = λ said. let bad : false ≡ true = said in cc;
-    }
+pub returns-clause-made : goal.returns-clause-made
+returns-clause-made g c =
+    makes_file c.args.name.now c.folder.result.now (is_ok c.make_way.result) (is_ok c.make_file.result) c.args.self.now.log.events c.make_way.new.self.log.events c.make_file.new.self.log.events
+    c.folder.ensures.value c.make_way.ensures
+    (λ done. sym c.is_ok-is_reached.ensures.value ∙ on_ok (IsTrue c.is_ok-is_reached.result) c.make_file.result c.make_file.ensures.reached done)
+    c.make_file.ensures.made

@@ -1,4 +1,5 @@
-use Rattle.std.proofs.Common.{is_ok}
+use Rattle.std.proofs.Common.{sym, subst, is_ok, map, string_bytes}
+use Rattle.org_folder.specs.Calls.{AreOwnFolders}
 use Rattle.org_folder.proofs.Accounting.{synced, sync_modes, sync_synced, unfailed_sync}
 use Rattle.org_folder.proofs.system.calls_system.CallsSystemSystem.sync.Goals as goal
 
@@ -16,5 +17,6 @@ invariant_of-self g c =
           c.put_content-answer.ensures.once self.failing;
       accounts = synced name c.is_ok.result did self.log.events noted old new c.is_ok.ensures.value c.note_file.ensures c.put_content-answer.ensures.syncs self.accounts;
       modes = sync_modes did name old new c.put_content-answer.ensures.syncs self.modes;
-      synced = sync_synced self.is_synced did name old new c.put_content-answer.ensures.syncs self.synced;
+      folders = subst AreOwnFolders (sym c.note_file.ensures) self.folders;
+      are_synced = sync_synced (map string_bytes self.synced.keys) did name old new c.put_content-answer.ensures.syncs self.are_synced;
     }

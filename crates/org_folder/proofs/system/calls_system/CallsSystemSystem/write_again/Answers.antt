@@ -1,5 +1,5 @@
-use Rattle.std.proofs.Common.{◌∙◌, sym, subst, refl, List, IsFalse, is_ok, string_bytes}
-use Rattle.org_folder.specs.Calls.{Event, has_failed}
+use Rattle.std.proofs.Common.{◌∙◌, sym, subst, refl, List, IsFalse, is_ok, map, string_bytes}
+use Rattle.org_folder.specs.Calls.{AreOwnFolders, Event, has_failed}
 use Rattle.org_folder.proofs.Accounting.{not_again, wrote_again, wrote_modes, wrote_synced}
 use Rattle.org_folder.proofs.system.calls_system.CallsSystemSystem.write_again.Goals as goal
 
@@ -10,7 +10,8 @@ invariant_of-self g c =
       failing = λ none. subst (λ (es : List Event). IsFalse (has_failed es)) (sym c.note_file.ensures) (self.failing none);
       accounts = not_again c.args.opened.now.name c.args.from c.args.bytes.now _ self.log.events c.note_file.new.self.events (g.C.Calls.made self.calls) c.note_file.ensures self.accounts;
       modes = self.modes;
-      synced = self.synced;
+      folders = subst AreOwnFolders (sym c.note_file.ensures) self.folders;
+      are_synced = self.are_synced;
     }
 
 pub invariant_of-self-2 : goal.invariant_of-self-2
@@ -25,5 +26,6 @@ invariant_of-self-2 g c =
       accounts = wrote_again opened.name path c.args.from c.args.bytes.now c.is_ok-2.result did c.narrow.new.self.log.events c.note_file-2.new.self.events mid mid new opened.reached
           (c.is_ok-2.ensures.value ∙ c.answered-written.ensures.ok) c.note_file-2.ensures c.write.ensures refl c.narrow.new.self.accounts;
       modes = wrote_modes c.args.from did path c.args.bytes.now mid new c.write.ensures c.narrow.new.self.modes;
-      synced = wrote_synced c.narrow.new.self.is_synced c.args.from did path c.args.bytes.now mid new c.write.ensures c.narrow.new.self.synced;
+      folders = subst AreOwnFolders (sym c.note_file-2.ensures) c.narrow.new.self.folders;
+      are_synced = wrote_synced (map string_bytes c.narrow.new.self.synced.keys) c.args.from did path c.args.bytes.now mid new c.write.ensures c.narrow.new.self.are_synced;
     }

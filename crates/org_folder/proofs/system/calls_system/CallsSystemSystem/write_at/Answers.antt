@@ -1,5 +1,5 @@
-use Rattle.std.proofs.Common.{◌≡◌, ◌∙◌, [], sym, subst, refl, List, IsFalse, is_ok, string_bytes, rules}
-use Rattle.org_folder.specs.Calls.{Event, has_failed}
+use Rattle.std.proofs.Common.{◌≡◌, ◌∙◌, [], sym, subst, refl, List, IsFalse, is_ok, map, string_bytes, rules}
+use Rattle.org_folder.specs.Calls.{AreOwnFolders, Event, has_failed}
 use Rattle.org_folder.proofs.Accounting.{wrote, wrote_modes, wrote_synced}
 use Rattle.org_folder.proofs.system.calls_system.CallsSystemSystem.write_at.Goals as goal
 
@@ -18,5 +18,6 @@ invariant_of-self-2 g c =
       accounts = wrote opened.name path c.args.from c.args.bytes.now c.is_ok-3.result did c.narrow.new.self.log.events c.note_file-2.new.self.events mid mid new some opened.reached
           (c.is_ok-3.ensures.value ∙ c.answered-answer-2.ensures.ok) c.note_file-2.ensures c.write.ensures refl c.narrow.new.self.accounts;
       modes = wrote_modes c.args.from did path c.args.bytes.now mid new c.write.ensures c.narrow.new.self.modes;
-      synced = wrote_synced c.narrow.new.self.is_synced c.args.from did path c.args.bytes.now mid new c.write.ensures c.narrow.new.self.synced;
+      folders = subst AreOwnFolders (sym c.note_file-2.ensures) c.narrow.new.self.folders;
+      are_synced = wrote_synced (map string_bytes c.narrow.new.self.synced.keys) c.args.from did path c.args.bytes.now mid new c.write.ensures c.narrow.new.self.are_synced;
     }

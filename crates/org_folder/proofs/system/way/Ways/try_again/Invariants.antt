@@ -1,0 +1,5 @@
+use Rattle.org_folder.specs.Raw.{OnlyAsks}
+use Rattle.org_folder.proofs.system.way.Ways.try_again.Given as goal
+
+abbrev pub invariant-loop-at : goal.invariant-loop-at
+invariant-loop-at g l = OnlyAsks (g.C.Calls.made l.fn.calls) (g.C.Calls.made l.calls)
