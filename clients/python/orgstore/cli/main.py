@@ -61,7 +61,7 @@ def command_of(name: str) -> Command:
 
 def about() -> str:
     """The help on `orgs`."""
-    return ABOUT % (USAGE_LINE, "\n".join("  %-9s %s" % (name, command_of(name).brief) for name in MODULES))
+    return ABOUT % (USAGE_LINE, "\n".join("  %-10s %s" % (name, command_of(name).brief) for name in MODULES))
 
 
 def help_on(name: Optional[str]) -> str:

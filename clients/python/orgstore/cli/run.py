@@ -102,7 +102,7 @@ class Run:
         """The folder that is meant, with its states."""
         folder = Folder(self.path, read_states(self.settings, self.options.states), self.options.wait)
         folder.check_journal()
-        if os.path.lexists("%s/%s" % (self.path, RECORD)) and self.options.command != "sync":
+        if os.path.lexists("%s/%s" % (self.path, RECORD)) and self.options.command not in ("sync", "recover"):
             from .syncing import check_no_sync  # rare
 
             check_no_sync(self.path)

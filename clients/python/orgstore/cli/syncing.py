@@ -195,7 +195,8 @@ class Sync:
             if staged is None:
                 wanted[name] = blob
             elif name in texts:
-                wanted[name] = Blob(staged.mode, self._git.put(name, texts[name]))
+                mode = staged.mode if staged.mode in PLAIN else blob.mode
+                wanted[name] = Blob(mode, self._git.put(name, texts[name]))
         for name in self._new(texts, index):
             wanted[name] = Blob("100644", self._git.put(name, texts[name]))
         return wanted
@@ -390,7 +391,8 @@ class Sync:
                 raise Again() if number == 1 else edited(pending, names)
 
     def _step(self, files: Dict[str, Tuple[bytes, bytes]], record: bytes) -> bool:
-        """Makes texts of others as one step of the store, with the record; False where other texts stand there."""
+        """Makes texts of others as one step of the store, with the record; False where other texts stand there. What
+        another program did meanwhile decides nothing: the record says whether the step is done."""
         names = sorted({own_name(name) for name in (*files, RECORD)})
         try:
             with self._folder.open(only=names, whole=True) as store, waiting(store):
@@ -399,11 +401,12 @@ class Sync:
                 made = [change for name, (old, new) in files.items() for change in differences(name, old, new)]
                 made.append(Change(RECORD, 0, self._folder.read(RECORD), record))
                 store.many([edit for change in made for edit in change.edits()])
-        except NotThere:
-            return False
-        except Changed as fault:
-            if not fault.done:
-                return False
+        except (NotThere, Changed) as fault:
+            is_done = self._folder.read(RECORD) == record
+            if is_done and isinstance(fault, Changed):
+                self._run.report.warn("%s: another program wrote it while the merge was put in; look whether all of it "
+                                      "is there" % fault.file)
+            return is_done
         return True
 
     def _finish(self, pending: Pending) -> None:
@@ -556,7 +559,8 @@ def edited(pending: Pending, names: List[str]) -> Stop:
 
 
 def check_no_sync(folder: str) -> None:
-    """Refuses a folder in which a sync of several steps is half done."""
+    """Refuses a folder in which a sync of several steps is half done, but to `orgs sync`, and to `orgs recover`, which
+    may be needed before."""
     with open(os.path.join(folder, RECORD), "rb") as file:
         record = read_record(file.read())
     if record and record[1] < record[2]:
