@@ -14,6 +14,7 @@ printf x >> "$SYNC_COUNT"
 case $SYNC_WHAT in
     before) kill -9 $PPID; exit 1 ;;
     after) "$SYNC_GIT" "$@"; kill -9 $PPID; exit 1 ;;
+    fails) echo "fatal: no space" >&2; exit 128 ;;
     *) env -u SYNC_COUNT -u GIT_INDEX_FILE sh -c "$SYNC_WHAT" > /dev/null 2>&1; exec "$SYNC_GIT" "$@" ;;
 esac
 """
